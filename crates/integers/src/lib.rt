@@ -1,0 +1,1 @@
+// No code: the crate lives by its `specs/`.

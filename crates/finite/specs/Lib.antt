@@ -1,0 +1,6 @@
+pub mod Tests
+pub mod Bounded
+pub mod Counting
+pub mod Lists
+pub mod Cycles
+pub mod CycleLaws

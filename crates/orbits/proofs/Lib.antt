@@ -1,0 +1,15 @@
+pub mod Reach
+pub mod Permutations
+pub mod Classes
+pub mod Exchange
+pub mod Building
+pub mod Genus
+pub mod Balance
+pub mod Walks
+pub mod Rings
+pub mod ClosedWalks
+pub mod Links
+pub mod Sets
+pub mod Queue
+pub mod Parts
+pub mod Counts

@@ -1,0 +1,239 @@
+-- The laws of reaching, in the order of this page: paths put together and carried from one set of
+-- links to another; links that keep the present darts; the test `reaches` agrees with the relation
+-- `Reach` where all that is reached lies below the bound, since each round of `grow` adds a dart until
+-- the list is closed under the links; links that lead back make reaching an equivalence.
+-- Assumes nothing.
+use mathlib.Core.Path.{_≡_}
+use mathlib.Core.Logic.{_⊎_, inl, inr, ⊎-elim, _↔_}
+use mathlib.Core.Bool.{Bool, true, not}
+use mathlib.Core.List.{List, [], _∷_, flatMap}
+use Prim.Native.Nat.{ℕ, zero, suc, _+_, _≤_, _<_}
+use native.Mathlib.Nat.{le-refl}
+use native.Mathlib.Omega.{arith}
+use lib.Dec.{T, T-not}
+use Rattle.finite.specs.Tests.{decide, same-test}
+use Rattle.finite.specs.Bounded.{count}
+use Rattle.finite.specs.Counting.{count-small, count-less, count-some}
+use Rattle.finite.specs.Lists.{elem, union, all-in, elem-one, elem-head, elem-tail, elem-cases, all-elem, some-fails, elem-union, elem-union-left, elem-union-right, elem-flatMap, elem-flatMap-by}
+use Rattle.orbits.specs.Reach.{Reach, here, there, by-one, by-two, grow, reached, reaches, StaysBelow}
+pub use Rattle.orbits.specs.Links.{Dart, Keeps}
+
+-- ---- paths
+
+pub reach-trans : {next : ℕ → List ℕ} {a b c : ℕ} → Reach next a b → Reach next b c → Reach next a c
+reach-trans r here = r
+reach-trans r (there s e) = there (reach-trans r s) e
+
+pub one-link : {next : ℕ → List ℕ} {a : ℕ} (c : ℕ) → T (elem c (next a)) → Reach next a c
+one-link c e = there here e
+
+-- a link, and each of two links, from a dart
+pub by-one-link : (f : ℕ → ℕ) (d : ℕ) → Reach (by-one f) d (f d)
+by-one-link f d = one-link (f d) (elem-head (f d) [])
+
+pub by-first-link : (f g : ℕ → ℕ) (d : ℕ) → Reach (by-two f g) d (f d)
+by-first-link f g d = one-link (f d) (elem-head (f d) (g d ∷ []))
+
+pub by-second-link : (f g : ℕ → ℕ) (d : ℕ) → Reach (by-two f g) d (g d)
+by-second-link f g d = one-link (g d) (elem-tail (g d) (f d) (g d ∷ []) (elem-head (g d) []))
+
+-- what holds of each link's dart holds of all that lies one link away
+pub by-one-each {ℓ} : (Q : ℕ → Type ℓ) (f : ℕ → ℕ) (d c : ℕ) → T (elem c (by-one f d)) → Q (f d) → Q c
+by-one-each Q f d c e q = rw (elem-one c (f d) e) q
+
+pub by-two-each {ℓ} : (Q : ℕ → Type ℓ) (f g : ℕ → ℕ) (d c : ℕ) → T (elem c (by-two f g d)) →
+    Q (f d) → Q (g d) → Q c
+by-two-each Q f g d c e q r =
+    ⊎-elim
+    (λ (i : c ≡ f d). rw i q)
+    (λ (m : T (elem c (g d ∷ []))). rw (elem-one c (g d) m) r)
+    (elem-cases c (f d) (g d ∷ []) e)
+
+-- a link taken twice over reaches what it reaches alone
+pub twice-once : {f : ℕ → ℕ} {a b : ℕ} → Reach (by-two f f) a b → Reach (by-one f) a b
+twice-once here = here
+twice-once {f} {a} (there {b = b} {c = c} r e) =
+    let on = reach-trans (twice-once r) (by-one-link f b) in by-two-each (Reach (by-one f) a) f f b c e on on
+
+pub once-twice : {f : ℕ → ℕ} {a b : ℕ} → Reach (by-one f) a b → Reach (by-two f f) a b
+once-twice here = here
+once-twice {f} {a} (there {b = b} {c = c} r e) =
+    by-one-each (Reach (by-two f f) a) f b c e (reach-trans (once-twice r) (by-first-link f f b))
+
+-- ---- present darts
+
+pub reach-dart : {n : ℕ} {present : ℕ → Bool} {next : ℕ → List ℕ} {a b : ℕ} →
+    Keeps n present next → Dart n present a → Reach next a b → Dart n present b
+reach-dart k d here = d
+reach-dart k d (there {c = c} r e) = k .kept c (reach-dart k d r) e
+
+-- what holds at the start of a path and goes over each link holds at its end
+pub reach-holds {ℓ} : {n : ℕ} {present : ℕ → Bool} {next : ℕ → List ℕ} {a b : ℕ} (Q : ℕ → Type ℓ) →
+    Keeps n present next → Dart n present a →
+    ((d c : ℕ) → Dart n present d → T (elem c (next d)) → Q d → Q c) → Reach next a b → Q a → Q b
+reach-holds Q k d step here q = q
+reach-holds Q k d step (there {b = b} {c = c} r e) q =
+    step b c (reach-dart k d r) e (reach-holds Q k d step r q)
+
+-- where each link can be gone by other links, so can a path
+pub reach-by : {n : ℕ} {present : ℕ → Bool} {next other : ℕ → List ℕ} {a b : ℕ} →
+    Keeps n present next → Dart n present a →
+    ((d c : ℕ) → Dart n present d → T (elem c (next d)) → Reach other d c) → Reach next a b → Reach other a b
+reach-by {other = other} {a = a} k d step r =
+    reach-holds (Reach other a) k d (λ b c h e q. reach-trans q (step b c h e)) r here
+
+-- ---- the test
+
+grow-sound : (next : ℕ → List ℕ) (a k : ℕ) (s : List ℕ) → ((x : ℕ) → T (elem x s) → Reach next a x) →
+    (x : ℕ) → T (elem x (grow next k s)) → Reach next a x
+unfolding grow
+grow-sound next a zero s f x h = f x h
+grow-sound next a (suc k) s f x h =
+    grow-sound next a k (union (flatMap next s) s)
+    (λ y m.
+    ⊎-elim
+    (λ (l : T (elem y (flatMap next s))).
+    let i = elem-flatMap y next s l in there (f (i .0) (i .1)) (i .2))
+    (λ (r : T (elem y s)). f y r)
+    (elem-union y (flatMap next s) s m))
+    x h
+
+pub reaches-sound : (next : ℕ → List ℕ) (n a b : ℕ) → T (reaches next n a b) → Reach next a b
+unfolding reaches reached
+reaches-sound next n a b t =
+    grow-sound next a n (a ∷ []) (λ x h. rw (elem-one x a h) here) b t
+
+-- the members of s with all that lies one link from them
+round : (ℕ → List ℕ) → List ℕ → List ℕ
+round next s = union (flatMap next s) s
+
+-- every link from a member leads to a member
+abbrev Closed : (ℕ → List ℕ) → List ℕ → Type 0
+Closed next s = (x c : ℕ) → T (elem x s) → T (elem c (next x)) → T (elem c s)
+
+size : ℕ → List ℕ → ℕ
+size n s = count n (λ x. elem x s)
+
+round-closed : (next : ℕ → List ℕ) (s : List ℕ) → Closed next s → Closed next (round next s)
+unfolding round
+round-closed next s closed x c m e =
+    elem-union-right c (flatMap next s) s (closed x c (⊎-elim linked (λ r. r) (elem-union x (flatMap next s) s m)) e)
+  where
+    linked : T (elem x (flatMap next s)) → T (elem x s)
+    linked l = let i = elem-flatMap x next s l in closed (i .0) x (i .1) (i .2)
+
+grow-closed : (next : ℕ → List ℕ) (k : ℕ) (s : List ℕ) → Closed next s → Closed next (grow next k s)
+unfolding grow round
+grow-closed next zero s closed = closed
+grow-closed next (suc k) s closed = grow-closed next k (round next s) (round-closed next s closed)
+
+grow-holds : (next : ℕ → List ℕ) (k : ℕ) (s : List ℕ) (x : ℕ) → T (elem x s) → T (elem x (grow next k s))
+unfolding grow round
+grow-holds next zero s x m = m
+grow-holds next (suc k) s x m = grow-holds next k (round next s) x (elem-union-right x (flatMap next s) s m)
+
+round-sound : (next : ℕ → List ℕ) (a : ℕ) (s : List ℕ) → ((x : ℕ) → T (elem x s) → Reach next a x) →
+    (x : ℕ) → T (elem x (round next s)) → Reach next a x
+unfolding round grow
+round-sound next a s f = grow-sound next a 1 s f
+
+module _ {n : ℕ} {next : ℕ → List ℕ} {a : ℕ} (stays : StaysBelow n next a) where
+  -- a round adds a member, or there was none to add
+  round-grows : (s : List ℕ) → ((x : ℕ) → T (elem x s) → Reach next a x) →
+      Closed next s ⊎ (size n s < size n (round next s))
+  unfolding round size
+  round-grows s f =
+      ⊎-elim
+      (λ (t : T (all-in (λ x. elem x s) (flatMap next s))).
+      inl (λ x c m e. all-elem (λ x. elem x s) (flatMap next s) t c (elem-flatMap-by c x next s m e)))
+      (λ (t : T (not (all-in (λ x. elem x s) (flatMap next s)))).
+      let new = some-fails (λ x. elem x s) (flatMap next s) t in
+      let m = elem-union-left (new .0) (flatMap next s) s (new .1) in
+      inr (count-less n (new .0) (λ x. elem x s) (λ x. elem x (round next s))
+      (λ x h r. elem-union-right x (flatMap next s) s r)
+      (stays (new .0) (round-sound next a s f (new .0) m)) (new .2) m))
+      (decide (all-in (λ x. elem x s) (flatMap next s)))
+
+  grow-ends : (k : ℕ) (s : List ℕ) → ((x : ℕ) → T (elem x s) → Reach next a x) →
+      Closed next (grow next k s) ⊎ (k + size n s ≤ size n (grow next k s))
+  unfolding grow round
+  grow-ends zero s f = inr (omega arith)
+  grow-ends (suc k) s f =
+      ⊎-elim
+      (λ (closed : Closed next s). inl (grow-closed next (suc k) s closed))
+      (λ (l : size n s < size n (round next s)).
+      ⊎-elim (λ closed. inl closed)
+      (λ (h : k + size n (round next s) ≤ size n (grow next k (round next s))). inr (omega arith))
+      (grow-ends k (round next s) (round-sound next a s f)))
+      (round-grows s f)
+
+  reached-closed : Closed next (reached next n a)
+  unfolding reached size
+  reached-closed =
+      ⊎-elim
+      (λ closed. closed)
+      (λ (h : n + size n (a ∷ []) ≤ size n (grow next n (a ∷ []))).
+      absurd (omega (
+        arith,
+        count-small n (λ x. elem x (grow next n (a ∷ []))),
+        count-some n a (λ x. elem x (a ∷ [])) (stays a here) (elem-head a []),
+      )))
+      (grow-ends n (a ∷ []) (λ x m. rw (elem-one x a m) here))
+
+  pub stays-complete : {b : ℕ} → Reach next a b → T (reaches next n a b)
+  unfolding reaches reached
+  stays-complete here = grow-holds next n (a ∷ []) a (elem-head a [])
+  stays-complete (there {b = b} {c = c} r e) = reached-closed b c (stays-complete r) e
+
+-- where all that is reached lies below two bounds, the test does not go by the bound; nor by the
+-- links, where they reach the same
+pub reaches-same : {n m : ℕ} {next other : ℕ → List ℕ} {a : ℕ} → StaysBelow n next a → StaysBelow m other a →
+    ((b : ℕ) → Reach next a b → Reach other a b) → ((b : ℕ) → Reach other a b → Reach next a b) →
+    (b : ℕ) → reaches next n a b ≡ reaches other m a b
+reaches-same {n} {m} {next} {other} {a} s t to from b =
+    same-test (reaches next n a b) (reaches other m a b)
+    (λ h. stays-complete t (to b (reaches-sound next n a b h)))
+    (λ h. stays-complete s (from b (reaches-sound other m a b h)))
+
+module _ {n : ℕ} {present : ℕ → Bool} {next : ℕ → List ℕ} (keeps : Keeps n present next) where
+  -- links that keep the darts stay below their bound, and below any larger one
+  pub keeps-stays : {a m : ℕ} → Dart n present a → n ≤ m → StaysBelow m next a
+  keeps-stays d l b r = omega (arith, reach-dart keeps d r .below)
+
+  pub reaches-complete : {a b : ℕ} → Dart n present a → Reach next a b → T (reaches next n a b)
+  reaches-complete d r = stays-complete (keeps-stays d (le-refl n)) r
+
+  -- the test agrees with the relation
+  pub reaches-iff : {a : ℕ} (b : ℕ) → Dart n present a → T (reaches next n a b) ↔ Reach next a b
+  reaches-iff {a} b d = (reaches-sound next n a b, λ r. reaches-complete d r)
+
+  -- reaching is decided by the test
+  pub decide-reach : {a : ℕ} (b : ℕ) → Dart n present a → Reach next a b ⊎ ¬ Reach next a b
+  decide-reach {a} b d =
+      ⊎-elim
+      (λ (t : T (reaches next n a b)). inl (reaches-sound next n a b t))
+      (λ (t : T (not (reaches next n a b))). inr (λ r. T-not (reaches next n a b) t (reaches-complete d r)))
+      (decide (reaches next n a b))
+
+  -- a wider bound changes nothing
+  pub reaches-wider : {a m : ℕ} → Dart n present a → n ≤ m → (b : ℕ) → reaches next n a b ≡ reaches next m a b
+  reaches-wider d l =
+      reaches-same (keeps-stays d (le-refl n)) (keeps-stays d l) (λ b r. r) (λ b r. r)
+
+-- where the links keep all that is below n, every number below n counts as a dart
+pub keeps-below : {n : ℕ} {next : ℕ → List ℕ} →
+    ((d c : ℕ) → d < n → T (elem c (next d)) → c < n) → Keeps n (λ d. true) next
+keeps-below f = record { kept = λ {d} c h e. record { below = f d c (h .below) e; is-present = tt } }
+
+-- ---- links that lead back
+
+-- from each dart that a link leads to there is a path back, so reaching is an equivalence
+pub record TwoWay (n : ℕ) (present : ℕ → Bool) (next : ℕ → List ℕ) : Type 0 where
+  pub keeps : Keeps n present next
+  pub back : {d : ℕ} (c : ℕ) → Dart n present d → T (elem c (next d)) → Reach next c d
+
+pub reach-sym : {n : ℕ} {present : ℕ → Bool} {next : ℕ → List ℕ} {a b : ℕ} →
+    TwoWay n present next → Dart n present a → Reach next a b → Reach next b a
+reach-sym w d here = here
+reach-sym w d (there {c = c} r e) =
+    reach-trans (w .back c (reach-dart (w .keeps) d r) e) (reach-sym w d r)

@@ -1,0 +1,17 @@
+-- `orbit_count` meets its contract: the parts under a link taken twice over are its orbits. Assumes nothing.
+use mathlib.Core.Path.{_∙_, ap}
+use borrow.Author.Needs.{needs}
+use Rattle.orbits.specs.declared.PartCounts.{PartCounts}
+use Rattle.orbits.proofs.Counts.{orbits-counted}
+use Rattle.orbits.proofs.orbit_count.Statement.{statement}
+use Rattle.orbits.proofs.orbit_count.Tie as tie
+
+part-counts-requires : tie.Need-part-counts-requires
+part-counts-requires c κs = search needs
+
+returns : tie.Need-returns
+returns c =
+    ap (λ (r : PartCounts). r .parts) (c .part-counts .ensures) ∙ orbits-counted (c .before .pre .first .permutes)
+
+pub orbit-count-spec : {M : Type 1} → statement M
+orbit-count-spec = tie.close (tie.spec part-counts-requires returns)

@@ -1,0 +1,45 @@
+-- `visits::put` meets its contract: a dart that was seen leaves the queue as it is, and there is room
+-- for one that was not. Assumes nothing.
+use Prim.Native.Nat.{_<_}
+use native.Mathlib.Omega.{arith}
+use borrow.Author.Needs.{needs}
+use Rattle.orbits.specs.Sets.{dart-limit}
+use Rattle.orbits.proofs.Queue.{queue-room, put-old, put-new}
+use Rattle.orbits.proofs.visits.put.Statement.{statement}
+use Rattle.orbits.proofs.visits.put.Tie as tie
+
+element-copy-out-if1 : tie.Need-element-copy-out-if1
+element-copy-out-if1 c = search needs
+
+returns : tie.Need-returns
+returns c = put-old (c .before .before .pre .0) (c .if1 .taken)
+
+element-write-seen : tie.Need-element-write-seen
+element-write-seen c = search needs
+
+room : (c : tie.Else1) → c .before .before .args .end < dart-limit
+room c = queue-room (c .before .before .pre .0) (c .before .before .pre .1) (c .if1 .left)
+
+mul-order : tie.Need-mul-order
+mul-order c = omega (arith, room c)
+
+element-write-order : tie.Need-element-write-order
+element-write-order c = room c
+
+add-result : tie.Need-add-result
+add-result c = omega (arith, room c)
+
+returns-2 : tie.Need-returns-2
+returns-2 c = put-new (c .before .before .pre .0) (c .before .before .pre .1) (c .if1 .left)
+
+pub put-spec : {M : Type 1} → statement M
+put-spec =
+    tie.close
+    (tie.spec
+    element-copy-out-if1
+    returns
+    element-write-seen
+    mul-order
+    element-write-order
+    add-result
+    returns-2)

@@ -1,0 +1,164 @@
+// Orbits, connected parts and walks of darts, with the links as parameters, and the set of darts
+// that an orbit is given as.
+mod visits;
+
+ghost use mathlib.Core.Path.{_≡_};
+ghost use lib.ListN.{length};
+ghost use Rattle.orbits.specs.Reach.{by-one, by-two, reaches, StaysBelow};
+ghost use Rattle.orbits.specs.Classes.{classes};
+ghost use Rattle.orbits.specs.Sets.{dart-limit, set-of, no-darts, has, with-dart};
+ghost use Rattle.orbits.specs.Links.{link-of, test-of, Composed, Within, Permuted, part-counts};
+
+// Darts are numbered 0 to 1,023.
+pub const DART_LIMIT: usize = 1024;
+
+// A set of the darts, beside its size: bit j of word w stands for dart 64 * w + j.
+pub struct DartSet {
+    pub words: [u64; 16],
+    pub size: usize,
+}
+
+impl DartSet {
+    // The set of no dart.
+    pub fn empty() -> Self
+        ensures { λ r. ⌜ r ≡ no-darts ⌝ }
+    {
+        DartSet {
+            words: [0u64; 16],
+            size: 0,
+        }
+    }
+
+    // Whether d is a member. No number past the darts is one.
+    pub fn contains(self, d: usize) -> bool
+        ensures { λ r. ⌜ r ≡ has self d ⌝ }
+    {
+        let w = d / 64;
+        if 16 <= w {
+            return false;
+        }
+        let word = self.words[w];
+        word & 1u64 << (d % 64) != 0
+    }
+
+    // The set with one dart more: the same set where d is a member, or no dart.
+    pub fn with_dart(self, d: usize) -> Self
+        ensures { λ r. ⌜ r ≡ with-dart self d ⌝ }
+    {
+        if DART_LIMIT <= d {
+            return self;
+        }
+        if self.contains(d) {
+            return self;
+        }
+        let mut words = self.words;
+        let w = d / 64;
+        words[w] = words[w] | 1u64 << (d % 64);
+        let size = if self.size < DART_LIMIT {
+            self.size + 1
+        } else {
+            self.size
+        };
+        DartSet { words, size }
+    }
+}
+
+// How a walk ends: back at its start, or at a dart that the first link fixes.
+pub enum Ending {
+    Home,
+    Loose,
+}
+
+// What a walk gives: the last dart, the ending and the moves made.
+pub struct Walk {
+    pub last: usize,
+    pub ending: Ending,
+    pub moves: usize,
+}
+
+// How many connected parts there are, and in how many of them neither link fixes a dart.
+pub struct PartCounts {
+    pub parts: usize,
+    pub closed: usize,
+}
+
+// Where the link f leads from d; a number that is no dart stays.
+pub fn follow(f: &[usize; DART_LIMIT], d: usize) -> usize
+    requires { ⌜ length (now f) ≡ dart-limit ⌝ }
+    ensures { λ r. ⌜ r ≡ link-of (now (f .entry)) d ⌝ }
+{
+    if d < DART_LIMIT { f[d] } else { d }
+}
+
+// The link "f, then g".
+pub fn composed(f: &[usize; DART_LIMIT], g: &[usize; DART_LIMIT]) -> [usize; DART_LIMIT]
+    requires { ⌜ (length (now f) ≡ dart-limit) × (length (now g) ≡ dart-limit) ⌝ }
+    ensures { λ r. ⌜ Composed (now (f .entry)) (now (g .entry)) r ⌝ }
+{
+    let mut both = [0usize; DART_LIMIT];
+    let mut d = 0;
+    while d < DART_LIMIT {
+        both[d] = follow(g, follow(f, d));
+        d += 1;
+    }
+    both
+}
+
+// The connected part of dart d: all that is reached from it by the links f and g.
+pub fn part(f: &[usize; DART_LIMIT], g: &[usize; DART_LIMIT], d: usize) -> DartSet
+    requires { ⌜ Within (now f) (now g) d ⌝ }
+    ensures { λ r. ⌜ r ≡
+        set-of (reaches (by-two (link-of (now (f .entry))) (link-of (now (g .entry)))) dart-limit d) ⌝ }
+{
+    let mut order = [0usize; DART_LIMIT];
+    let mut seen = [false; DART_LIMIT];
+    let end = visits::visit(f, g, d, &mut order, &mut seen, 0);
+    visits::set_of(&order, end)
+}
+
+// The orbit of dart d: all that is reached from it by the link f.
+pub fn orbit(f: &[usize; DART_LIMIT], d: usize) -> DartSet
+    requires { ⌜ (length (now f) ≡ dart-limit) × StaysBelow dart-limit (by-one (link-of (now f))) d ⌝ }
+    ensures { λ r. ⌜ r ≡ set-of (reaches (by-one (link-of (now (f .entry)))) dart-limit d) ⌝ }
+{
+    part(f, f, d)
+}
+
+// How many connected parts the present darts below n have under the links f and g, and in how many of
+// them neither link fixes a dart. Each part is visited from its least dart.
+pub fn part_counts(
+    f: &[usize; DART_LIMIT],
+    g: &[usize; DART_LIMIT],
+    n: usize,
+    present: &[bool; DART_LIMIT],
+) -> PartCounts
+    requires { ⌜ Permuted n (test-of (now present)) (now f) (now g) ⌝ }
+    ensures { λ r. ⌜ r ≡
+        part-counts (link-of (now (f .entry))) (link-of (now (g .entry))) n (test-of (now (present .entry))) ⌝ }
+{
+    let mut order = [0usize; DART_LIMIT];
+    let mut seen = [false; DART_LIMIT];
+    let mut end = 0;
+    let mut parts = 0;
+    let mut closed = 0;
+    let mut a = 0;
+    while a < n {
+        if visits::is_new(present, &seen, a) {
+            let from = end;
+            end = visits::visit(f, g, a, &mut order, &mut seen, from);
+            parts += 1;
+            closed += visits::all_move(f, g, &order, from, end) as usize;
+        }
+        a += 1;
+    }
+    PartCounts { parts, closed }
+}
+
+// How many orbits the present darts below n have under the link f.
+pub fn orbit_count(f: &[usize; DART_LIMIT], n: usize, present: &[bool; DART_LIMIT]) -> usize
+    requires { ⌜ Permuted n (test-of (now present)) (now f) (now f) ⌝ }
+    ensures { λ r. ⌜ r ≡ classes (by-one (link-of (now (f .entry)))) n (test-of (now (present .entry))) ⌝ }
+{
+    let counts = part_counts(f, f, n, present);
+    counts.parts
+}

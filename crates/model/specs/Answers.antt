@@ -1,0 +1,79 @@
+-- What each answer means in document 01: its number, 0 where the call is served; the document's
+-- word for it; and its values in the document's order. Assumes nothing.
+use mathlib.Core.List.{List, [], _∷_}
+use Prim.Native.Nat.{ℕ}
+use Prim.Native.String.{String}
+use lib.IntN.{ℤ, pos}
+use Rattle.orbits.specs.declared.Ending.{Ending}
+use Rattle.model.specs.declared.Refusal.{Refusal}
+use Rattle.model.specs.declared.Oriented.{Oriented}
+use Rattle.model.specs.declared.Arrival.{Arrival}
+use Rattle.model.specs.declared.Outcome.{Outcome}
+use Rattle.model.specs.declared.Counted.{Counted}
+use Rattle.model.specs.declared.Walked.{Walked}
+use Rattle.model.specs.declared.Moved.{Moved}
+use Rattle.model.specs.declared.Placed.{Placed}
+use Rattle.model.specs.declared.Written.{Written}
+use Rattle.model.specs.declared.Line.{Line}
+use Rattle.model.specs.Refusals.{number}
+
+pub record Answer : Type 0 where
+  pub number : ℕ
+  pub word : String
+  pub values : List ℤ
+
+abbrev pub served : String → List ℤ → Answer
+served word values = record { number = 0; word = word; values = values }
+
+abbrev pub refused : Refusal → Answer
+refused r = record { number = number r; word = "refused"; values = pos (number r) ∷ [] }
+
+abbrev ending-word : Ending → String
+ending-word Ending.Home = "home"
+ending-word Ending.Loose = "loose"
+
+unfoldable pub oriented-answer : Oriented → Answer
+oriented-answer (Oriented.Value z) = served "orientation" (z ∷ [])
+oriented-answer (Oriented.Refused r) = refused r
+
+unfoldable pub arrival-answer : Arrival → Answer
+arrival-answer Arrival.First = served "first" []
+arrival-answer Arrival.Second = served "second" []
+arrival-answer Arrival.Inside = served "inside" []
+arrival-answer (Arrival.Outside l r v) = served "outside" (pos l ∷ pos r ∷ pos v ∷ [])
+arrival-answer (Arrival.Refused r) = refused r
+
+unfoldable pub outcome-answer : Outcome → Answer
+outcome-answer Outcome.Served = served "served" []
+outcome-answer (Outcome.Refused r) = refused r
+
+unfoldable pub counted-answer : Counted → Answer
+counted-answer (Counted.Numbers n) =
+    served "counts"
+    (pos (n .darts) ∷ pos (n .vertices) ∷ pos (n .edges) ∷ pos (n .faces) ∷ pos (n .parts) ∷ [])
+counted-answer (Counted.Refused r) = refused r
+
+unfoldable pub walked-answer : Walked → Answer
+walked-answer (Walked.Ended w) =
+    served (ending-word (w .ending)) (pos (w .last) ∷ pos (w .moves) ∷ [])
+walked-answer (Walked.Refused r) = refused r
+
+unfoldable pub moved-answer : Moved → Answer
+moved-answer (Moved.At w) = served "dart" (pos (w .dart) ∷ [])
+moved-answer (Moved.Refused r) = refused r
+
+unfoldable pub placed-answer : Placed → Answer
+placed-answer Placed.NoOutline = served "none" []
+placed-answer (Placed.Corner k) = served "corner" (pos k ∷ [])
+placed-answer (Placed.Edge a b) = served "edge" (pos a ∷ pos b ∷ [])
+placed-answer Placed.Inside = served "inside" []
+placed-answer (Placed.Outside v) = served "outside" (pos v ∷ [])
+placed-answer (Placed.Refused r) = refused r
+
+unfoldable pub written-answer : Written → Answer
+written-answer (Written.Length n) = served "length" (pos n ∷ [])
+written-answer (Written.Refused r) = refused r
+
+unfoldable pub line-answer : Line → Answer
+line-answer (Line.Named p) = served "point" (p .x ∷ p .y ∷ [])
+line-answer (Line.Refused r) = refused r

@@ -1,0 +1,117 @@
+-- The arrival of a point, in the order of this page: how links are cut and made; the left and the
+-- right corner; the map after each arrival; `offer`, with its refusals.
+-- Document 01, "Orientation and arrival". Assumes nothing.
+use mathlib.Core.Bool.{Bool, true, not, cond, _&&_}
+use mathlib.Core.List.{List, [], _∷_}
+use Prim.Native.Nat.{ℕ, suc}
+use lib.Dec.{leb, eqb}
+use lib.ListN.{getD, set}
+use Rattle.finite.specs.Bounded.{any}
+use Rattle.finite.specs.Lists.{first-in}
+use Rattle.model.specs.declared.Refusal.{Refusal}
+use Rattle.model.specs.declared.Point.{Point}
+use Rattle.model.specs.declared.Map.{Map}
+use Rattle.model.specs.declared.Arrival.{Arrival}
+use Rattle.model.specs.declared.Oriented.{Oriented}
+use Rattle.model.specs.declared.Offered.{Offered}
+use Rattle.model.specs.Refusals.{Rule, _when_, unless}
+use Rattle.model.specs.Plane.{in-range, same-point, in-line, orientation}
+use Rattle.model.specs.Maps.{point-limit, own, helper, point}
+use Rattle.model.specs.Outline.{previous-corner, outline, sees, visible-edges}
+use Rattle.model.specs.Reading.{unsound}
+
+-- the orientation of three points, or number 3
+unfoldable pub oriented : Point → Point → Point → Oriented
+oriented a b c =
+    unless Oriented.Refused
+    ((Refusal.OutOfRange when not (in-range a && in-range b && in-range c)) ∷ [])
+    (Oriented.Value (orientation a b c))
+
+-- the edge links with d's partner fixed, and with a and b each other's partner
+unfoldable pub cut : ℕ → List ℕ → List ℕ
+cut d edge = set edge (getD edge d d) (getD edge d d)
+
+unfoldable pub join : ℕ → ℕ → List ℕ → List ℕ
+join a b edge = set (set edge a b) b a
+
+-- "The left corner is the one whose entering edge is not visible and whose leaving edge is; the
+-- right corner the reverse."
+unfoldable pub left-corner : Map → Point → ℕ
+left-corner m p = first-in (λ a. not (sees m p (previous-corner m a)) && sees m p a) 0 (outline m)
+
+unfoldable pub right-corner : Map → Point → ℕ
+right-corner m p = first-in (λ a. sees m p (previous-corner m a) && not (sees m p a)) 0 (outline m)
+
+-- the map with p as its next point, and with these helpers, edge links and reference
+unfoldable pub with-point : Map → Point → List Bool → List ℕ → ℕ → Map
+with-point m p helpers edge reference =
+    record {
+      xs = set (m .xs) (m .count) (p .x);
+      ys = set (m .ys) (m .count) (p .y);
+      helpers = helpers;
+      edge = edge;
+      count = suc (m .count);
+      reference = reference;
+    }
+
+-- "one dart, both links fixed" and "dart 2k alone, fixed, reference kept"
+unfoldable pub alone : Map → Point → Map
+alone m p = with-point m p (m .helpers) (m .edge) (m .reference)
+
+-- "edge links 0-3 and 2-1, point links 0-1 and 2-3, reference 2"
+unfoldable pub pair : Map → Point → Map
+pair m p = with-point m p (set (set (m .helpers) 0 true) 1 true) (join 2 1 (join 0 3 (m .edge))) 2
+
+-- "The left corner's own dart l and the right corner's helper r lose their edge partners, which
+-- become fixed unless they are l and r themselves. New edge links are l with 2k + 1, and 2k with r;
+-- new point link 2k with 2k + 1; reference 2k. Nothing else changes."
+unfoldable pub spliced : Map → Point → ℕ → ℕ → Map
+spliced m p left right =
+    let k = m .count in
+    let l = own left in
+    let r = helper right in
+    with-point m p (set (m .helpers) k true)
+    (join (own k) r (join l (helper k) (cut r (cut l (m .edge)))))
+    (own k)
+
+-- the map after an arrival, and the arrival
+abbrev pub arrived : Arrival → Map → Offered
+arrived arrival m = record { map = m; arrival = arrival }
+
+-- "inside" if no outline edge is visible, otherwise "outside"
+unfoldable pub later-point : Map → Point → Offered
+later-point m p =
+    let left = left-corner m p in
+    let right = right-corner m p in
+    let visible = visible-edges m p in
+    cond (eqb visible 0)
+    (arrived Arrival.Inside (alone m p))
+    (arrived (Arrival.Outside left right visible) (spliced m p left right))
+
+-- a point that is not refused
+unfoldable pub arrive : Map → Point → Offered
+arrive m p =
+    cond (eqb (m .count) 0) (arrived Arrival.First (alone m p))
+    (cond (eqb (m .count) 1) (arrived Arrival.Second (pair m p)) (later-point m p))
+
+-- "equal to an accepted point"
+unfoldable pub is-repeated : Map → Point → Bool
+is-repeated m p = any (m .count) (λ k. same-point (point m k) p)
+
+-- "in line with two accepted points"
+unfoldable pub is-in-line : Map → Point → Bool
+is-in-line m p = any (m .count) (λ j. any j (λ i. in-line (point m i) (point m j) p))
+
+-- why an offered point is refused
+abbrev pub offer-rules : Map → Point → List Rule
+offer-rules m p =
+    unsound m
+    ∷ (Refusal.Full when leb point-limit (m .count))
+    ∷ (Refusal.OutOfRange when not (in-range p))
+    ∷ (Refusal.Repeated when is-repeated m p)
+    ∷ (Refusal.InLine when is-in-line m p)
+    ∷ []
+
+-- an offered point: the map after it and its arrival, or the map as it was and the refusal
+unfoldable pub offer : Map → Point → Offered
+offer m p = unless (λ r. arrived (Arrival.Refused r) m) (offer-rules m p) (arrive m p)

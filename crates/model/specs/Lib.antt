@@ -1,0 +1,16 @@
+pub mod Spelling
+pub mod Refusals
+pub mod Plane
+pub mod Maps
+pub mod Outline
+pub mod Sound
+pub mod Reading
+pub mod Answers
+pub mod Arrival
+pub mod History
+pub mod Placing
+pub mod Lent
+pub mod Saved
+pub mod Text
+pub mod Report
+pub mod Questions

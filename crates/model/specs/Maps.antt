@@ -1,0 +1,78 @@
+-- Maps, in the order of this page: the limits; the darts of a point; the points, the present
+-- darts and the two links of a map; the empty map.
+-- Document 01, "What the engine holds" and "A sound map". A dart that the document calls own is 2k
+-- and a helper 2k + 1, for the point k that owns them. Assumes nothing.
+use mathlib.Core.Bool.{Bool, false, cond, _&&_, _||_}
+use Prim.Native.Nat.{ℕ, _+_, _*_, _/_, _%_}
+use lib.Dec.{ltb, eqb}
+use lib.IntN.{pos}
+use lib.ListN.{getD, replicate}
+use Rattle.finite.specs.Bounded.{table}
+use Rattle.orbits.specs.Sets.{dart-limit}
+use Rattle.model.specs.declared.Point.{Point}
+use Rattle.model.specs.declared.Map.{Map}
+
+-- "A map has at most 512 points"
+abbrev pub point-limit : ℕ
+point-limit = 512
+
+-- "The reference is a dart number; 1,024 means none"
+abbrev pub no-dart : ℕ
+no-dart = dart-limit
+
+-- "Point k owns dart 2k and may have the helper dart 2k + 1"
+abbrev pub own : ℕ → ℕ
+own k = 2 * k
+
+abbrev pub helper : ℕ → ℕ
+helper k = 2 * k + 1
+
+-- the point of a dart, and whether the dart is its own dart
+abbrev pub owner : ℕ → ℕ
+owner d = d / 2
+
+abbrev pub is-own : ℕ → Bool
+is-own d = eqb (d % 2) 0
+
+-- the other dart of the same point
+unfoldable pub partner : ℕ → ℕ
+partner d = cond (is-own d) (helper (owner d)) (own (owner d))
+
+-- the point numbered k
+unfoldable pub point : Map → ℕ → Point
+point m k = record { x = getD (m .xs) k (pos 0); y = getD (m .ys) k (pos 0) }
+
+unfoldable pub has-helper : Map → ℕ → Bool
+has-helper m k = getD (m .helpers) k false
+
+-- "Dart 2k is present for every point k. A helper is present or not. No other dart is present."
+unfoldable pub is-present : Map → ℕ → Bool
+is-present m d = ltb (owner d) (m .count) && (is-own d || has-helper m (owner d))
+
+-- the edge link; a number that is no dart is left where it is
+unfoldable pub edge-link : Map → ℕ → ℕ
+edge-link m d = getD (m .edge) d d
+
+-- "The point link joins 2k and 2k + 1 where the helper is present; else it fixes 2k."
+unfoldable pub point-link : Map → ℕ → ℕ
+point-link m d = cond (has-helper m (owner d)) (partner d) d
+
+-- "edge link, then point link"
+unfoldable pub face-link : Map → ℕ → ℕ
+face-link m d = point-link m (edge-link m d)
+
+-- the darts of the points lie below this bound
+abbrev pub dart-bound : Map → ℕ
+dart-bound m = own (m .count)
+
+-- "the empty map, which is the sound map without points"
+unfoldable pub empty-map : Map
+empty-map =
+    record {
+      xs = replicate point-limit (pos 0);
+      ys = replicate point-limit (pos 0);
+      helpers = replicate point-limit false;
+      edge = table dart-limit (λ d. d);
+      count = 0;
+      reference = no-dart;
+    }

@@ -1,0 +1,60 @@
+-- Points of the plane, in the order of this page: the coordinate limit and the range; equal
+-- points; orientation and its three cases; strictly between two points; lower than a point.
+-- Document 01, "Orientation and arrival" and the coordinates of "What the engine holds". The
+-- numbers are whole numbers without a bound: a `Point` of antt holds two of ℤ. Assumes nothing.
+use mathlib.Core.Bool.{Bool, not, _&&_, _||_}
+use Prim.Native.Nat.{ℕ, _*_}
+use lib.IntN.{ℤ, pos, negℤ, _+ℤ_, _-ℤ_, _*ℤ_}
+use lib.Signed.{ltZ, leZ}
+use Rattle.integers.specs.Order.{eqZ}
+use Rattle.model.specs.declared.Point.{Point}
+
+-- "from -1,000,000 to 1,000,000"
+abbrev pub coordinate-limit : ℕ
+coordinate-limit = 1_000_000
+
+unfoldable pub coordinate-in-range : ℤ → Bool
+coordinate-in-range z = leZ (negℤ (pos coordinate-limit)) z && leZ z (pos coordinate-limit)
+
+unfoldable pub in-range : Point → Bool
+in-range p = coordinate-in-range (p .x) && coordinate-in-range (p .y)
+
+-- the point of two coordinates, and the point 0, 0
+abbrev pub at : ℤ → ℤ → Point
+at x y = record { x = x; y = y }
+
+abbrev pub origin : Point
+origin = at (pos 0) (pos 0)
+
+-- equal points
+unfoldable pub same-point : Point → Point → Bool
+same-point p q = eqZ (p .x) (q .x) && eqZ (p .y) (q .y)
+
+-- "Orientation of (a, b, c) is (bx - ax) × (cy - ay) - (by - ay) × (cx - ax)"
+unfoldable pub orientation : Point → Point → Point → ℤ
+orientation a b c = (b .x -ℤ a .x) *ℤ (c .y -ℤ a .y) -ℤ (b .y -ℤ a .y) *ℤ (c .x -ℤ a .x)
+
+-- "from -4,000,000,000,000 to 4,000,000,000,000"
+abbrev pub orientation-limit : ℕ
+orientation-limit = 4 * (coordinate-limit * coordinate-limit)
+
+-- "Positive is a left turn": c is strictly left of the edge from a to b
+unfoldable pub left-of : Point → Point → Point → Bool
+left-of a b c = ltZ (pos 0) (orientation a b c)
+
+-- "negative means edge a to b is visible from c"
+unfoldable pub visible-from : Point → Point → Point → Bool
+visible-from a b c = ltZ (orientation a b c) (pos 0)
+
+-- "zero is in line": neither of the two
+unfoldable pub in-line : Point → Point → Point → Bool
+in-line a b c = not (left-of a b c) && not (visible-from a b c)
+
+-- p lies in line with a and b and strictly between them: a and b lie on opposite sides of p
+unfoldable pub strictly-between : Point → Point → Point → Bool
+strictly-between a b p =
+    in-line a b p && ltZ ((a .x -ℤ p .x) *ℤ (b .x -ℤ p .x) +ℤ (a .y -ℤ p .y) *ℤ (b .y -ℤ p .y)) (pos 0)
+
+-- p comes before q in "the smallest y, then the smallest x"
+unfoldable pub lower : Point → Point → Bool
+lower p q = ltZ (p .y) (q .y) || (eqZ (p .y) (q .y) && ltZ (p .x) (q .x))

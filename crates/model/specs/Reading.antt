@@ -1,0 +1,78 @@
+-- Reading a map, in the order of this page: the links that lead to each kind of orbit; the counts;
+-- the orbit of a dart; the walk from a dart; a walker.
+-- Document 01, "Reading a map". Parts are the field's connected components. Assumes nothing.
+use mathlib.Core.Bool.{not}
+use mathlib.Core.List.{List, [], _∷_}
+use Prim.Native.Nat.{ℕ}
+use Rattle.finite.specs.Bounded.{count}
+use Rattle.orbits.specs.Reach.{by-one, by-two, reaches}
+use Rattle.orbits.specs.Classes.{classes}
+use Rattle.orbits.specs.Walks.{walk}
+use Rattle.orbits.specs.Sets.{set-of, no-darts}
+use Rattle.model.specs.declared.Refusal.{Refusal}
+use Rattle.model.specs.declared.Map.{Map}
+use Rattle.model.specs.declared.Kind.{Kind}
+use Rattle.model.specs.declared.Orbit.{Orbit}
+use Rattle.model.specs.declared.Outcome.{Outcome}
+use Rattle.model.specs.declared.Counts.{Counts}
+use Rattle.model.specs.declared.Counted.{Counted}
+use Rattle.model.specs.declared.Walked.{Walked}
+use Rattle.model.specs.declared.Moved.{Moved}
+use Rattle.model.specs.Refusals.{Rule, _when_, unless}
+use Rattle.model.specs.Maps.{is-present, edge-link, point-link, face-link, dart-bound}
+use Rattle.model.specs.Sound.{sound}
+
+-- "Edges and vertices are orbits of the edge and the point link. Faces are orbits of "edge link,
+-- then point link". Connected parts are reached by both links."
+unfoldable pub links-of : Map → Kind → ℕ → List ℕ
+links-of m Kind.Edge = by-one (edge-link m)
+links-of m Kind.Vertex = by-one (point-link m)
+links-of m Kind.Face = by-one (face-link m)
+links-of m Kind.Part = by-two (edge-link m) (point-link m)
+
+-- the number of orbits of a kind
+unfoldable pub number-of : Map → Kind → ℕ
+number-of m kind = classes (links-of m kind) (dart-bound m) (is-present m)
+
+unfoldable pub darts : Map → ℕ
+darts m = count (dart-bound m) (is-present m)
+
+unfoldable pub counts : Map → Counts
+counts m =
+    record {
+      darts = darts m;
+      vertices = number-of m Kind.Vertex;
+      edges = number-of m Kind.Edge;
+      faces = number-of m Kind.Face;
+      parts = number-of m Kind.Part;
+    }
+
+-- a map that is not sound is refused by every call that reads one
+abbrev pub unsound : Map → Rule
+unsound m = Refusal.NotSound when not (sound m)
+
+-- "dart absent or above 1,023"
+abbrev pub absent : Map → ℕ → Rule
+absent m d = Refusal.NoDart when not (is-present m d)
+
+unfoldable pub counted : Map → Counted
+counted m = unless Counted.Refused (unsound m ∷ []) (Counted.Numbers (counts m))
+
+-- the darts of an orbit as a set
+unfoldable pub orbit-of : Map → Kind → ℕ → Orbit
+orbit-of m kind d =
+    unless
+    (λ r. record { outcome = Outcome.Refused r; darts = no-darts })
+    (unsound m ∷ absent m d ∷ [])
+    (record { outcome = Outcome.Served; darts = set-of (reaches (links-of m kind) (dart-bound m) d) })
+
+unfoldable pub walked : Map → ℕ → Walked
+walked m d =
+    unless Walked.Refused
+    (unsound m ∷ absent m d ∷ [])
+    (Walked.Ended (walk (edge-link m) (point-link m) (darts m) d))
+
+-- "A walker can be moved by one link and shows the dart it has reached." A walker starts at a dart
+-- (f the identity) or is moved by a link; one that stands at an absent dart is refused.
+unfoldable pub moved : (ℕ → ℕ) → Map → ℕ → Moved
+moved f m d = unless Moved.Refused (unsound m ∷ absent m d ∷ []) (Moved.At (record { dart = f d }))

@@ -1,0 +1,66 @@
+-- Survey texts, in the order of this page: a number; a line; the lines of a text.
+-- Document 01, "The text program". The bytes of a line stand without its line feed.
+-- Assumes nothing.
+use mathlib.Core.Bool.{Bool, not, cond, _&&_, _||_}
+use mathlib.Core.List.{List, [], _∷_}
+use Prim.Native.Nat.{ℕ, _+_, _-_, _*_}
+use lib.Dec.{leb, eqb}
+use lib.IntN.{ℤ, pos, negℤ}
+use lib.ListN.{length, getD}
+use Rattle.finite.specs.Lists.{all-in, before, beyond}
+use Rattle.model.specs.declared.Refusal.{Refusal}
+use Rattle.model.specs.declared.Line.{Line}
+use Rattle.model.specs.Refusals.{_when_, unless}
+use Rattle.model.specs.Spelling.{line-feed, space, minus, digit-zero}
+
+-- "an optional minus and 1 to 7 digits"
+abbrev pub digit-limit : ℕ
+digit-limit = 7
+
+unfoldable pub is-digit : ℕ → Bool
+is-digit b = leb digit-zero b && leb b (digit-zero + 9)
+
+unfoldable pub has-minus : List ℕ → Bool
+has-minus s = eqb (getD s 0 0) minus
+
+-- what stands after the optional minus
+unfoldable pub digits : List ℕ → List ℕ
+digits [] = []
+digits (b ∷ s) = cond (eqb b minus) s (b ∷ s)
+
+-- the number that digits stand for, after those that stand for n
+unfoldable pub value-after : ℕ → List ℕ → ℕ
+value-after n [] = n
+value-after n (b ∷ s) = value-after (n * 10 + (b - digit-zero)) s
+
+unfoldable pub magnitude : List ℕ → ℕ
+magnitude s = value-after 0 (digits s)
+
+-- "A number is an optional minus and 1 to 7 digits, no leading zero save 0 itself, no -0."
+unfoldable pub is-number : List ℕ → Bool
+is-number s =
+    leb 1 (length (digits s)) && leb (length (digits s)) digit-limit && all-in is-digit (digits s)
+    && (not (eqb (getD (digits s) 0 0) digit-zero) || eqb (length (digits s)) 1)
+    && not (has-minus s && eqb (magnitude s) 0)
+
+unfoldable pub number-value : List ℕ → ℤ
+number-value s = cond (has-minus s) (negℤ (pos (magnitude s))) (pos (magnitude s))
+
+-- "A line is two numbers with one space between": the point that it names, or number 8
+unfoldable pub line-read : List ℕ → Line
+line-read s =
+    let first = before space s in
+    let second = beyond space s in
+    unless Line.Refused
+    ((Refusal.BadLine when not (is-number first && is-number second)) ∷ [])
+    (Line.Named (record { x = number-value first; y = number-value second }))
+
+-- the lines with b before the first of them
+unfoldable pub in-first-line : ℕ → List (List ℕ) → List (List ℕ)
+in-first-line b [] = (b ∷ []) ∷ []
+in-first-line b (l ∷ ls) = (b ∷ l) ∷ ls
+
+-- "and a line feed; the last feed may be missing, and nothing follows it"
+unfoldable pub lines : List ℕ → List (List ℕ)
+lines [] = []
+lines (b ∷ s) = cond (eqb b line-feed) ([] ∷ lines s) (in-first-line b (lines s))

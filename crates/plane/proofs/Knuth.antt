@@ -1,0 +1,136 @@
+-- Knuth's five axioms of a counterclockwise system ("Axioms and Hulls", 1992) for the strict test
+-- `left-of`, in his order and letters: cyclic symmetry, antisymmetry, nondegeneracy, interiority,
+-- transitivity; then the dual of the fifth. Three points may be in line here, so the third has one
+-- case more. Then a point within an angle: what both arms of the angle have on one side, it has.
+-- Assumes nothing.
+use mathlib.Core.Path.{_≡_, sym, ap, _∙_}
+use mathlib.Core.Logic.{_⊎_, inl, inr, ⊎-elim}
+use native.Mathlib.Omega.{arith}
+use lib.Dec.{T}
+use lib.IntN.{ℤ, pos, negℤ, _+ℤ_, _*ℤ_, *ℤ-comm}
+use lib.Signed.{_<ℤ_}
+use Rattle.integers.specs.Order.{order, signs, +ℤ-splits, negℤ-splits}
+use Rattle.integers.specs.Sign.{pos-pos, neg-pos, second-pos-pos, second-pos-neg, second-neg-neg}
+use Rattle.model.specs.declared.Point.{Point}
+use Rattle.model.specs.Plane.{orientation, left-of, visible-from, in-line}
+use Rattle.plane.proofs.Orientation.{orientation-cyclic, orientation-swap, orientation-split, orientation-exchange, left-positive, positive-left, visible-negative, negative-visible, zero-in-line}
+
+-- to exchange the last two points turns the sign
+pub orientation-opposite : (p q r : Point) → orientation p q r ≡ negℤ (orientation p r q)
+orientation-opposite p q r =
+    orientation-cyclic p q r ∙ orientation-swap q r p ∙ ap negℤ (sym (orientation-cyclic p r q))
+
+left-negative : (p q r : Point) → T (left-of p q r) → orientation p r q <ℤ pos 0
+left-negative p q r t =
+    omega (arith, order, left-positive p q r t, orientation-opposite p q r, negℤ-splits (orientation p r q))
+
+negative-left : (p q r : Point) → orientation p r q <ℤ pos 0 → T (left-of p q r)
+negative-left p q r h =
+    positive-left p q r (omega (arith, order, orientation-opposite p q r, negℤ-splits (orientation p r q)))
+
+-- ---- the five axioms
+
+pub cyclic-symmetry : (p q r : Point) → T (left-of p q r) → T (left-of q r p)
+cyclic-symmetry p q r t = positive-left q r p (rw orientation-cyclic at (left-positive p q r t))
+
+-- the last point may come first
+pub cyclic-back : (p q r : Point) → T (left-of p q r) → T (left-of r p q)
+cyclic-back p q r t = cyclic-symmetry q r p (cyclic-symmetry p q r t)
+
+pub antisymmetry : (p q r : Point) → T (left-of p q r) → ¬ T (left-of p r q)
+antisymmetry p q r t u = omega (arith, order, left-negative p q r t, left-positive p r q u)
+
+pub nondegeneracy : (p q r : Point) → T (left-of p q r) ⊎ T (left-of p r q) ⊎ T (in-line p q r)
+nondegeneracy p q r =
+    ⊎-elim
+    (λ h. inl (positive-left p q r h))
+    (⊎-elim (λ e. inr (inr (zero-in-line p q r e))) (λ h. inr (inl (negative-left p r q h))))
+    (signs (orientation p q r))
+
+pub interiority : (p q r t : Point) →
+    T (left-of t q r) → T (left-of p t r) → T (left-of p q t) → T (left-of p q r)
+interiority p q r t a b c =
+    positive-left p q r
+    (omega (
+      arith,
+      order,
+      orientation-split p q r t,
+      +ℤ-splits (orientation t q r +ℤ orientation p t r) (orientation p q t),
+      +ℤ-splits (orientation t q r) (orientation p t r),
+      left-positive t q r a,
+      left-positive p t r b,
+      left-positive p q t c,
+    ))
+
+-- the products of the exchange: two positive ones have a positive sum, two negative ones a negative
+sum-positive : (z w u v : ℤ) → pos 0 <ℤ z → pos 0 <ℤ w → pos 0 <ℤ u → pos 0 <ℤ v → pos 0 <ℤ (z *ℤ w +ℤ u *ℤ v)
+sum-positive z w u v a b c d = omega (arith, order, +ℤ-splits (z *ℤ w) (u *ℤ v), pos-pos a b, pos-pos c d)
+
+sum-negative : (z w u v : ℤ) → z <ℤ pos 0 → pos 0 <ℤ w → u <ℤ pos 0 → pos 0 <ℤ v → (z *ℤ w +ℤ u *ℤ v) <ℤ pos 0
+sum-negative z w u v a b c d = omega (arith, order, +ℤ-splits (z *ℤ w) (u *ℤ v), neg-pos a b, neg-pos c d)
+
+pub transitivity : (p q r s t : Point) →
+    T (left-of t s p) → T (left-of t s q) → T (left-of t s r) →
+    T (left-of t p q) → T (left-of t q r) → T (left-of t p r)
+transitivity p q r s t a b c d e =
+    positive-left t p r
+    (second-pos-pos (left-positive t s q b)
+    (rw orientation-exchange
+    (sum-positive (orientation t s p) (orientation t q r) (orientation t s r) (orientation t p q)
+    (left-positive t s p a) (left-positive t q r e) (left-positive t s r c) (left-positive t p q d))))
+
+pub dual-transitivity : (p q r s t : Point) →
+    T (left-of s t p) → T (left-of s t q) → T (left-of s t r) →
+    T (left-of t p q) → T (left-of t q r) → T (left-of t p r)
+dual-transitivity p q r s t a b c d e =
+    positive-left t p r
+    (second-neg-neg (below q b)
+    (rw orientation-exchange
+    (sum-negative (orientation t s p) (orientation t q r) (orientation t s r) (orientation t p q)
+    (below p a) (left-positive t q r e) (below r c) (left-positive t p q d))))
+  where
+    below : (x : Point) → T (left-of s t x) → orientation t s x <ℤ pos 0
+    below x h =
+        omega (arith, order, left-positive s t x h, orientation-swap s t x, negℤ-splits (orientation t s x))
+
+-- ---- c within the angle at t from v to u
+
+module _ (t q v c u : Point) (vc : T (left-of t v c)) (cu : T (left-of t c u)) (vu : T (left-of t v u)) where
+  -- both arms left of t → q
+  pub within-left : T (left-of t q v) → T (left-of t q u) → T (left-of t q c)
+  within-left a b =
+      positive-left t q c
+      (second-pos-pos (left-positive t v u vu)
+      (rw (*ℤ-comm (orientation t v u) (orientation t q c), orientation-exchange)
+      (sum-positive (orientation t q v) (orientation t c u) (orientation t q u) (orientation t v c)
+      (left-positive t q v a) (left-positive t c u cu) (left-positive t q u b) (left-positive t v c vc))))
+
+  -- both arms right of t → q
+  pub within-right : T (left-of t v q) → T (left-of t u q) → T (left-of t c q)
+  within-right a b =
+      negative-left t c q
+      (second-pos-neg (left-positive t v u vu)
+      (rw (*ℤ-comm (orientation t v u) (orientation t q c), orientation-exchange)
+      (sum-negative (orientation t q v) (orientation t c u) (orientation t q u) (orientation t v c)
+      (left-negative t v q a) (left-positive t c u cu) (left-negative t u q b) (left-positive t v c vc))))
+
+-- ---- visible is left of the edge turned round, and not visible, not in line, is left
+
+pub visible-left : (a b c : Point) → T (visible-from a b c) → T (left-of b a c)
+visible-left a b c t =
+    positive-left b a c
+    (omega (arith, order, visible-negative a b c t, orientation-swap a b c, negℤ-splits (orientation b a c)))
+
+pub left-visible : (a b c : Point) → T (left-of b a c) → T (visible-from a b c)
+left-visible a b c t =
+    negative-visible a b c
+    (omega (arith, order, left-positive b a c t, orientation-swap a b c, negℤ-splits (orientation b a c)))
+
+pub hidden-left : (a b c : Point) → ¬ T (in-line a b c) → ¬ T (visible-from a b c) → T (left-of a b c)
+hidden-left a b c n v =
+    ⊎-elim (λ t. t)
+    (⊎-elim (λ t. absurd (v (left-visible a b c (cyclic-back a c b t)))) (λ t. absurd (n t)))
+    (nondegeneracy a b c)
+
+pub left-hidden : (a b c : Point) → T (left-of a b c) → ¬ T (visible-from a b c)
+left-hidden a b c t v = omega (arith, order, left-positive a b c t, visible-negative a b c v)

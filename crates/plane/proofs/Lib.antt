@@ -1,0 +1,9 @@
+pub mod Orientation
+pub mod Bounds
+pub mod Fan
+pub mod Knuth
+pub mod Convex
+pub mod Corners
+pub mod Run
+pub mod Growth
+pub mod Hull

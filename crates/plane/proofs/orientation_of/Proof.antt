@@ -1,0 +1,59 @@
+-- `plane::orientation_of` meets its contract: the one test decides between the value and number 3.
+-- Assumes nothing.
+use borrow.Author.Needs.{needs}
+use mathlib.Core.Path.{_≡_, sym, subst, _∙_, ap}
+use mathlib.Core.Bool.{Bool, true, not, cond, _&&_}
+use lib.IntN.{ℤ, natAbs}
+use mir.Syntax.{w64}
+use mir.Val.{SFits}
+use mir.ValLaws.{toZ-ofZ}
+use Prim.Native.Nat.{_≤_}
+use Rattle.integers.specs.Range.{bounded-fits}
+use Rattle.finite.specs.Tests.{of-true}
+use Rattle.model.specs.declared.Oriented.{Oriented}
+use Rattle.model.specs.declared.Refusal.{Refusal}
+use Rattle.model.specs.Refusals.{number, unless}
+use Rattle.model.specs.Answers.{oriented-answer}
+use Rattle.model.specs.Plane.{in-range, orientation, orientation-limit}
+use Rattle.model.specs.Arrival.{oriented}
+use Rattle.plane.proofs.Bounds.{points-near, orientation-bounded}
+use Rattle.plane.proofs.orientation_of.Statement.{statement}
+use Rattle.plane.proofs.orientation_of.Tie as tie
+
+all-in-range-requires : tie.Need-all-in-range-requires
+all-in-range-requires c κs = search needs
+
+-- what the test says where it passed
+ranged : (c : tie.Then1) → (in-range (c .before .before .args .a) && in-range (c .before .before .args .b) && in-range (c .before .before .args .c)) ≡ true
+ranged c = sym (c .before .all-in-range .ensures) ∙ c .if1 .taken
+
+turn-of-requires : tie.Need-turn-of-requires
+turn-of-requires c κs = of-true _ (ranged c)
+
+returns : tie.Need-returns
+unfolding oriented unless oriented-answer number
+returns c =
+    let s = c .before .before .before in
+    let bounded = orientation-bounded (s .args .a) (s .args .b) (s .args .c) (points-near (s .args .a) (s .args .b) (s .args .c) (of-true _ (ranged (c .before)))) in
+    let value = c .turn-of .ensures in
+    let back = toZ-ofZ w64 (c .turn-of .result) (subst (SFits w64) (sym value) (bounded-fits w64 tt bounded)) ∙ value in
+    let served = ap (λ (t : Bool). cond (not t) (Oriented.Refused Refusal.OutOfRange) (Oriented.Value (orientation (s .args .a) (s .args .b) (s .args .c)))) (ranged (c .before)) in
+    record {
+      answer = ap Oriented.Value back ∙ sym served;
+      number = sym (ap (λ (t : Bool). cond t 0 3) (ranged (c .before)));
+      within = subst (λ (z : ℤ). natAbs z ≤ orientation-limit) (sym back) (bounded .bound);
+    }
+
+returns-2 : tie.Need-returns-2
+unfolding oriented unless oriented-answer number
+returns-2 c =
+    let s = c .before .before in
+    let out = sym (c .before .all-in-range .ensures) ∙ c .if1 .left in
+    record {
+      answer = sym (ap (λ (t : Bool). cond (not t) (Oriented.Refused Refusal.OutOfRange) (Oriented.Value (orientation (s .args .a) (s .args .b) (s .args .c)))) out);
+      number = sym (ap (λ (t : Bool). cond t 0 3) out);
+      within = tt;
+    }
+
+pub orientation-of-spec : {M : Type 1} → statement M
+orientation-of-spec = tie.close (tie.spec all-in-range-requires turn-of-requires returns returns-2)

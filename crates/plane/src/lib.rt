@@ -1,0 +1,94 @@
+// The plane: the orientation of three points, and what is asked of points.
+
+use model::Oriented;
+use model::Point;
+use model::Refusal;
+ghost use mathlib.Core.Path.{_≡_};
+ghost use mathlib.Core.Bool.{_&&_};
+ghost use lib.Dec.{T};
+ghost use Rattle.model.specs.Plane.{at, coordinate-in-range, in-line, in-range, left-of, orientation, same-point, visible-from};
+ghost use Rattle.plane.specs.Turned.{Near, Turned};
+
+// Coordinates run from -LIMIT to LIMIT.
+pub const LIMIT: i64 = 1000000;
+
+// The orientation of three points: positive is a left turn. A coordinate out of range is refused.
+pub fn orientation_of(a: Point, b: Point, c: Point) -> Oriented
+    ensures { λ r. ⌜ Turned a b c r ⌝ }
+{
+    if all_in_range(a, b, c) {
+        Oriented::Value(turn_of(a, b, c))
+    } else {
+        Oriented::Refused(Refusal::OutOfRange)
+    }
+}
+
+fn all_in_range(a: Point, b: Point, c: Point) -> bool
+    ensures { λ r. ⌜ r ≡ (in-range a && in-range b && in-range c) ⌝ }
+{
+    in_range(a) && in_range(b) && in_range(c)
+}
+
+// Whether both coordinates of a point are in range.
+pub fn in_range(p: Point) -> bool
+    ensures { λ r. ⌜ r ≡ in-range p ⌝ }
+{
+    coordinate_in_range(p.x) && coordinate_in_range(p.y)
+}
+
+// Whether a coordinate is in range.
+pub fn coordinate_in_range(z: i64) -> bool
+    ensures { λ r. ⌜ r ≡ coordinate-in-range z ⌝ }
+{
+    -LIMIT <= z && z <= LIMIT
+}
+
+// Whether two points are equal.
+pub fn is_same(p: Point, q: Point) -> bool
+    ensures { λ r. ⌜ r ≡ same-point p q ⌝ }
+{
+    p.x == q.x && p.y == q.y
+}
+
+// Whether c is strictly left of the edge from a to b, for points that are in range.
+pub fn is_left_of(a: Point, b: Point, c: Point) -> bool
+    requires { ⌜ T (in-range a && in-range b && in-range c) ⌝ }
+    ensures { λ r. ⌜ r ≡ left-of a b c ⌝ }
+{
+    let z = turn_of(a, b, c);
+    0 < z
+}
+
+// Whether the edge from a to b is visible from c, for points that are in range.
+pub fn is_visible_from(a: Point, b: Point, c: Point) -> bool
+    requires { ⌜ T (in-range a && in-range b && in-range c) ⌝ }
+    ensures { λ r. ⌜ r ≡ visible-from a b c ⌝ }
+{
+    let z = turn_of(a, b, c);
+    z < 0
+}
+
+// Whether three points that are in range are in line.
+pub fn are_in_line(a: Point, b: Point, c: Point) -> bool
+    requires { ⌜ T (in-range a && in-range b && in-range c) ⌝ }
+    ensures { λ r. ⌜ r ≡ in-line a b c ⌝ }
+{
+    let z = turn_of(a, b, c);
+    z == 0
+}
+
+// The orientation of three points that are in range, for callers that know it.
+pub fn turn_of(a: Point, b: Point, c: Point) -> i64
+    requires { ⌜ T (in-range a && in-range b && in-range c) ⌝ }
+    ensures { λ r. ⌜ r ≡ orientation a b c ⌝ }
+{
+    turn(a.x, a.y, b.x, b.y, c.x, c.y)
+}
+
+// The orientation of three points by their coordinates, which are in range.
+pub fn turn(ax: i64, ay: i64, bx: i64, by: i64, cx: i64, cy: i64) -> i64
+    requires { ⌜ Near ax ay bx by cx cy ⌝ }
+    ensures { λ r. ⌜ r ≡ orientation (at ax ay) (at bx by) (at cx cy) ⌝ }
+{
+    (bx - ax) * (cy - ay) - (by - ay) * (cx - ax)
+}

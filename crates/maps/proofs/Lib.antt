@@ -1,0 +1,15 @@
+pub mod Loops
+pub mod Checked
+pub mod Darts
+pub mod Links
+pub mod Tables
+pub mod Circuits
+pub mod Outline
+pub mod Soundness
+pub mod Points
+pub mod Alone
+pub mod Splice
+pub mod Edges
+pub mod Spliced
+pub mod Pair
+pub mod Empty

@@ -1,0 +1,177 @@
+-- Loops that test one number after another and answer false at the first that fails:
+--     for k in first..stop { if !here(k) { return false; } } true
+-- In this order: what such a loop tests; its invariant, `Passed`, with the laws of its start, of a
+-- turn, of an early return and of its end; what tests every number below a bound, every element
+-- from a place on, and every place of a list. Then the same laws for loops that fill an array, and
+-- for loops round the corners of a ring. Assumes nothing.
+use mathlib.Core.Path.{_≡_, sym, ap, subst, _∙_}
+use mathlib.Core.Logic.{_≢_, ⊎-elim}
+use mathlib.Core.Bool.{Bool, true, false, not, cond, _&&_}
+use mathlib.Core.List.{List, []}
+use Prim.Native.Nat.{ℕ, suc, _+_, _-_, _≤_, _<_}
+use native.Mathlib.Nat.{zero-add, sub-zero}
+use native.Mathlib.Numerals.{add-one}
+use native.Mathlib.Omega.{arith}
+use borrow.Author.Tests.{not-true, not-false, eq-eqb, ne-eqb}
+use lib.Dec.{T, eqb}
+use lib.ListN.{length, getD, set, drop, length-drop, length-set}
+use lib.Seq.{getD-drop, getD-set-same, getD-set-other, ext-getD}
+use Rattle.finite.specs.Tests.{is-true, is-false, of-true}
+use Rattle.finite.specs.Bounded.{all, table, all-at, all-by, below-suc, length-table, getD-table}
+use Rattle.finite.specs.Lists.{all-in, all-places, ring, getD-any}
+use Rattle.finite.specs.Lists.{all-in-at, all-in-by, all-places-at, all-places-by}
+
+-- what `if !r { return false; }` tells, where the code found r for the test t
+pub passes : {r t : Bool} → r ≡ t → not r ≡ false → t ≡ true
+passes {r} e n = sym e ∙ not-false r n
+
+pub fails : {r t : Bool} → r ≡ t → not r ≡ true → t ≡ false
+fails {r} e n = sym e ∙ not-true r n
+
+-- where the code reads `if r { return false; }`, and the test is that r fails
+pub not-twice : {r b : Bool} → r ≡ b → not (not r) ≡ not (not b)
+not-twice e = ap (λ (t : Bool). not (not t)) e
+
+-- the answer is true just where the test passes at every number from `first` on below `stop`
+pub record Tests (answer : Bool) (here : ℕ → Bool) (first stop : ℕ) : Type 0 where
+  pub each : T answer → (k : ℕ) → first ≤ k → k < stop → T (here k)
+  pub whole : ((k : ℕ) → first ≤ k → k < stop → T (here k)) → T answer
+
+-- the loop has come to k
+pub record Passed (here : ℕ → Bool) (first k : ℕ) : Type 0 where
+  pub from : first ≤ k
+  pub so-far : (j : ℕ) → first ≤ j → j < k → T (here j)
+
+pub none-passed : (here : ℕ → Bool) (first : ℕ) → Passed here first first
+none-passed here first = record { from = omega arith; so-far = λ j h l. absurd (omega arith) }
+
+-- a turn at k, in which the code found r for the test there
+pub record Turn (here : ℕ → Bool) (first k : ℕ) (r : Bool) : Type 0 where
+  pub passed : Passed here first k
+  pub found : r ≡ here k
+
+module _ {here : ℕ → Bool} {first k : ℕ} {r : Bool} (t : Turn here first k r) where
+  pub one-passed : not r ≡ false → Passed here first (k + 1)
+  one-passed n =
+      record {
+        from = omega (arith, t .passed .from);
+        so-far =
+            λ j h l.
+            ⊎-elim (t .passed .so-far j h)
+            (λ (s : j ≡ k). subst (λ (i : ℕ). T (here i)) (sym s) (of-true (here k) (passes (t .found) n)))
+            (below-suc k j (subst (λ (i : ℕ). j < i) (add-one k) l));
+      }
+
+  pub one-failed : {answer : Bool} {stop : ℕ} → Tests answer here first stop → k < stop → not r ≡ true →
+      false ≡ answer
+  one-failed {answer} all-of l n =
+      sym (is-false answer (λ a. subst T (fails (t .found) n) (all-of .each a k (t .passed .from) l)))
+
+pub all-passed : {answer : Bool} {here : ℕ → Bool} {first stop k : ℕ} → Tests answer here first stop →
+    Passed here first k → stop ≤ k → true ≡ answer
+all-passed {answer} all-of p l = sym (is-true answer (all-of .whole (λ j h b. p .so-far j h (omega arith))))
+
+-- ---- what is tested
+
+pub below : (n : ℕ) (p : ℕ → Bool) → Tests (all n p) p 0 n
+below n p = record { each = λ t k h l. all-at n p t k l; whole = λ f. all-by n p (λ k l. f k (omega arith) l) }
+
+module _ {A : Type 0} (s : List A) (n : ℕ) (d : A) where
+  pub from-on : (p : A → Bool) → Tests (all-in p (drop n s)) (λ k. p (getD s k d)) n (length s)
+  from-on p =
+      record {
+        each =
+            λ t k h l.
+            let e : n + (k - n) ≡ k = omega arith in
+            subst (λ (a : A). T (p a)) (getD-drop n s (k - n) d ∙ ap (λ (j : ℕ). getD s j d) e)
+            (all-in-at p (drop n s) t (k - n) d (omega (arith, length-drop n s)));
+        whole =
+            λ f.
+            all-in-by p (drop n s) d
+            (λ i l.
+            subst (λ (a : A). T (p a)) (sym (getD-drop n s i d))
+            (f (n + i) (omega arith) (omega (arith, length-drop n s))));
+      }
+
+-- past a list stands what the place says
+module _ {A : Type 0} (s : List A) (past : ℕ → A) where
+  pub places : (p : ℕ → A → Bool) → Tests (all-places p 0 s) (λ k. p k (getD s k (past k))) 0 (length s)
+  places p =
+      record {
+        each =
+            λ t k h l.
+            subst (λ (j : ℕ). T (p j (getD s k (past k)))) (zero-add k) (all-places-at p 0 s t k (past k) l);
+        whole =
+            λ f.
+            all-places-by p 0 s (past 0)
+            (λ k l.
+            subst (λ (a : A). T (p (0 + k) a)) (getD-any s k (past k) (past 0) l)
+            (subst (λ (j : ℕ). T (p j (getD s k (past k)))) (sym (zero-add k)) (f k (omega arith) l)));
+      }
+
+-- ---- loops that fill an array
+
+-- the places of s before k hold what f says, of n in all
+pub record Filled {A : Type 0} (f : ℕ → A) (d : A) (n k : ℕ) (s : List A) : Type 0 where
+  pub whole : length s ≡ n
+  pub so-far : (j : ℕ) → j < k → getD s j d ≡ f j
+
+module _ {A : Type 0} {f : ℕ → A} {d : A} {n : ℕ} {s : List A} where
+  pub none-filled : length s ≡ n → Filled f d n 0 s
+  none-filled e = record { whole = e; so-far = λ j l. absurd (omega arith) }
+
+  pub one-filled : (k : ℕ) → Filled f d n k s → k < n → (v : A) → v ≡ f k → Filled f d n (k + 1) (set s k v)
+  one-filled k p l v e =
+      record {
+        whole = length-set s k v ∙ p .whole;
+        so-far =
+            λ j h.
+            ⊎-elim
+            (λ (b : j < k). getD-set-other s k j v d (λ (q : j ≡ k). omega arith) ∙ p .so-far j b)
+            (λ (q : j ≡ k). rw q (getD-set-same s k v d (omega (arith, p .whole)) ∙ e))
+            (below-suc k j (subst (λ (i : ℕ). j < i) (add-one k) h));
+      }
+
+  pub all-filled : (k : ℕ) → Filled f d n k s → n ≤ k → s ≡ table n f
+  all-filled k p l =
+      ext-getD d s (table n f) (p .whole ∙ sym (length-table n f))
+      (λ j b. p .so-far j (omega (arith, p .whole)) ∙ sym (getD-table n f j d (omega (arith, p .whole))))
+
+-- ---- loops round the corners of a ring
+
+-- k of at most n corners have passed, and what is still to be tested, from corner a on, decides the answer
+pub record Round (p : ℕ → Bool) (f : ℕ → ℕ) (start n k a : ℕ) (answer : Bool) : Type 0 where
+  pub rest : all-in p (ring f start (n - k) a) ≡ answer
+
+pub round-begun : {p : ℕ → Bool} {f : ℕ → ℕ} {start n a : ℕ} {answer : Bool} →
+    all-in p (ring f start n a) ≡ answer → Round p f start n 0 a answer
+round-begun e = record { rest = rw sub-zero e }
+
+-- a turn at corner a, in which the code found r for the test there, and b for the next corner
+pub record Corner (p : ℕ → Bool) (f : ℕ → ℕ) (start n k a : ℕ) (answer r : Bool) (b : ℕ) : Type 0 where
+  pub round : Round p f start n k a answer
+  pub within : k < n
+  pub found : r ≡ p a
+  pub led : b ≡ f a
+
+module _ {p : ℕ → Bool} {f : ℕ → ℕ} {start n k a b : ℕ} {answer r : Bool} (c : Corner p f start n k a answer r b) where
+  decides : (r && all-in p (cond (eqb b start) [] (ring f start (n - (k + 1)) b))) ≡ answer
+  unfolding all-in ring
+  decides =
+      let e : n - k ≡ suc (n - (k + 1)) = omega (arith, c .within) in
+      rw (c .found, c .led) (rw e at (c .round .rest))
+
+  pub corner-failed : not r ≡ true → false ≡ answer
+  corner-failed t = rw (not-true r t) at decides
+
+  pub came-round : not r ≡ false → b ≡ start → true ≡ answer
+  unfolding all-in
+  came-round t e = rw (not-false r t, eq-eqb b start e) at decides
+
+  pub corner-passed : not r ≡ false → b ≢ start → Round p f start n (k + 1) b answer
+  corner-passed t e = record { rest = rw (not-false r t, ne-eqb b start e) at decides }
+
+pub all-round : {p : ℕ → Bool} {f : ℕ → ℕ} {start n k a : ℕ} {answer : Bool} →
+    Round p f start n k a answer → n ≤ k → true ≡ answer
+unfolding all-in ring
+all-round {n} {k} w l = let e : n - k ≡ 0 = omega arith in rw e at (w .rest)

@@ -1,0 +1,56 @@
+-- How a sound map is put together from its points, its links and a circuit: a map with a circuit that
+-- begins with the reference's point, on which every closed part lies, and whose edges have all other
+-- points strictly left, is sound; so is one with fewer than two points, no helper and no reference.
+-- Assumes nothing.
+use mathlib.Core.Path.{_≡_}
+use mathlib.Core.List.{List}
+use Prim.Native.Nat.{ℕ, _≤_, _<_}
+use native.Mathlib.Omega.{arith}
+use lib.Dec.{T}
+use Rattle.finite.specs.Lists.{elem}
+use Rattle.orbits.proofs.ClosedWalks.{ClosedPart, OneClosed, one-closed-by}
+use Rattle.model.specs.declared.Map.{Map}
+use Rattle.model.specs.Maps.{owner, is-own, is-present, edge-link, point-link, dart-bound}
+use Rattle.model.specs.Outline.{outline}
+use Rattle.model.specs.Sound.{SoundPoints, SoundLinks, AllLeft, Bare, Sound}
+use Rattle.maps.proofs.Links.{Linked, DartOf, links-two-way}
+use Rattle.maps.proofs.Circuits.{Circuit, circuit-dart, circuit-reach, circuit-closed, circuit-closed-part}
+
+pub links-linked : {m : Map} → SoundLinks m → Linked m
+links-linked l = record { present = l .present; undone = l .undone }
+
+-- fewer than two points
+pub sound-without-outline : {m : Map} → SoundPoints m → SoundLinks m → m .count < 2 → Bare m → Sound m
+sound-without-outline p l few bare =
+    record { points = p; links = l; outlined = λ two. absurd (omega arith); bare = λ h. bare }
+
+-- two points or more: the circuit is the outline
+pub sound-with-outline : {m : Map} → SoundPoints m → SoundLinks m → 2 ≤ m .count → (s : List ℕ) → Circuit m s →
+    outline m ≡ s → T (is-own (m .reference)) → T (elem (owner (m .reference)) s) →
+    ((d : ℕ) → DartOf m d → ClosedPart (edge-link m) (point-link m) d → T (elem (owner d) s)) → AllLeft m s → Sound m
+sound-with-outline {m} p l two s c e own-dart first every left =
+    record {
+      points = p;
+      links = l;
+      outlined =
+          λ h.
+          record {
+            one-walk = one-closed-by (links-two-way linked) one;
+            reference-own = own-dart;
+            reference-present = circuit-dart c (m .reference) first .is-present;
+            reference-closed = circuit-closed linked c (m .reference) first;
+            left = rw e left;
+          };
+      bare = λ few. absurd (omega arith);
+    }
+  where
+    linked : Linked m
+    linked = links-linked l
+
+    one : OneClosed (dart-bound m) (is-present m) (edge-link m) (point-link m) (m .reference)
+    one =
+        record {
+          dart = circuit-dart c (m .reference) first;
+          closed = circuit-closed-part linked c (m .reference) first;
+          every = λ d h o. circuit-reach linked c (m .reference) d first (every d h o);
+        }

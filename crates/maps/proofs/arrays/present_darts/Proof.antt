@@ -1,0 +1,55 @@
+-- `maps::arrays::present_darts` meets its contract: the loop fills every place with whether its dart is present.
+-- Assumes nothing.
+use borrow.Author.Needs.{needs}
+use mathlib.Core.Bool.{false}
+use Prim.Native.Nat.{_-_}
+use native.Mathlib.Omega.{arith}
+use lib.ListN.{length-replicate}
+use Rattle.orbits.specs.Sets.{dart-limit}
+use Rattle.maps.specs.Arrays.{present-at}
+use Rattle.maps.proofs.Loops.{Filled, none-filled, one-filled, all-filled}
+use Rattle.maps.proofs.arrays.present_darts.Statement.{statement}
+use Rattle.maps.proofs.arrays.present_darts.Tie as tie
+
+abbrev Inv-loop : tie.InvT-loop
+Inv-loop helpers count present₀ d₀ present d = Filled (present-at helpers count) false dart-limit d present
+
+abbrev μ-loop : tie.MeasureT-loop
+μ-loop helpers count present₀ d₀ present d = dart-limit - d
+
+loop-holds : tie.Need-loop-holds Inv-loop μ-loop
+loop-holds c = none-filled (length-replicate dart-limit false)
+
+is-present-requires : tie.Need-is-present-requires Inv-loop μ-loop
+is-present-requires c κs = search needs
+
+array-write-present : tie.Need-array-write-present Inv-loop μ-loop
+array-write-present c = omega arith
+
+add-d : tie.Need-add-d Inv-loop μ-loop
+add-d c = omega arith
+
+loop-less : tie.Need-loop-less Inv-loop μ-loop
+loop-less c = omega arith
+
+loop-again : tie.Need-loop-again Inv-loop μ-loop
+loop-again c =
+    let s = c .before .before .loop in
+    one-filled (s .d) (s .inv) (omega arith) (c .is-present .result) (c .is-present .ensures)
+
+returns : tie.Need-returns Inv-loop μ-loop
+returns c = all-filled (c .before .loop .d) (c .before .loop .inv) (omega arith)
+
+pub present-darts-spec : {M : Type 1} → statement M
+present-darts-spec =
+    tie.close
+    (tie.spec
+    Inv-loop
+    μ-loop
+    loop-holds
+    is-present-requires
+    array-write-present
+    add-d
+    loop-less
+    loop-again
+    returns)

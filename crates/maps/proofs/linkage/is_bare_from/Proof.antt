@@ -1,0 +1,68 @@
+-- `maps::linkage::is_bare_from` meets its contract: the loop tests every place from n on.
+-- Assumes nothing.
+use borrow.Author.Needs.{needs}
+use mathlib.Core.Path.{ap}
+use mathlib.Core.Bool.{Bool, false, not}
+use mathlib.Core.List.{List}
+use Prim.Native.Nat.{ℕ, _-_}
+use native.Mathlib.Omega.{arith}
+use lib.ListN.{length}
+use Rattle.maps.specs.Arrays.{helper-at}
+use Rattle.maps.proofs.Loops.{Passed, Turn, none-passed, one-passed, one-failed, all-passed}
+use Rattle.maps.proofs.Loops.{from-on, not-twice}
+use Rattle.maps.proofs.linkage.is_bare_from.Statement.{statement}
+use Rattle.maps.proofs.linkage.is_bare_from.Tie as tie
+
+abbrev here : List Bool → ℕ → Bool
+here helpers k = not (helper-at helpers k)
+
+abbrev Inv-loop : tie.InvT-loop
+Inv-loop helpers n k₀ k-end k = Passed (here helpers) n k
+
+abbrev μ-loop : tie.MeasureT-loop
+μ-loop helpers n k₀ k-end k = length helpers - k
+
+loop-holds : tie.Need-loop-holds Inv-loop μ-loop
+loop-holds c = none-passed _ (c .before .args .n)
+
+has-helper-requires : tie.Need-has-helper-requires Inv-loop μ-loop
+has-helper-requires c κs = search needs
+
+module _ (c : tie.After-has-helper Inv-loop μ-loop) where
+  abbrev head : tie.At-loop Inv-loop μ-loop
+  head = c .before .before
+
+  abbrev start : tie.Start Inv-loop μ-loop
+  start = head .before .before
+
+  turn : Turn (here (start .args .helpers .now)) (start .args .n) (head .loop .k) (not (c .has-helper .result))
+  turn = record { passed = head .loop .inv; found = ap not (c .has-helper .ensures) }
+
+returns : tie.Need-returns Inv-loop μ-loop
+returns c = one-failed (turn (c .before)) (from-on _ _ false not) (omega arith) (not-twice (c .if1 .taken))
+
+add-k : tie.Need-add-k Inv-loop μ-loop
+add-k c = omega arith
+
+loop-less : tie.Need-loop-less Inv-loop μ-loop
+loop-less c = omega arith
+
+loop-again : tie.Need-loop-again Inv-loop μ-loop
+loop-again c = one-passed (turn (c .before)) (not-twice (c .if1 .left))
+
+returns-2 : tie.Need-returns-2 Inv-loop μ-loop
+returns-2 c = all-passed (from-on _ _ false not) (c .before .loop .inv) (omega arith)
+
+pub is-bare-from-spec : {M : Type 1} → statement M
+is-bare-from-spec =
+    tie.close
+    (tie.spec
+    Inv-loop
+    μ-loop
+    loop-holds
+    has-helper-requires
+    returns
+    add-k
+    loop-less
+    loop-again
+    returns-2)

@@ -1,0 +1,77 @@
+-- `maps::linkage::links_undo` meets its contract: the loop tests every dart below the bound.
+-- Assumes nothing.
+use borrow.Author.Needs.{needs}
+use mathlib.Core.Bool.{Bool, _&&_}
+use lib.Dec.{eqb}
+use Rattle.finite.specs.Tests.{_⇒_}
+use Rattle.model.specs.Maps.{is-present, edge-link, has-helper, dart-bound}
+use Rattle.model.specs.Sound.{links-undo}
+use Prim.Native.Nat.{ℕ, _-_}
+use native.Mathlib.Omega.{arith}
+use Rattle.model.specs.declared.Map.{Map}
+use Rattle.maps.proofs.Loops.{Tests, Passed, Turn, none-passed, one-passed, one-failed, all-passed, below}
+use Rattle.maps.proofs.linkage.links_undo.Statement.{statement}
+use Rattle.maps.proofs.linkage.links_undo.Tie as tie
+
+abbrev here : Map → ℕ → Bool
+here m d = is-present m d ⇒ (is-present m (edge-link m d) && eqb (edge-link m (edge-link m d)) d)
+
+tests : (m : Map) → Tests (links-undo m) (here m) 0 (dart-bound m)
+unfolding links-undo
+tests m = below (dart-bound m) (here m)
+
+abbrev Inv-loop : tie.InvT-loop
+Inv-loop m n d₀ d-end d = Passed (here m) 0 d
+
+abbrev μ-loop : tie.MeasureT-loop
+μ-loop m n d₀ d-end d = d-end - d
+
+mul-d-end : tie.Need-mul-d-end Inv-loop μ-loop
+mul-d-end c = omega arith
+
+loop-holds : tie.Need-loop-holds Inv-loop μ-loop
+loop-holds c = none-passed _ 0
+
+link-undoes-requires : tie.Need-link-undoes-requires Inv-loop μ-loop
+link-undoes-requires c κs = search needs
+
+module _ (c : tie.After-link-undoes Inv-loop μ-loop) where
+  abbrev head : tie.At-loop Inv-loop μ-loop
+  head = c .before .before .before .before .before .before .before
+
+  abbrev map : Map
+  map = head .before .args .t1
+
+  turn : Turn (here map) 0 (head .loop .d) (c .link-undoes .result)
+  unfolding is-present edge-link has-helper
+  turn = record { passed = head .loop .inv; found = c .link-undoes .ensures }
+
+returns : tie.Need-returns Inv-loop μ-loop
+returns c = one-failed (turn (c .before)) (tests (map (c .before))) (omega arith) (c .if1 .taken)
+
+add-d : tie.Need-add-d Inv-loop μ-loop
+add-d c = omega arith
+
+loop-less : tie.Need-loop-less Inv-loop μ-loop
+loop-less c = omega arith
+
+loop-again : tie.Need-loop-again Inv-loop μ-loop
+loop-again c = one-passed (turn (c .before)) (c .if1 .left)
+
+returns-2 : tie.Need-returns-2 Inv-loop μ-loop
+returns-2 c = all-passed (tests (c .before .before .args .t1)) (c .before .loop .inv) (omega arith)
+
+pub links-undo-spec : {M : Type 1} → statement M
+links-undo-spec =
+    tie.close
+    (tie.spec
+    Inv-loop
+    μ-loop
+    mul-d-end
+    loop-holds
+    link-undoes-requires
+    returns
+    add-d
+    loop-less
+    loop-again
+    returns-2)

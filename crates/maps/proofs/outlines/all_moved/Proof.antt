@@ -1,0 +1,62 @@
+-- `maps::outlines::all_moved` meets its contract: the loop tests every dart.
+-- Assumes nothing.
+use borrow.Author.Needs.{needs}
+use Prim.Native.Nat.{_-_}
+use native.Mathlib.Omega.{arith}
+use Rattle.orbits.specs.Sets.{dart-limit}
+use Rattle.maps.specs.Arrays.{moved-at}
+use Rattle.maps.proofs.Loops.{Passed, Turn, none-passed, one-passed, one-failed, all-passed, below}
+use Rattle.maps.proofs.outlines.all_moved.Statement.{statement}
+use Rattle.maps.proofs.outlines.all_moved.Tie as tie
+
+abbrev Inv-loop : tie.InvT-loop
+Inv-loop darts edge point e₀ e = Passed (moved-at darts edge point) 0 e
+
+abbrev μ-loop : tie.MeasureT-loop
+μ-loop darts edge point e₀ e = dart-limit - e
+
+loop-holds : tie.Need-loop-holds Inv-loop μ-loop
+loop-holds c = none-passed _ 0
+
+is-outside-or-moved-requires : tie.Need-is-outside-or-moved-requires Inv-loop μ-loop
+is-outside-or-moved-requires c κs = search needs
+
+module _ (c : tie.After-is-outside-or-moved Inv-loop μ-loop) where
+  abbrev head : tie.At-loop Inv-loop μ-loop
+  head = c .before .before
+
+  abbrev start : tie.Start Inv-loop μ-loop
+  start = head .before .before .before
+
+  turn : Turn (moved-at (start .args .darts) (start .args .edge .now) (start .args .point .now)) 0
+      (head .loop .e) (c .is-outside-or-moved .result)
+  turn = record { passed = head .loop .inv; found = c .is-outside-or-moved .ensures }
+
+returns : tie.Need-returns Inv-loop μ-loop
+returns c = one-failed (turn (c .before)) (below dart-limit _) (omega arith) (c .if1 .taken)
+
+add-e : tie.Need-add-e Inv-loop μ-loop
+add-e c = omega arith
+
+loop-less : tie.Need-loop-less Inv-loop μ-loop
+loop-less c = omega arith
+
+loop-again : tie.Need-loop-again Inv-loop μ-loop
+loop-again c = one-passed (turn (c .before)) (c .if1 .left)
+
+returns-2 : tie.Need-returns-2 Inv-loop μ-loop
+returns-2 c = all-passed (below dart-limit _) (c .before .loop .inv) (omega arith)
+
+pub all-moved-spec : {M : Type 1} → statement M
+all-moved-spec =
+    tie.close
+    (tie.spec
+    Inv-loop
+    μ-loop
+    loop-holds
+    is-outside-or-moved-requires
+    returns
+    add-e
+    loop-less
+    loop-again
+    returns-2)

@@ -1,0 +1,82 @@
+-- `maps::positions::is_new` meets its contract: the loop tests every point before the n-th.
+-- Assumes nothing.
+use borrow.Author.Needs.{needs}
+use mathlib.Core.Path.{ap, _∙_}
+use mathlib.Core.Bool.{Bool, not}
+use mathlib.Core.List.{List}
+use Prim.Native.Nat.{ℕ, _-_}
+use native.Mathlib.Omega.{arith}
+use lib.IntN.{ℤ}
+use Rattle.model.specs.declared.Point.{Point}
+use Rattle.model.specs.Plane.{same-point}
+use Rattle.maps.specs.Arrays.{point-at}
+use Rattle.maps.proofs.Loops.{Passed, Turn, none-passed, one-passed, one-failed, all-passed}
+use Rattle.maps.proofs.Loops.{below, not-twice}
+use Rattle.maps.proofs.positions.is_new.Statement.{statement}
+use Rattle.maps.proofs.positions.is_new.Tie as tie
+
+abbrev here : List ℤ → List ℤ → Point → ℕ → Bool
+here xs ys p j = not (same-point (point-at xs ys j) p)
+
+abbrev Inv-loop : tie.InvT-loop
+Inv-loop xs ys n p j₀ j = Passed (here xs ys p) 0 j
+
+abbrev μ-loop : tie.MeasureT-loop
+μ-loop xs ys n p j₀ j = n - j
+
+loop-holds : tie.Need-loop-holds Inv-loop μ-loop
+loop-holds c = none-passed _ 0
+
+point-at-requires : tie.Need-point-at-requires Inv-loop μ-loop
+point-at-requires c κs = search needs
+
+is-same-requires : tie.Need-is-same-requires Inv-loop μ-loop
+is-same-requires c κs = search needs
+
+module _ (c : tie.After-is-same Inv-loop μ-loop) where
+  abbrev head : tie.At-loop Inv-loop μ-loop
+  head = c .before .before .before
+
+  abbrev start : tie.Start Inv-loop μ-loop
+  start = head .before
+
+  turn : Turn (here (start .args .xs .now) (start .args .ys .now) (start .args .p)) 0 (head .loop .j)
+      (not (c .is-same .result))
+  turn =
+      record {
+        passed = head .loop .inv;
+        found =
+            ap not
+            (c .is-same .ensures ∙ ap (λ (q : Point). same-point q (start .args .p)) (c .before .point-at .ensures));
+      }
+
+returns : tie.Need-returns Inv-loop μ-loop
+returns c =
+    one-failed (turn (c .before)) (below (start (c .before) .args .n) _) (omega arith) (not-twice (c .if1 .taken))
+
+add-j : tie.Need-add-j Inv-loop μ-loop
+add-j c = omega arith
+
+loop-less : tie.Need-loop-less Inv-loop μ-loop
+loop-less c = omega arith
+
+loop-again : tie.Need-loop-again Inv-loop μ-loop
+loop-again c = one-passed (turn (c .before)) (not-twice (c .if1 .left))
+
+returns-2 : tie.Need-returns-2 Inv-loop μ-loop
+returns-2 c = all-passed (below (c .before .before .args .n) _) (c .before .loop .inv) (omega arith)
+
+pub is-new-spec : {M : Type 1} → statement M
+is-new-spec =
+    tie.close
+    (tie.spec
+    Inv-loop
+    μ-loop
+    loop-holds
+    point-at-requires
+    is-same-requires
+    returns
+    add-j
+    loop-less
+    loop-again
+    returns-2)

@@ -1,0 +1,73 @@
+-- `maps::positions::points_differ` meets its contract: the loop tests every point.
+-- Assumes nothing.
+use borrow.Author.Needs.{needs}
+use mathlib.Core.Bool.{Bool, not}
+use Rattle.finite.specs.Bounded.{all}
+use Rattle.model.specs.Plane.{same-point}
+use Rattle.model.specs.Maps.{point}
+use Rattle.model.specs.Sound.{points-differ}
+use Prim.Native.Nat.{ℕ, _-_}
+use native.Mathlib.Omega.{arith}
+use Rattle.model.specs.declared.Map.{Map}
+use Rattle.maps.proofs.Loops.{Tests, Passed, Turn, none-passed, one-passed, one-failed, all-passed, below}
+use Rattle.maps.proofs.positions.points_differ.Statement.{statement}
+use Rattle.maps.proofs.positions.points_differ.Tie as tie
+
+abbrev here : Map → ℕ → Bool
+here m k = all k (λ j. not (same-point (point m j) (point m k)))
+
+tests : (m : Map) → Tests (points-differ m) (here m) 0 (m .count)
+unfolding points-differ
+tests m = below (m .count) (here m)
+
+abbrev Inv-loop : tie.InvT-loop
+Inv-loop m n k₀ k = Passed (here m) 0 k
+
+abbrev μ-loop : tie.MeasureT-loop
+μ-loop m n k₀ k = n - k
+
+loop-holds : tie.Need-loop-holds Inv-loop μ-loop
+loop-holds c = none-passed _ 0
+
+is-first-requires : tie.Need-is-first-requires Inv-loop μ-loop
+is-first-requires c κs = search needs
+
+module _ (c : tie.After-is-first Inv-loop μ-loop) where
+  abbrev head : tie.At-loop Inv-loop μ-loop
+  head = c .before .before .before .before .before .before .before
+
+  abbrev map : Map
+  map = head .before .args .t1
+
+  turn : Turn (here map) 0 (head .loop .k) (c .is-first .result)
+  unfolding point
+  turn = record { passed = head .loop .inv; found = c .is-first .ensures }
+
+returns : tie.Need-returns Inv-loop μ-loop
+returns c = one-failed (turn (c .before)) (tests (map (c .before))) (omega arith) (c .if1 .taken)
+
+add-k : tie.Need-add-k Inv-loop μ-loop
+add-k c = omega arith
+
+loop-less : tie.Need-loop-less Inv-loop μ-loop
+loop-less c = omega arith
+
+loop-again : tie.Need-loop-again Inv-loop μ-loop
+loop-again c = one-passed (turn (c .before)) (c .if1 .left)
+
+returns-2 : tie.Need-returns-2 Inv-loop μ-loop
+returns-2 c = all-passed (tests (c .before .before .args .t1)) (c .before .loop .inv) (omega arith)
+
+pub points-differ-spec : {M : Type 1} → statement M
+points-differ-spec =
+    tie.close
+    (tie.spec
+    Inv-loop
+    μ-loop
+    loop-holds
+    is-first-requires
+    returns
+    add-k
+    loop-less
+    loop-again
+    returns-2)

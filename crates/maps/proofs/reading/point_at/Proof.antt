@@ -1,0 +1,25 @@
+-- `maps::reading::point_at` meets its contract: each coordinate is read back from its bits.
+-- Assumes nothing.
+use borrow.Author.Needs.{needs}
+use mathlib.Core.Path.{_∙_}
+use mir.Syntax.{w64}
+use mir.ValLaws.{toZ-ofZ}
+use Rattle.maps.proofs.reading.point_at.Statement.{statement}
+use Rattle.maps.proofs.reading.point_at.Tie as tie
+
+coordinate-requires : tie.Need-coordinate-requires
+coordinate-requires c κs = search needs
+
+coordinate-requires-2 : tie.Need-coordinate-requires-2
+coordinate-requires-2 c κs = search needs
+
+returns : tie.Need-returns
+returns c =
+    let first = c .before .coordinate in
+    let second = c .coordinate2 in
+    let x = toZ-ofZ w64 (first .result) (record { sfits = first .ok }) ∙ first .ensures in
+    let y = toZ-ofZ w64 (second .result) (record { sfits = second .ok }) ∙ second .ensures in
+    λ i. record { x = x i; y = y i }
+
+pub point-at-spec : {M : Type 1} → statement M
+point-at-spec = tie.close (tie.spec coordinate-requires coordinate-requires-2 returns)

@@ -1,0 +1,32 @@
+-- `maps::reading::previous_corner` meets its contract: a number past the array is no corner, and stays.
+-- Assumes nothing.
+use borrow.Author.Needs.{needs}
+use mathlib.Core.Path.{_≡_, sym, _∙_, ap}
+use Prim.Native.Nat.{ℕ}
+use native.Mathlib.Omega.{arith}
+use lib.ListN.{getD, List·getD-eq-default}
+use Rattle.model.specs.Maps.{helper, owner}
+use Rattle.maps.proofs.reading.previous_corner.Statement.{statement}
+use Rattle.maps.proofs.reading.previous_corner.Tie as tie
+
+mul-edge-link : tie.Need-mul-edge-link
+mul-edge-link c = search needs
+
+add-edge-link : tie.Need-add-edge-link
+add-edge-link c = search needs
+
+edge-link-requires : tie.Need-edge-link-requires
+edge-link-requires c κs = search needs
+
+returns : tie.Need-returns
+returns c = search needs
+
+returns-2 : tie.Need-returns-2
+returns-2 c = let a = c .before .before .args .a in
+    let edge = c .before .before .args .edge .now in
+    let past : getD edge (helper a) (helper a) ≡ helper a = List·getD-eq-default edge (helper a) (omega arith) in
+    sym (ap (λ (d : ℕ). owner d) past ∙ omega arith)
+
+pub previous-corner-spec : {M : Type 1} → statement M
+previous-corner-spec =
+    tie.close (tie.spec mul-edge-link add-edge-link edge-link-requires returns returns-2)

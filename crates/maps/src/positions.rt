@@ -1,0 +1,104 @@
+// The tests of a sound map that are about its points.
+
+use super::reading::coordinate;
+use super::reading::point_at;
+use model::Map;
+use model::POINT_LIMIT;
+use model::Point;
+use plane::in_range;
+use plane::is_same;
+ghost use mathlib.Core.Path.{_≡_};
+ghost use lib.IntN.{pos};
+ghost use lib.ListN.{drop};
+ghost use Rattle.integers.specs.Order.{eqZ};
+ghost use Rattle.finite.specs.Lists.{all-in};
+ghost use Rattle.model.specs.Sound.{count-fits, places-clear, points-differ, points-in-range};
+ghost use Rattle.maps.specs.Arrays.{first-at, new-at};
+ghost use Rattle.maps.specs.Checks.{points-sound};
+
+// All of these tests.
+pub fn points_sound(m: Map) -> bool
+    ensures { λ r. ⌜ r ≡ points-sound m ⌝ }
+{
+    if !count_fits(m) {
+        return false;
+    }
+    if !points_in_range(m) {
+        return false;
+    }
+    if !points_differ(m) {
+        return false;
+    }
+    places_clear(m)
+}
+
+// Points are at most 512,
+fn count_fits(m: Map) -> bool
+    ensures { λ r. ⌜ r ≡ count-fits m ⌝ }
+{
+    m.count <= POINT_LIMIT
+}
+
+// in range,
+fn points_in_range(m: Map) -> bool
+    ensures { λ r. ⌜ r ≡ points-in-range m ⌝ }
+{
+    let n = m.count;
+    for k in 0..n {
+        if !in_range(point_at(&m.xs, &m.ys, k)) {
+            return false;
+        }
+    }
+    true
+}
+
+// and no two are equal.
+fn points_differ(m: Map) -> bool
+    ensures { λ r. ⌜ r ≡ points-differ m ⌝ }
+{
+    let n = m.count;
+    for k in 0..n {
+        if !is_first(&m.xs, &m.ys, k) {
+            return false;
+        }
+    }
+    true
+}
+
+// Whether no earlier point equals point k.
+fn is_first<'a>(xs: &'a [i64], ys: &'a [i64], k: usize) -> bool
+    ensures { λ r. ⌜ r ≡ first-at (now (xs .entry)) (now (ys .entry)) k ⌝ }
+{
+    is_new(xs, ys, k, point_at(xs, ys, k))
+}
+
+// Whether p is none of the first n points.
+pub fn is_new<'a>(xs: &'a [i64], ys: &'a [i64], n: usize, p: Point) -> bool
+    ensures { λ r. ⌜ r ≡ new-at (now (xs .entry)) (now (ys .entry)) n p ⌝ }
+{
+    for j in 0..n {
+        if is_same(point_at(xs, ys, j), p) {
+            return false;
+        }
+    }
+    true
+}
+
+// A place without a point holds 0, 0.
+fn places_clear(m: Map) -> bool
+    ensures { λ r. ⌜ r ≡ places-clear m ⌝ }
+{
+    let n = m.count;
+    is_zero_from(&m.xs, n) && is_zero_from(&m.ys, n)
+}
+
+fn is_zero_from(coordinates: &[i64], n: usize) -> bool
+    ensures { λ r. ⌜ r ≡ all-in (eqZ (pos 0)) (drop n (now (coordinates .entry))) ⌝ }
+{
+    for k in n..coordinates.len() {
+        if coordinate(coordinates, k) != 0 {
+            return false;
+        }
+    }
+    true
+}

@@ -1,0 +1,266 @@
+-- Demand 3 as one theorem: after every list of offers from the empty map all of its claims hold
+-- (`always-balanced`). What every offer keeps is the record `Kept`; from it follow the claims, by the
+-- laws of sound maps. In the order of this page: what is kept; the start; one accepted offer; one offer;
+-- the list; the claims. Assumes nothing.
+use mathlib.Core.Path.{_≡_, refl, sym, ap, subst, _∙_}
+use mathlib.Core.Logic.{_≢_, ⊎-elim}
+use mathlib.Core.Bool.{Bool, cond}
+use mathlib.Core.List.{List, [], _∷_, _++_, map, map-append}
+use Prim.Native.Nat.{ℕ, suc, _+_, _*_, _≤_, _<_}
+use native.Mathlib.Omega.{arith}
+use lib.Dec.{T, ltb, lt→ltb}
+use lib.ListN.{length}
+use Rattle.finite.specs.Tests.{is-true, same-or-not}
+use Rattle.finite.specs.Bounded.{one-if, table, table-onto, table-more, table-same, lt-or-ge}
+use Rattle.finite.specs.Lists.{elem, distinct, count-in, total, total-append}
+use Rattle.model.specs.declared.Point.{Point}
+use Rattle.model.specs.declared.Map.{Map}
+use Rattle.model.specs.declared.Offered.{Offered}
+use Rattle.model.specs.Maps.{point, empty-map}
+use Rattle.model.specs.Outline.{outline, sees, visible-edges}
+use Rattle.model.specs.Sound.{Sound}
+use Rattle.model.specs.Arrival.{with-point, alone, pair, spliced, arrive, offer}
+use Rattle.model.specs.History.{Entry, Run, is-accepted, extended, run-from, run, offered-point, reported, reported-edges, edges-seen, is-outside, outside-arrivals, Balanced}
+use Rattle.maps.proofs.Darts.{point-twice}
+use Rattle.maps.proofs.Links.{counts-balance}
+use Rattle.maps.proofs.Outline.{outline-circuit, corners-on-it}
+use Rattle.maps.proofs.Points.{point-new, point-old}
+use Rattle.maps.proofs.Empty.{empty-sound}
+use Rattle.maps.proofs.Alone.{alone-outline}
+use Rattle.maps.proofs.Pair.{pair-outline}
+use Rattle.hull.proofs.Outcomes.{Accepted, Comes, taken, turned-down, Arrives, first, second, inside, outside, arrive-arrives, arrival-accepted, offer-comes}
+use Rattle.hull.proofs.Arrivals.{arrival-sound, outside-balance}
+
+-- what the visible edges reported come to
+abbrev seen-in-all : List Entry → ℕ
+seen-in-all h = total (map reported-edges h)
+
+-- what every offer keeps
+record Kept (r : Run) : Type 0 where
+  is-sound : Sound (r .map)
+  same-points : map offered-point (r .history) ≡ table (r .map .count) (point (r .map))
+  reports : map reported-edges (r .history) ≡ map edges-seen (r .history)
+  few-seen : r .map .count < 2 → seen-in-all (r .history) ≡ 0
+  few-outside : r .map .count < 2 → outside-arrivals (r .history) ≡ 0
+  balance : 2 ≤ r .map .count →
+      seen-in-all (r .history) + length (outline (r .map)) ≡ 2 * outside-arrivals (r .history) + 2
+
+-- ---- the start
+
+kept-start : Kept (record { map = empty-map; history = [] })
+unfolding table table-onto total outside-arrivals count-in empty-map
+kept-start =
+    record {
+      is-sound = empty-sound;
+      same-points = refl;
+      reports = refl;
+      few-seen = λ h. refl;
+      few-outside = λ h. refl;
+      balance = λ h. absurd (omega arith);
+    }
+
+-- ---- one accepted offer
+
+-- the run with one entry more
+abbrev with-entry : Run → Point → Offered → Run
+with-entry r p o =
+    record {
+      map = o .map;
+      history = r .history ++ record { before = r .map; offered = p; arrival = o .arrival } ∷ [];
+    }
+
+-- what one entry more adds to the sums over the history
+outside-more : (h : List Entry) (e : Entry) →
+    outside-arrivals (h ++ e ∷ []) ≡ outside-arrivals h + one-if (is-outside (e .arrival))
+unfolding outside-arrivals count-in
+outside-more [] e = omega arith
+outside-more (x ∷ h) e = omega (arith, outside-more h e)
+
+seen-more : (h : List Entry) (e : Entry) → seen-in-all (h ++ e ∷ []) ≡ seen-in-all h + reported (e .arrival)
+unfolding total reported-edges
+seen-more h e =
+    omega (arith, ap total (map-append reported-edges h (e ∷ [])), total-append (map reported-edges h) (map reported-edges (e ∷ [])))
+
+-- the points of a map with one point more
+points-more : {m : Map} {p : Point} → Accepted m p → (helpers : List Bool) (edge : List ℕ) (reference : ℕ) →
+    table (suc (m .count)) (point (with-point m p helpers edge reference)) ≡ table (m .count) (point m) ++ p ∷ []
+points-more {m} {p} a helpers edge reference =
+    let new = with-point m p helpers edge reference in
+    table-more (m .count) (point new) ∙
+    (ap (λ (q : Point). table (m .count) (point new) ++ q ∷ []) (point-new (a .is-sound) (a .room) p helpers edge reference) ∙
+    ap (λ (s : List Point). s ++ p ∷ [])
+    (table-same (m .count) (point new) (point m)
+    (λ k h. point-old (a .is-sound) (a .room) p helpers edge reference k (omega arith))))
+
+-- what an arrival has to show, for the run with its entry to keep what is kept
+record Adds (m : Map) (p : Point) (o : Offered) : Type 0 where
+  is-sound : Sound (o .map)
+  counted : o .map .count ≡ suc (m .count)
+  points : table (o .map .count) (point (o .map)) ≡ table (m .count) (point m) ++ p ∷ []
+  reports : reported (o .arrival) ≡ visible-edges m p
+  first-adds : m .count ≡ 0 → (reported (o .arrival) ≡ 0) × (one-if (is-outside (o .arrival)) ≡ 0)
+  second-adds : m .count ≡ 1 →
+      (reported (o .arrival) ≡ 0) × (one-if (is-outside (o .arrival)) ≡ 0) × (length (outline (o .map)) ≡ 2)
+  later-adds : 2 ≤ m .count →
+      reported (o .arrival) + length (outline (o .map)) ≡ length (outline m) + 2 * one-if (is-outside (o .arrival))
+
+kept-more : (r : Run) → Kept r → (p : Point) (o : Offered) → Adds (r .map) p o → Kept (with-entry r p o)
+unfolding reported-edges edges-seen offered-point
+kept-more r k p o a =
+    let e : Entry = record { before = r .map; offered = p; arrival = o .arrival } in
+    let seen = seen-more (r .history) e in
+    let outs = outside-more (r .history) e in
+    record {
+      is-sound = a .is-sound;
+      same-points =
+          map-append offered-point (r .history) (e ∷ []) ∙ (ap (λ (s : List Point). s ++ p ∷ []) (k .same-points) ∙ sym (a .points));
+      reports =
+          map-append reported-edges (r .history) (e ∷ []) ∙
+          ((λ i. k .reports i ++ a .reports i ∷ []) ∙ sym (map-append edges-seen (r .history) (e ∷ [])));
+      few-seen =
+          λ few. let none : r .map .count ≡ 0 = omega (arith, a .counted) in
+          omega (arith, seen, k .few-seen (omega arith), a .first-adds none .0);
+      few-outside =
+          λ few. let none : r .map .count ≡ 0 = omega (arith, a .counted) in
+          omega (arith, outs, k .few-outside (omega arith), a .first-adds none .1);
+      balance =
+          λ two.
+          ⊎-elim
+          (λ (one : r .map .count ≡ 1).
+          let few : r .map .count < 2 = omega arith in
+          omega (arith, seen, outs, k .few-seen few, k .few-outside few, a .second-adds one .0, a .second-adds one .1, a .second-adds one .2))
+          (λ (more : r .map .count ≢ 1).
+          let later : 2 ≤ r .map .count = omega (arith, a .counted) in
+          omega (arith, seen, outs, k .balance later, a .later-adds later))
+          (same-or-not (r .map .count) 1);
+    }
+
+-- with fewer than two points there is no outline, and nothing is visible
+few-outline : (m : Map) → m .count < 2 → outline m ≡ []
+unfolding outline
+few-outline m few = rw (is-true (ltb (m .count) 2) (lt→ltb (m .count) 2 few)) refl
+
+few-visible : (m : Map) (p : Point) → m .count < 2 → visible-edges m p ≡ 0
+unfolding visible-edges count-in
+few-visible m p few = ap (count-in (sees m p)) (few-outline m few)
+
+-- each arrival adds what it has to
+arrival-adds : (m : Map) (p : Point) → Accepted m p → (o : Offered) → Arrives m p o → Adds m p o
+unfolding alone pair spliced with-point reported is-outside one-if
+arrival-adds m p a o (first none) =
+    record {
+      is-sound = arrival-sound m p a _ (first none);
+      counted = refl;
+      points = points-more a (m .helpers) (m .edge) (m .reference);
+      reports = sym (few-visible m p (omega arith));
+      first-adds = λ h. (refl, refl);
+      second-adds = λ h. absurd (omega arith);
+      later-adds = λ h. absurd (omega arith);
+    }
+arrival-adds m p a o (second one) =
+    record {
+      is-sound = arrival-sound m p a _ (second one);
+      counted = refl;
+      points = points-more a _ _ _;
+      reports = sym (few-visible m p (omega arith));
+      first-adds = λ h. (refl, refl);
+      second-adds = λ h. (refl, refl, ap length (pair-outline (a .is-sound) one p));
+      later-adds = λ h. absurd (omega arith);
+    }
+arrival-adds m p a o (inside two none) =
+    record {
+      is-sound = arrival-sound m p a _ (inside two none);
+      counted = refl;
+      points = points-more a (m .helpers) (m .edge) (m .reference);
+      reports = sym none;
+      first-adds = λ h. absurd (omega arith);
+      second-adds = λ h. absurd (omega arith);
+      later-adds = λ h. omega (arith, ap length (alone-outline (a .is-sound) p two));
+    }
+arrival-adds m p a o (outside two some) =
+    record {
+      is-sound = arrival-sound m p a _ (outside two some);
+      counted = refl;
+      points = points-more a _ _ _;
+      reports = refl;
+      first-adds = λ h. absurd (omega arith);
+      second-adds = λ h. absurd (omega arith);
+      later-adds = λ h. omega (arith, outside-balance a two some);
+    }
+
+-- ---- one offer
+
+-- the run after an offer that came to o
+abbrev after-offer : Run → Point → Offered → Run
+after-offer r p o =
+    record {
+      map = o .map;
+      history =
+          cond (is-accepted (o .arrival))
+          (r .history ++ record { before = r .map; offered = p; arrival = o .arrival } ∷ [])
+          (r .history);
+    }
+
+kept-arrival : (r : Run) → Kept r → (p : Point) → Accepted (r .map) p → (o : Offered) → Arrives (r .map) p o →
+    Kept (after-offer r p o)
+kept-arrival r k p a o arrives =
+    subst (λ (b : Bool). Kept (record { map = o .map; history = cond b (with-entry r p o .history) (r .history) }))
+    (sym (is-true (is-accepted (o .arrival)) (arrival-accepted (r .map) p o arrives)))
+    (kept-more r k p o (arrival-adds (r .map) p a o arrives))
+
+kept-offer : (r : Run) → Kept r → (p : Point) (o : Offered) → Comes (r .map) p o → Kept (after-offer r p o)
+unfolding is-accepted
+kept-offer r k p o (taken a) = kept-arrival r k p a (arrive (r .map) p) (arrive-arrives (r .map) p)
+kept-offer r k p o (turned-down refusal) = k
+
+kept-extended : (r : Run) → Kept r → (p : Point) → Kept (extended r p)
+unfolding extended
+kept-extended r k p = kept-offer r k p (offer (r .map) p) (offer-comes (r .map) p)
+
+-- ---- the list
+
+kept-from : (r : Run) → Kept r → (ps : List Point) → Kept (run-from r ps)
+unfolding run-from
+kept-from r k [] = k
+kept-from r k (p ∷ ps) = kept-from (extended r p) (kept-extended r k p) ps
+
+kept-run : (ps : List Point) → Kept (run ps)
+unfolding run
+kept-run ps = kept-from (record { map = empty-map; history = [] }) kept-start ps
+
+-- every list of offers from the empty map ends in a sound map
+pub run-sound : (ps : List Point) → Sound (run ps .map)
+run-sound ps = kept-run ps .is-sound
+
+-- ---- the claims
+
+kept-balanced : (r : Run) → Kept r → Balanced r
+unfolding elem distinct
+kept-balanced r k =
+    let s = k .is-sound in
+    record {
+      edge-undoes-itself = s .links .undone;
+      point-undoes-itself = point-twice (r .map);
+      same-points = k .same-points;
+      counts-balance = counts-balance s;
+      one-closed-walk = λ two. s .outlined two .one-walk;
+      outline-is-it = λ two. s .outlined two .reference-closed;
+      corners-on-it = λ two j h. corners-on-it s two j;
+      corners-once =
+          ⊎-elim
+          (λ (few : r .map .count < 2). subst (λ (t : List ℕ). T (distinct t)) (sym (few-outline (r .map) few)) tt)
+          (λ (two : 2 ≤ r .map .count). outline-circuit s two .once)
+          (lt-or-ge (r .map .count) 2);
+      others-strictly-left =
+          λ a c on.
+          ⊎-elim
+          (λ (few : r .map .count < 2). absurd (subst (λ (t : List ℕ). T (elem a t)) (few-outline (r .map) few) on))
+          (λ (two : 2 ≤ r .map .count). s .outlined two .left a c on)
+          (lt-or-ge (r .map .count) 2);
+      reports-right = k .reports;
+      arrivals-balance = k .balance;
+    }
+
+-- demand 3
+pub always-balanced : (ps : List Point) → Balanced (run ps)
+always-balanced ps = kept-balanced (run ps) (kept-run ps)

@@ -1,0 +1,177 @@
+-- The way round an outline on which a point looks for its left and its right corner and counts the
+-- edges that it sees, in the order of this page: a corner that is sought; the corners still ahead; the
+-- invariant; the laws of its start, of a corner passed and of the end.
+-- What is found and what is still ahead make up the answer together. So nothing has to be said of the
+-- corners that were passed. Assumes nothing.
+use mathlib.Core.Path.{_≡_, refl, sym, ap, subst, _∙_}
+use mathlib.Core.Logic.{_≢_}
+use mathlib.Core.Bool.{Bool, true, false, not, cond, _&&_, and-comm}
+use mathlib.Core.List.{List, [], _∷_}
+use Prim.Native.Nat.{ℕ, suc, _+_, _-_, _≤_, _<_}
+use native.Mathlib.Omega.{arith}
+use lib.Dec.{T}
+use borrow.Author.Tests.{le-ltb, eq-eqb, ne-eqb}
+use Rattle.finite.specs.Bounded.{one-if}
+use Rattle.finite.specs.Lists.{elem, count-in, first-in, ring}
+use Rattle.model.specs.declared.Point.{Point}
+use Rattle.model.specs.declared.Map.{Map}
+use Rattle.model.specs.Maps.{own, helper, owner, point, edge-link}
+use Rattle.model.specs.Outline.{next-corner, previous-corner, corners-from, outline, sees, visible-edges}
+use Rattle.model.specs.Sound.{Sound}
+use Rattle.model.specs.Arrival.{left-corner, right-corner}
+use Rattle.maps.proofs.Links.{sound-linked}
+use Rattle.maps.proofs.Circuits.{edge-next, edge-previous}
+use Rattle.maps.proofs.Outline.{outline-first, outline-next, outline-previous}
+use Rattle.hull.specs.declared.sight.Sought.{Sought}
+use Rattle.hull.specs.Asked.{Outlined, visible-at}
+use Rattle.hull.specs.Looking.{kept, seen}
+
+-- ---- a corner that is sought
+
+-- the corner sought if it is found, else the first ahead that passes
+abbrev settled : Sought → (ℕ → Bool) → List ℕ → ℕ
+settled s test ahead = cond (s .found) (s .corner) (first-in test (s .corner) ahead)
+
+kept-settles : (test : ℕ → Bool) (s : Sought) (before after : Bool) (a : ℕ) (ahead : List ℕ) →
+    test a ≡ (not before && after) → settled (kept s before after a) test ahead ≡ settled s test (a ∷ ahead)
+unfolding first-in
+kept-settles test s before after a ahead is = go (s .found) (not before && after) refl refl
+  where
+    go : (f t : Bool) → s .found ≡ f → (not before && after) ≡ t →
+        settled (kept s before after a) test ahead ≡ settled s test (a ∷ ahead)
+    go true t e d = rw e
+    go false true e d = rw (is, e, d)
+    go false false e d = rw (is, e, d)
+
+settled-end : (s : Sought) (test : ℕ → Bool) → settled s test [] ≡ s .corner
+unfolding first-in
+settled-end s test = go (s .found)
+  where
+    go : (f : Bool) → cond f (s .corner) (s .corner) ≡ s .corner
+    go true = refl
+    go false = refl
+
+-- ---- the corners ahead
+
+module _ (m : Map) where
+  -- from a on, at most so many
+  abbrev corners-ahead : ℕ → ℕ → List ℕ
+  corners-ahead ahead a = ring (next-corner m) (owner (m .reference)) ahead a
+
+  -- a corner, and then none, since the next one is the first ..
+  last-ahead : (ahead a : ℕ) → 0 < ahead → next-corner m a ≡ owner (m .reference) →
+      corners-ahead ahead a ≡ a ∷ corners-ahead 0 (next-corner m a)
+  unfolding ring
+  last-ahead (suc k) a h e = rw (eq-eqb (next-corner m a) (owner (m .reference)) e)
+
+  -- .. or then those from the next one on
+  more-ahead : (ahead a : ℕ) → 0 < ahead → next-corner m a ≢ owner (m .reference) →
+      corners-ahead ahead a ≡ a ∷ corners-ahead (ahead - 1) (next-corner m a)
+  unfolding ring
+  more-ahead (suc k) a h e =
+      let one-less : k ≡ suc k - 1 = omega arith in
+      rw (ne-eqb (next-corner m a) (owner (m .reference)) e)
+      (ap (λ (j : ℕ). a ∷ corners-ahead j (next-corner m a)) one-less)
+
+-- ---- the invariant
+
+module _ (m : Map) (p : Point) where
+  abbrev is-left : ℕ → Bool
+  is-left a = not (sees m p (previous-corner m a)) && sees m p a
+
+  abbrev is-right : ℕ → Bool
+  is-right a = sees m p (previous-corner m a) && not (sees m p a)
+
+  -- a is the first corner ahead, and `entering` says whether its entering edge is visible
+  pub record Underway (entering : Bool) (left right : Sought) (visible a ahead : ℕ) : Type 0 where
+    pub on : T (elem a (outline m))
+    pub few : visible + ahead ≤ m .count
+    pub entered : entering ≡ sees m p (previous-corner m a)
+    pub left-is : settled left is-left (corners-ahead m ahead a) ≡ left-corner m p
+    pub right-is : settled right is-right (corners-ahead m ahead a) ≡ right-corner m p
+    pub visible-is : visible + count-in (sees m p) (corners-ahead m ahead a) ≡ visible-edges m p
+
+  one-if-small : (b : Bool) → one-if b ≤ 1
+  unfolding one-if
+  one-if-small true = omega arith
+  one-if-small false = omega arith
+
+  -- what the code tests of an edge
+  leaves : {leaving : Bool} (a b : ℕ) → b ≡ next-corner m a →
+      leaving ≡ visible-at (m .xs) (m .ys) a b p → leaving ≡ sees m p a
+  unfolding sees point
+  leaves a b to e = rw to at e
+
+  module _ (o : Outlined m p) where
+    abbrev s : Sound m
+    s = o .is-sound
+
+    -- nothing is found at first, and all of the outline is ahead
+    pub at-first : {last : ℕ} {entering : Bool} → last ≡ previous-corner m (owner (m .reference)) →
+        entering ≡ visible-at (m .xs) (m .ys) last (owner (m .reference)) p →
+        Underway entering (record { corner = 0; found = false }) (record { corner = 0; found = false }) 0
+        (owner (m .reference)) (m .count)
+    unfolding outline corners-from left-corner right-corner visible-edges
+    at-first {last} {entering} from e =
+        let start = owner (m .reference) in
+        let first = outline-first s (o .two) in
+        let edge : edge-link m (own last) ≡ helper start =
+        rw from
+        (ap (edge-link m) (sym (outline-previous s (o .two) start first .0)) ∙ s .links .undone (helper start)) in
+        record {
+          on = first;
+          few = omega arith;
+          entered = leaves last start (sym (edge-next m last start edge)) e ∙ ap (sees m p) from;
+          left-is = rw (le-ltb (m .count) 2 (o .two));
+          right-is = rw (le-ltb (m .count) 2 (o .two));
+          visible-is = rw (le-ltb (m .count) 2 (o .two)) (omega arith);
+        }
+
+    module _ {entering leaving : Bool} {left right left′ right′ : Sought} {visible visible′ a b ahead : ℕ}
+        (u : Underway entering left right visible a ahead) (more : 0 < ahead)
+        (to : b ≡ next-corner m a) (edge : leaving ≡ visible-at (m .xs) (m .ys) a b p)
+        (l : left′ ≡ kept left entering leaving a) (r : right′ ≡ kept right leaving entering a)
+        (v : visible′ ≡ visible + one-if leaving) where
+      -- corner a is passed, and so many are ahead then
+      passed : (on : ℕ) → on < ahead → corners-ahead m ahead a ≡ a ∷ corners-ahead m on b →
+          Underway leaving left′ right′ visible′ b on
+      unfolding count-in
+      passed on h is =
+          let n = outline-next s (o .two) a (u .on) in
+          let e = leaves a b to edge in
+          record {
+            on = rw to (n .1);
+            few = omega (arith, u .few, one-if-small leaving);
+            entered = rw to (e ∙ ap (sees m p) (sym (edge-previous (sound-linked s) a (next-corner m a) (n .0))));
+            left-is =
+                rw l
+                (kept-settles is-left left entering leaving a (corners-ahead m on b) (rw (u .entered, e))
+                ∙ (ap (settled left is-left) (sym is) ∙ u .left-is));
+            right-is =
+                rw r
+                (kept-settles is-right right leaving entering a (corners-ahead m on b)
+                (rw (u .entered, e) (and-comm (sees m p (previous-corner m a)) (not (sees m p a))))
+                ∙ (ap (settled right is-right) (sym is) ∙ u .right-is));
+            visible-is = omega (arith, ap one-if e, ap (count-in (sees m p)) is, u .visible-is);
+          }
+
+      -- none, since the next corner is the first ..
+      pub passed-last : b ≡ owner (m .reference) → Underway leaving left′ right′ visible′ b 0
+      passed-last e = passed 0 more (rw to (last-ahead m ahead a more (sym to ∙ e)))
+
+      -- .. or one less
+      pub passed-one : b ≢ owner (m .reference) → Underway leaving left′ right′ visible′ b (ahead - 1)
+      passed-one n = passed (ahead - 1) (omega arith) (rw to (more-ahead m ahead a more (λ e. n (to ∙ e))))
+
+    -- none is ahead, and all is found
+    pub at-end : {entering : Bool} {left right : Sought} {visible a ahead : ℕ} →
+        Underway entering left right visible a ahead → ahead ≤ 0 →
+        record { left = left .corner; right = right .corner; visible = visible } ≡ seen m p
+    unfolding ring count-in
+    at-end {entering} {left} {right} {visible} {a} {ahead} u h =
+        let none : ahead ≡ 0 = omega arith in
+        let w = subst (Underway entering left right visible a) none u in
+        let l = sym (settled-end left is-left) ∙ w .left-is in
+        let r = sym (settled-end right is-right) ∙ w .right-is in
+        let v : visible ≡ visible-edges m p = omega (arith, w .visible-is) in
+        λ i. record { left = l i; right = r i; visible = v i }

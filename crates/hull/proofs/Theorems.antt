@@ -1,0 +1,62 @@
+-- What holds of offers and outlines, each under one name, in the order of this page: an offer keeps a
+-- map sound; the corners of an outside point; the links after an arrival; the outline is the hull.
+-- Demand 3 is proofs/History: `always-balanced`. The proofs are in the pages that are cited.
+-- Assumes nothing.
+use mathlib.Core.Path.{_≡_}
+use mathlib.Core.Logic.{_≢_, _↔_}
+use Prim.Native.Nat.{ℕ, _≤_}
+use lib.Dec.{T}
+use Rattle.finite.specs.Lists.{elem}
+use Rattle.model.specs.declared.Point.{Point}
+use Rattle.model.specs.declared.Map.{Map}
+use Rattle.model.specs.Maps.{point}
+use Rattle.model.specs.Outline.{next-corner, previous-corner, outline, sees, visible-edges}
+use Rattle.model.specs.Sound.{sound, Sound}
+use Rattle.model.specs.Arrival.{left-corner, right-corner, spliced, offer}
+use Rattle.model.proofs.Sound.{sound-holds, sound-by}
+use Rattle.plane.proofs.Convex.{some-hidden}
+use Rattle.plane.proofs.Corners.{Left-corner, Right-corner, left-corner-unique, right-corner-unique}
+use Rattle.plane.proofs.Hull.{Supports}
+use Rattle.plane.proofs.Hull as plane-hull
+use Rattle.maps.proofs.Outline.{outline-circuit}
+use Rattle.maps.proofs.Splice.{Splices}
+use Rattle.maps.proofs.Spliced.{spliced-splices}
+use Rattle.hull.proofs.Outcomes.{Accepted}
+use Rattle.hull.proofs.Arrivals.{sound-convex, offer-sound, left-is, right-is}
+
+-- ---- an offer keeps a map sound; a refused one gives the same map: Outcomes.`refused-keeps`
+
+pub sound-kept : (m : Map) (p : Point) → T (sound m) → T (sound (offer m p .map))
+sound-kept m p t = sound-by (offer m p .map) (offer-sound m p (sound-holds m t))
+
+-- ---- where an edge is visible there is one left corner and one right, and some edge is hidden
+
+module _ {m : Map} {p : Point} (a : Accepted m p) (two : 2 ≤ m .count) (some : visible-edges m p ≢ 0) where
+  pub left-corner-only : (c : ℕ) → Left-corner (previous-corner m) (sees m p) (outline m) c → c ≡ left-corner m p
+  unfolding sees
+  left-corner-only c l =
+      left-corner-unique (sound-convex (a .is-sound) two) p (a .clear) c (left-corner m p) l (left-is a two some)
+
+  pub right-corner-only : (c : ℕ) → Right-corner (previous-corner m) (sees m p) (outline m) c → c ≡ right-corner m p
+  unfolding sees
+  right-corner-only c r =
+      right-corner-unique (sound-convex (a .is-sound) two) p (a .clear) c (right-corner m p) r (right-is a two some)
+
+  -- how the links after an outside arrival differ from those before: just as the document names it
+  pub outside-links : Splices m (spliced m p (left-corner m p) (right-corner m p)) (left-corner m p) (right-corner m p)
+  outside-links =
+      let helped = outline-circuit (a .is-sound) two .helped in
+      spliced-splices (a .is-sound) (a .room) p (left-corner m p) (right-corner m p)
+      (helped (left-corner m p) (left-is a two some .member)) (helped (right-corner m p) (right-is a two some .member))
+
+pub not-all-visible : {m : Map} → Sound m → 2 ≤ m .count → (p : Point) →
+    (c : ℕ) × T (elem c (outline m)) × ¬ T (sees m p c)
+unfolding sees
+not-all-visible s two p = some-hidden (sound-convex s two) p
+
+-- ---- the outline is the hull: (a, b) is an outline edge if and only if a and b are different points of
+-- the map and every other point has positive orientation with them
+
+pub outline-is-hull : {m : Map} → Sound m → 2 ≤ m .count → (a b : ℕ) →
+    (T (elem a (outline m)) × (next-corner m a ≡ b)) ↔ Supports (m .count) (point m) a b
+outline-is-hull s two = plane-hull.outline-is-hull (sound-convex s two)

@@ -1,0 +1,116 @@
+-- What the code reads from a sound map and takes for an index lies within the arrays, in the order of
+-- this page: edge links, also where one of them was cut; the points, also past the last one; the left
+-- and the right corner.
+-- Assumes nothing.
+use mathlib.Core.Path.{_≡_, sym, subst}
+use mathlib.Core.Logic.{_≢_, ⊎-elim}
+use mathlib.Core.Bool.{Bool, true, false, cond, _&&_}
+use mathlib.Core.List.{List, [], _∷_}
+use Prim.Native.Nat.{ℕ, _≤_, _<_}
+use native.Mathlib.Omega.{arith}
+use lib.Dec.{T, T-not}
+use lib.IntN.{ℤ}
+use lib.ListN.{length, getD, set, length-set}
+use lib.Seq.{set-out, getD-set-same, getD-set-other}
+use Rattle.finite.specs.Tests.{and-both, decide, same-or-not}
+use Rattle.finite.specs.Bounded.{lt-or-ge}
+use Rattle.finite.specs.Lists.{elem, first-in, elem-head, elem-tail}
+use Rattle.orbits.specs.Sets.{dart-limit}
+use Rattle.model.specs.declared.Point.{Point}
+use Rattle.model.specs.declared.Map.{Map}
+use Rattle.model.specs.Plane.{coordinate-in-range, in-range}
+use Rattle.model.specs.Maps.{point-limit, point, is-present, edge-link}
+use Rattle.model.specs.Outline.{outline}
+use Rattle.model.specs.Sound.{Sound}
+use Rattle.model.specs.Arrival.{cut, left-corner, right-corner}
+use Rattle.model.proofs.Sound.{present-below}
+use Rattle.maps.specs.Arrays.{point-at}
+use Rattle.maps.proofs.Outline.{outline-circuit}
+use Rattle.hull.specs.Asked.{Acceptable, Outlined, Ranged, Spliceable}
+
+-- ---- edge links
+
+pub cut-whole : (d : ℕ) (edge : List ℕ) → length (cut d edge) ≡ length edge
+unfolding cut
+cut-whole d edge = length-set edge (getD edge d d) (getD edge d d)
+
+-- where a partner is fixed, what stands at a place is below a bound as before
+pub cut-below : (n : ℕ) (edge : List ℕ) → ((d : ℕ) → d < n → getD edge d d < n) →
+    (d e : ℕ) → d < n → e < n → getD (cut d edge) e e < n
+unfolding cut
+cut-below n edge below d e h k =
+    ⊎-elim
+    (λ (s : e ≡ v). subst (λ (x : ℕ). getD (set edge v v) x x < n) (sym s) at-partner)
+    (λ (s : e ≢ v). subst (λ (x : ℕ). x < n) (sym (getD-set-other edge v e v e s)) (below e k))
+    (same-or-not e v)
+  where
+    v : ℕ
+    v = getD edge d d
+
+    at-partner : getD (set edge v v) v v < n
+    at-partner =
+        ⊎-elim
+        (λ (l : v < length edge). subst (λ (x : ℕ). x < n) (sym (getD-set-same edge v v v l)) (below d h))
+        (λ (l : length edge ≤ v).
+        subst (λ (s : List ℕ). getD s v v < n) (sym (set-out edge v v l)) (below v (below d h)))
+        (lt-or-ge v (length edge))
+
+module _ {m : Map} (s : Sound m) where
+  -- the links of a dart are darts
+  pub link-below : (d : ℕ) → d < dart-limit → edge-link m d < dart-limit
+  link-below d h =
+      ⊎-elim
+      (λ (t : T (is-present m d)). omega (arith, present-below m (edge-link m d) (s .links .present d t), s .links .fits))
+      (λ t. subst (λ (x : ℕ). x < dart-limit) (sym (s .links .absent d (T-not (is-present m d) t))) h)
+      (decide (is-present m d))
+
+  -- ---- points
+
+  -- a place without a point holds 0, 0, which is in range too
+  pub place-ranged : (k : ℕ) → T (in-range (point m k))
+  unfolding in-range coordinate-in-range
+  place-ranged k =
+      ⊎-elim (s .points .ranged k) (λ l. subst (λ p. T (in-range p)) (sym (s .points .clear k l)) tt) (lt-or-ge k (m .count))
+
+-- so the arrays of a map with an outline may be read at every place
+pub ranged : {m : Map} {p : Point} → Outlined m p → Ranged (m .xs) (m .ys) p
+unfolding point
+ranged o = record { places = place-ranged (o .is-sound); offered = o .offered }
+
+-- two of the points and the offered one
+pub three-ranged : {xs ys : List ℤ} {p a b : Point} → Ranged xs ys p → (i j : ℕ) →
+    a ≡ point-at xs ys i → b ≡ point-at xs ys j → T (in-range a && in-range b && in-range p)
+three-ranged {a} {b} r i j ea eb =
+    let ta : T (in-range a) = rw ea (r .places i) in
+    let tb : T (in-range b) = rw eb (r .places j) in
+    let tp = r .offered in
+    search and-both
+
+-- ---- corners
+
+-- the first member that passes, or else 0, is below a bound of all
+first-below : (n : ℕ) (test : ℕ → Bool) (t : List ℕ) → 0 < n → ((a : ℕ) → T (elem a t) → a < n) →
+    first-in test 0 t < n
+unfolding first-in
+first-below n test [] h below = h
+first-below n test (a ∷ t) h below = go (test a) (first-below n test t h (λ x m. below x (elem-tail x a t m)))
+  where
+    go : (b : Bool) → first-in test 0 t < n → cond b a (first-in test 0 t) < n
+    go true l = below a (elem-head a t)
+    go false l = l
+
+-- an accepted point may be put between its left and its right corner
+pub spliceable : {m : Map} {p : Point} → Acceptable m p → 2 ≤ m .count →
+    Spliceable m (left-corner m p) (right-corner m p)
+unfolding left-corner right-corner
+spliceable {m} {p} o two =
+    let below = outline-circuit (o .is-sound) two .below in
+    let corner : (test : ℕ → Bool) → first-in test 0 (outline m) < point-limit =
+    λ test. omega (arith, o .room, first-below (m .count) test (outline m) (omega arith) below) in
+    record {
+      room = o .room;
+      left-below = corner _;
+      right-below = corner _;
+      whole = o .is-sound .links .edge-whole;
+      links-below = link-below (o .is-sound);
+    }

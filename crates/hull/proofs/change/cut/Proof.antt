@@ -1,0 +1,41 @@
+-- `hull::change::cut` meets its contract. Assumes nothing.
+use borrow.Author.Needs.{needs}
+use mathlib.Core.Path.{_≡_}
+use Prim.Native.Nat.{_<_}
+use native.Mathlib.Omega.{arith}
+use lib.ListN.{getD}
+use denote.Ref.{now}
+use Rattle.finite.specs.Lists.{getD-any}
+use Rattle.model.specs.Arrival.{cut}
+use Rattle.hull.proofs.change.cut.Statement.{statement}
+use Rattle.hull.proofs.change.cut.Tie as tie
+
+mul-e : tie.Need-mul-e
+mul-e c = search needs
+
+element-copy-out-e : tie.Need-element-copy-out-e
+element-copy-out-e c = search needs
+
+-- the default does not matter within the array
+partner : (c : tie.After-e) →
+    let s = c .before .args in getD (now (s .edge)) (s .d) 0 ≡ getD (now (s .edge)) (s .d) (s .d)
+partner c =
+    let d = c .before .args .d in
+    let edge = now (c .before .args .edge) in
+    getD-any edge d 0 d (omega arith)
+
+partner-below : (c : tie.After-e) → getD (now (c .before .args .edge)) (c .before .args .d) 0 < 1024
+partner-below c = rw (partner c) (c .before .pre .partner-below)
+
+mul-edge : tie.Need-mul-edge
+mul-edge c = omega (arith, partner-below c)
+
+element-write-edge : tie.Need-element-write-edge
+element-write-edge c = partner-below c
+
+returns : tie.Need-returns
+unfolding cut
+returns c = rw (partner c)
+
+pub cut-spec : {M : Type 1} → statement M
+cut-spec = tie.close (tie.spec mul-e element-copy-out-e mul-edge element-write-edge returns)

@@ -1,0 +1,90 @@
+-- `hull::conditions::is_in_line_with` meets its contract: it looks through the points before point j.
+-- Assumes nothing.
+use borrow.Author.Needs.{needs}
+use mathlib.Core.Path.{_≡_, _∙_, ap₂}
+use mathlib.Core.Bool.{Bool}
+use mathlib.Core.List.{List}
+use Prim.Native.Nat.{ℕ, _-_}
+use denote.Ref.{now}
+use lib.IntN.{ℤ}
+use Rattle.model.specs.declared.Point.{Point}
+use Rattle.model.specs.Plane.{in-line}
+use Rattle.maps.specs.Arrays.{point-at}
+use Rattle.hull.proofs.Within.{three-ranged}
+use Rattle.hull.proofs.Scans.{NoneBelow, none-at-first, none-more, one-found, none-found}
+use Rattle.hull.proofs.conditions.is_in_line_with.Statement.{statement}
+use Rattle.hull.proofs.conditions.is_in_line_with.Tie as tie
+
+abbrev here : List ℤ → List ℤ → ℕ → Point → ℕ → Bool
+here xs ys j p i = in-line (point-at xs ys i) (point-at xs ys j) p
+
+abbrev Inv-loop : tie.InvT-loop
+Inv-loop xs ys j p b i₀ i = NoneBelow (here xs ys j p) j i
+
+abbrev μ-loop : tie.MeasureT-loop
+μ-loop xs ys j p b i₀ i = j - i
+
+-- the turn of the loop, and where the function starts
+abbrev turn : tie.After-are-in-line Inv-loop μ-loop → tie.In-loop Inv-loop μ-loop
+turn c = c .before .before
+
+abbrev start : tie.After-are-in-line Inv-loop μ-loop → tie.Start Inv-loop μ-loop
+start c = turn c .before .before .before
+
+point-at-requires : tie.Need-point-at-requires Inv-loop μ-loop
+point-at-requires c κs = search needs
+
+loop-holds : tie.Need-loop-holds Inv-loop μ-loop
+loop-holds c = none-at-first _ _
+
+point-at-requires-2 : tie.Need-point-at-requires-2 Inv-loop μ-loop
+point-at-requires-2 c κs = search needs
+
+are-in-line-requires : tie.Need-are-in-line-requires Inv-loop μ-loop
+are-in-line-requires c κs =
+    let s = c .before .before .before .before in
+    three-ranged (s .pre) (c .before .before .loop .i) (s .args .j) (c .point-at2 .ensures)
+    (c .before .before .before .point-at .ensures)
+
+-- the test of a turn is that of the definition
+tested : (c : tie.After-are-in-line Inv-loop μ-loop) →
+    let s = start c .args in
+    c .are-in-line .result ≡ here (now (s .xs)) (now (s .ys)) (s .j) (s .p) (turn c .before .loop .i)
+tested c =
+    let p = start c .args .p in
+    let b-is = turn c .before .before .point-at .ensures in
+    c .are-in-line .ensures ∙ ap₂ (λ a b. in-line a b p) (c .before .point-at2 .ensures) b-is
+
+returns : tie.Need-returns Inv-loop μ-loop
+returns c =
+    one-found _ _ (turn (c .before) .loop-test .taken) (tested (c .before)) (c .if1 .taken)
+
+add-i : tie.Need-add-i Inv-loop μ-loop
+add-i c = search needs
+
+loop-less : tie.Need-loop-less Inv-loop μ-loop
+loop-less c = search needs
+
+loop-again : tie.Need-loop-again Inv-loop μ-loop
+loop-again c =
+    let t = turn (c .before) in
+    none-more _ _ (t .loop-test .taken) (tested (c .before)) (t .before .loop .inv) (c .if1 .left)
+
+returns-2 : tie.Need-returns-2 Inv-loop μ-loop
+returns-2 c = none-found _ _ (c .before .loop .inv) (c .loop-test .left)
+
+pub is-in-line-with-spec : {M : Type 1} → statement M
+is-in-line-with-spec =
+    tie.close
+    (tie.spec
+    Inv-loop
+    μ-loop
+    point-at-requires
+    loop-holds
+    point-at-requires-2
+    are-in-line-requires
+    returns
+    add-i
+    loop-less
+    loop-again
+    returns-2)

@@ -1,0 +1,20 @@
+-- `hull::sight::counted` meets its contract. Assumes nothing.
+use borrow.Author.Needs.{needs}
+use native.Mathlib.Omega.{arith}
+use Rattle.finite.specs.Bounded.{one-if}
+use Rattle.hull.proofs.sight.counted.Statement.{statement}
+use Rattle.hull.proofs.sight.counted.Tie as tie
+
+add-result : tie.Need-add-result
+add-result c = search needs
+
+returns : tie.Need-returns
+unfolding one-if
+returns c = rw (c .if1 .taken)
+
+returns-2 : tie.Need-returns-2
+unfolding one-if
+returns-2 c = rw (c .if1 .left) (omega arith)
+
+pub counted-spec : {M : Type 1} → statement M
+counted-spec = tie.close (tie.spec add-result returns returns-2)

@@ -1,0 +1,29 @@
+-- `hull::sight::is_visible` meets its contract: the edge's ends are the points that are read from the
+-- arrays. Assumes nothing.
+use borrow.Author.Needs.{needs}
+use mathlib.Core.Path.{_∙_, ap₂}
+use Rattle.model.specs.Plane.{visible-from}
+use Rattle.hull.proofs.Within.{three-ranged}
+use Rattle.hull.proofs.sight.is_visible.Statement.{statement}
+use Rattle.hull.proofs.sight.is_visible.Tie as tie
+
+point-at-requires : tie.Need-point-at-requires
+point-at-requires c κs = search needs
+
+point-at-requires-2 : tie.Need-point-at-requires-2
+point-at-requires-2 c κs = search needs
+
+is-visible-from-requires : tie.Need-is-visible-from-requires
+is-visible-from-requires c κs =
+    let s = c .before .before in
+    three-ranged (s .pre) (s .args .a) (s .args .b) (c .before .point-at .ensures) (c .point-at2 .ensures)
+
+returns : tie.Need-returns
+returns c =
+    let p = c .before .before .before .args .p in
+    let d = c .before in
+    c .is-visible-from .ensures ∙ ap₂ (λ a b. visible-from a b p) (d .before .point-at .ensures) (d .point-at2 .ensures)
+
+pub is-visible-spec : {M : Type 1} → statement M
+is-visible-spec =
+    tie.close (tie.spec point-at-requires point-at-requires-2 is-visible-from-requires returns)

@@ -1,0 +1,55 @@
+-- What the inner functions of this crate ask and answer. Assumes nothing.
+use mathlib.Core.Path.{_≡_}
+use mathlib.Core.Bool.{Bool}
+use mathlib.Core.List.{List}
+use Prim.Native.Nat.{ℕ, _≤_, _<_}
+use lib.Dec.{T}
+use lib.IntN.{ℤ}
+use lib.ListN.{length, getD}
+use Rattle.finite.specs.Bounded.{any}
+use Rattle.orbits.specs.Sets.{dart-limit}
+use Rattle.model.specs.declared.Point.{Point}
+use Rattle.model.specs.declared.Map.{Map}
+use Rattle.model.specs.Plane.{in-range, in-line, visible-from}
+use Rattle.model.specs.Maps.{point-limit, edge-link}
+use Rattle.model.specs.Sound.{Sound}
+use Rattle.maps.specs.Arrays.{point-at}
+
+-- places that hold points in range, as those of a sound map do past its last point too, and a point in range
+pub record Ranged (xs ys : List ℤ) (p : Point) : Type 0 where
+  pub places : (k : ℕ) → T (in-range (point-at xs ys k))
+  pub offered : T (in-range p)
+
+-- the edge from point a to point b is visible from p
+abbrev pub visible-at : List ℤ → List ℤ → ℕ → ℕ → Point → Bool
+visible-at xs ys a b p = visible-from (point-at xs ys a) (point-at xs ys b) p
+
+-- p is in line with point j and a point before it
+abbrev pub in-line-with : List ℤ → List ℤ → ℕ → Point → Bool
+in-line-with xs ys j p = any j (λ i. in-line (point-at xs ys i) (point-at xs ys j) p)
+
+-- edge links of which that of dart d is to be cut
+pub record Cuttable (edge : List ℕ) (d : ℕ) : Type 0 where
+  pub whole : length edge ≡ dart-limit
+  pub below : d < dart-limit
+  pub partner-below : getD edge d d < dart-limit
+
+-- a map with room for one more point, two of its points, and edge links that are darts
+pub record Spliceable (m : Map) (left right : ℕ) : Type 0 where
+  pub room : m .count < point-limit
+  pub left-below : left < point-limit
+  pub right-below : right < point-limit
+  pub whole : length (m .edge) ≡ dart-limit
+  pub links-below : (d : ℕ) → d < dart-limit → edge-link m d < dart-limit
+
+-- a sound map that has an outline, and a point in range
+pub record Outlined (m : Map) (p : Point) : Type 0 where
+  pub is-sound : Sound m
+  pub two : 2 ≤ m .count
+  pub offered : T (in-range p)
+
+-- a sound map with room for one more point, and a point in range
+pub record Acceptable (m : Map) (p : Point) : Type 0 where
+  pub is-sound : Sound m
+  pub room : m .count < point-limit
+  pub offered : T (in-range p)

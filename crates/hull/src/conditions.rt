@@ -1,0 +1,47 @@
+// The conditions of refusal that look through the points of a map.
+
+use maps::positions::is_new;
+use maps::reading::point_at;
+use model::Map;
+use model::Point;
+use plane::are_in_line;
+ghost use mathlib.Core.Path.{_≡_};
+ghost use Rattle.model.specs.Arrival.{is-in-line, is-repeated};
+ghost use Rattle.hull.specs.Asked.{Ranged, in-line-with};
+
+// Whether p is equal to a point of the map.
+pub fn is_repeated(map: Map, p: Point) -> bool
+    ensures { λ r. ⌜ r ≡ is-repeated map p ⌝ }
+{
+    let count = map.count;
+    !is_new(&map.xs, &map.ys, count, p)
+}
+
+// Whether p is in line with two points of the map.
+pub fn is_in_line(map: Map, p: Point) -> bool
+    requires { ⌜ Ranged (map .xs) (map .ys) p ⌝ }
+    ensures { λ r. ⌜ r ≡ is-in-line map p ⌝ }
+{
+    let count = map.count;
+    for j in 0..count {
+        if is_in_line_with(&map.xs, &map.ys, j, p) {
+            return true;
+        }
+    }
+    false
+}
+
+// Whether p is in line with point j and a point before it.
+fn is_in_line_with<'a>(xs: &'a [i64], ys: &'a [i64], j: usize, p: Point) -> bool
+    requires { ⌜ Ranged (now xs) (now ys) p ⌝ }
+    ensures { λ r. ⌜ r ≡ in-line-with (now (xs .entry)) (now (ys .entry)) j p ⌝ }
+{
+    let b = point_at(xs, ys, j);
+    for i in 0..j {
+        let a = point_at(xs, ys, i);
+        if are_in_line(a, b, p) {
+            return true;
+        }
+    }
+    false
+}

@@ -1,0 +1,117 @@
+// The arrival of a point in a map, and the outline that it leaves: why an offered point is turned down,
+// or how it arrives.
+
+mod change;
+mod conditions;
+mod sight;
+
+use crate::change::alone;
+use crate::change::pair;
+use crate::change::spliced;
+use crate::conditions::is_in_line;
+use crate::conditions::is_repeated;
+use crate::sight::seen_from;
+use maps::is_sound;
+use model::Arrival;
+use model::Map;
+use model::Offered;
+use model::POINT_LIMIT;
+use model::Point;
+use model::Refusal;
+use plane::in_range;
+ghost use mathlib.Core.Path.{_≡_};
+ghost use Prim.Native.Nat.{_≤_};
+ghost use lib.Dec.{T};
+ghost use Rattle.model.specs.Sound.{sound};
+ghost use Rattle.model.specs.Arrival.{arrive, arrived, later-point, offer};
+ghost use Rattle.hull.specs.Asked.{Acceptable};
+
+// The map after a point is offered to it, and what became of the point. A map that is not sound is
+// turned down; where the point is turned down, the map is as it was.
+pub fn offer(map: Map, p: Point) -> Offered
+    ensures { λ r. ⌜ r ≡ offer map p ⌝ }
+{
+    if is_sound(map) {
+        offer_to_sound(map, p)
+    } else {
+        refused(map, Refusal::NotSound)
+    }
+}
+
+// An offer to a map that is known to be sound.
+pub fn offer_to_sound(map: Map, p: Point) -> Offered
+    requires { ⌜ T (sound map) ⌝ }
+    ensures { λ r. ⌜ r ≡ offer map p ⌝ }
+{
+    let count = map.count;
+    if POINT_LIMIT <= count {
+        return refused(map, Refusal::Full);
+    }
+    if !in_range(p) {
+        return refused(map, Refusal::OutOfRange);
+    }
+    if is_repeated(map, p) {
+        return refused(map, Refusal::Repeated);
+    }
+    if is_in_line(map, p) {
+        return refused(map, Refusal::InLine);
+    }
+    arrive(map, p)
+}
+
+// The map as it was, and why the point is turned down.
+fn refused(map: Map, refusal: Refusal) -> Offered
+    ensures { λ r. ⌜ r ≡ arrived (Arrival.Refused refusal) map ⌝ }
+{
+    Offered {
+        map,
+        arrival: Arrival::Refused(refusal),
+    }
+}
+
+// The arrival of a point that is not turned down.
+fn arrive(map: Map, p: Point) -> Offered
+    requires { ⌜ Acceptable map p ⌝ }
+    ensures { λ r. ⌜ r ≡ arrive map p ⌝ }
+{
+    let count = map.count;
+    if count == 0 {
+        return Offered {
+            map: alone(map, p),
+            arrival: Arrival::First,
+        };
+    }
+    if count == 1 {
+        return Offered {
+            map: pair(map, p),
+            arrival: Arrival::Second,
+        };
+    }
+    later_point(map, p)
+}
+
+// The arrival in a map that has an outline: inside if no edge of it is visible, otherwise outside.
+fn later_point(map: Map, p: Point) -> Offered
+    requires { ⌜ Acceptable map p ⌝ }
+    requires { ⌜ 2 ≤ map .count ⌝ }
+    ensures { λ r. ⌜ r ≡ later-point map p ⌝ }
+{
+    let seen = seen_from(map, p);
+    let left = seen.left;
+    let right = seen.right;
+    let visible = seen.visible;
+    if visible == 0 {
+        return Offered {
+            map: alone(map, p),
+            arrival: Arrival::Inside,
+        };
+    }
+    Offered {
+        map: spliced(map, p, left, right),
+        arrival: Arrival::Outside {
+            left,
+            right,
+            visible,
+        },
+    }
+}

@@ -1,0 +1,105 @@
+// What is seen of an outline from a point.
+
+use maps::reading::next_corner;
+use maps::reading::point_at;
+use maps::reading::previous_corner;
+use model::Map;
+use model::Point;
+use plane::is_visible_from;
+ghost use mathlib.Core.Path.{_≡_};
+ghost use Prim.Native.Nat.{_+_, _<_};
+ghost use Rattle.finite.specs.Bounded.{one-if};
+ghost use Rattle.model.specs.Maps.{point-limit};
+ghost use Rattle.hull.specs.Asked.{Outlined, Ranged, visible-at};
+ghost use Rattle.hull.specs.Looking.{kept, seen};
+
+// The corners between which the visible edges lie, and their number.
+pub struct Seen {
+    pub left: usize,
+    pub right: usize,
+    pub visible: usize,
+}
+
+// A corner that is sought on the way round an outline.
+pub struct Sought {
+    pub corner: usize,
+    pub found: bool,
+}
+
+// What is seen from p, once round the outline.
+pub fn seen_from(map: Map, p: Point) -> Seen
+    requires { ⌜ Outlined map p ⌝ }
+    ensures { λ r. ⌜ r ≡ seen map p ⌝ }
+{
+    let start = map.reference / 2;
+    let last = previous_corner(&map.edge, start);
+    let mut entering = is_visible(&map.xs, &map.ys, last, start, p);
+    let mut left = Sought {
+        corner: 0,
+        found: false,
+    };
+    let mut right = Sought {
+        corner: 0,
+        found: false,
+    };
+    let mut visible = 0;
+    let mut a = start;
+    // no more corners than this are still to be passed, a the first of them
+    let mut ahead = map.count;
+    while 0 < ahead {
+        let b = next_corner(&map.edge, a);
+        let leaving = is_visible(&map.xs, &map.ys, a, b, p);
+        left = kept(left, entering, leaving, a);
+        right = kept(right, leaving, entering, a);
+        visible = counted(visible, leaving);
+        entering = leaving;
+        a = b;
+        if b == start {
+            ahead = 0;
+        } else {
+            ahead -= 1;
+        }
+    }
+    Seen {
+        left: left.corner,
+        right: right.corner,
+        visible,
+    }
+}
+
+// Whether the edge from point a to point b is visible from p.
+fn is_visible<'a>(xs: &'a [i64], ys: &'a [i64], a: usize, b: usize, p: Point) -> bool
+    requires { ⌜ Ranged (now xs) (now ys) p ⌝ }
+    ensures { λ r. ⌜ r ≡ visible-at (now (xs .entry)) (now (ys .entry)) a b p ⌝ }
+{
+    is_visible_from(point_at(xs, ys, a), point_at(xs, ys, b), p)
+}
+
+// The corner sought if it is found; else corner a, where a test that failed before it passes after it.
+fn kept(sought: Sought, before: bool, after: bool, a: usize) -> Sought
+    ensures { λ r. ⌜ r ≡ kept sought before after a ⌝ }
+{
+    let found = sought.found;
+    if found {
+        return sought;
+    }
+    if before {
+        return sought;
+    }
+    if after {
+        Sought {
+            corner: a,
+            found: true,
+        }
+    } else {
+        sought
+    }
+}
+
+// The number of visible edges, with one edge more.
+fn counted(visible: usize, one_more: bool) -> usize
+    requires { ⌜ visible < point-limit ⌝ }
+    ensures { λ r. ⌜ r ≡ visible + one-if «one_more» ⌝ }
+{
+    if one_more { visible + 1 } else { visible }
+}

@@ -28,6 +28,13 @@ passes {r} e n = sym e ∙ not-false r n
 pub fails : {r t : Bool} → r ≡ t → not r ≡ true → t ≡ false
 fails {r} e n = sym e ∙ not-true r n
 
+-- what `a && b` finds, where the code found r for a, and then s for b
+pub both-asked : {r s a b : Bool} → r ≡ a → r ≡ true → s ≡ b → s ≡ (a && b)
+both-asked e t f = rw (sym e ∙ t) f
+
+pub one-asked : {r a : Bool} (b : Bool) → r ≡ a → r ≡ false → r ≡ (a && b)
+one-asked b e n = n ∙ sym (rw (sym e ∙ n))
+
 -- where the code reads `if r { return false; }`, and the test is that r fails
 pub not-twice : {r b : Bool} → r ≡ b → not (not r) ≡ not (not b)
 not-twice e = ap (λ (t : Bool). not (not t)) e

@@ -7,9 +7,9 @@ ghost use mathlib.Core.Path.{_≡_};
 ghost use Rattle.model.specs.Maps.{empty-map};
 ghost use Rattle.model.specs.Sound.{sound};
 
-pub mod arrays;
-pub mod linkage;
-pub mod outlines;
+mod arrays;
+mod linkage;
+mod outlines;
 pub mod positions;
 pub mod reading;
 
@@ -17,13 +17,7 @@ pub mod reading;
 pub fn is_sound(m: Map) -> bool
     ensures { λ r. ⌜ r ≡ sound m ⌝ }
 {
-    if !positions::points_sound(m) {
-        return false;
-    }
-    if !linkage::links_sound(m) {
-        return false;
-    }
-    outlines::outline_sound(m)
+    positions::points_sound(m) && linkage::links_sound(m) && outlines::outline_sound(m)
 }
 
 // The empty map.

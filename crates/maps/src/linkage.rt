@@ -23,19 +23,7 @@ pub fn links_sound(m: Map) -> bool
     requires { ⌜ m .count ≤ point-limit ⌝ }
     ensures { λ r. ⌜ r ≡ links-sound m ⌝ }
 {
-    if !helpers_owned(m) {
-        return false;
-    }
-    if !absent_fixed(m) {
-        return false;
-    }
-    if !links_undo(m) {
-        return false;
-    }
-    if !edges_cross(m) {
-        return false;
-    }
-    lone_fixed(m)
+    helpers_owned(m) && absent_fixed(m) && links_undo(m) && edges_cross(m) && lone_fixed(m)
 }
 
 // No other dart is present: a place without a point has no helper.

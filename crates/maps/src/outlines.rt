@@ -34,13 +34,7 @@ pub fn outline_sound(m: Map) -> bool
     if m.count < 2 {
         return no_outline(m);
     }
-    if !one_outline(m) {
-        return false;
-    }
-    if !reference_on_outline(m) {
-        return false;
-    }
-    others_left(m)
+    one_outline(m) && reference_on_outline(m) && others_left(m)
 }
 
 // For each outline edge from corner a to corner b, every point but a and b has positive orientation

@@ -20,16 +20,7 @@ ghost use Rattle.maps.specs.Checks.{points-sound};
 pub fn points_sound(m: Map) -> bool
     ensures { λ r. ⌜ r ≡ points-sound m ⌝ }
 {
-    if !count_fits(m) {
-        return false;
-    }
-    if !points_in_range(m) {
-        return false;
-    }
-    if !points_differ(m) {
-        return false;
-    }
-    places_clear(m)
+    count_fits(m) && points_in_range(m) && points_differ(m) && places_clear(m)
 }
 
 // Points are at most 512,

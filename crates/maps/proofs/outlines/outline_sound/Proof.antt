@@ -1,9 +1,12 @@
--- `maps::outlines::outline_sound` meets its contract: each test has its return, and the last one decides.
--- Assumes nothing.
+-- `maps::outlines::outline_sound` meets its contract: after each `&&` stands the conjunction of the tests so
+-- far. Assumes nothing.
 use borrow.Author.Needs.{needs}
-use mathlib.Core.Path.{sym, _∙_}
+use mathlib.Core.Path.{_≡_, sym, _∙_}
+use mathlib.Core.Logic.{⊎-elim}
+use mathlib.Core.Bool.{_&&_}
+use Rattle.model.specs.Sound.{one-outline, reference-on-outline}
 use Rattle.maps.proofs.Checked.{outline-of-few, outline-of-many}
-use Rattle.maps.proofs.Loops.{passes, fails}
+use Rattle.maps.proofs.Loops.{both-asked, one-asked}
 use Rattle.maps.proofs.outlines.outline_sound.Statement.{statement}
 use Rattle.maps.proofs.outlines.outline_sound.Tie as tie
 
@@ -16,39 +19,32 @@ returns c = c .no-outline .ensures ∙ sym (outline-of-few _ (c .before .if1 .ta
 one-outline-requires : tie.Need-one-outline-requires
 one-outline-requires c κs = search needs
 
-returns-2 : tie.Need-returns-2
-returns-2 c =
-    sym
-    (outline-of-many _ (c .before .before .if1 .left)
-    ∙ rw (fails (c .before .one-outline .ensures) (c .if2 .taken)))
-
 reference-on-outline-requires : tie.Need-reference-on-outline-requires
 reference-on-outline-requires c κs = search needs
-
-returns-3 : tie.Need-returns-3
-returns-3 c =
-    let first = c .before .before in
-    sym
-    (outline-of-many _ (first .before .before .if1 .left)
-    ∙ rw (
-      passes (first .before .one-outline .ensures) (first .if2 .left),
-      fails (c .before .reference-on-outline .ensures) (c .if3 .taken),
-    ))
 
 others-left-requires : tie.Need-others-left-requires
 others-left-requires c κs = search needs
 
-returns-4 : tie.Need-returns-4
-returns-4 c =
-    let second = c .before in
-    let first = second .before .before in
-    c .others-left .ensures
-    ∙ sym
-    (outline-of-many _ (first .before .before .if1 .left)
-    ∙ rw (
-      passes (first .before .one-outline .ensures) (first .if2 .left),
-      passes (second .before .reference-on-outline .ensures) (second .if3 .left),
-    ))
+first-two : (c : tie.Joined2) →
+    let m = c .before .before .before .before .args .m in
+    c .if2 .if3 ≡ (one-outline m && reference-on-outline m)
+first-two c =
+    let found = c .before .one-outline .ensures in
+    ⊎-elim
+    (λ w. w .2 ∙ both-asked found (w .0 .taken) (w .1 .ensures))
+    (λ w. w .1 ∙ one-asked _ found (w .0 .left))
+    (c .if2 .came)
+
+returns-2 : tie.Need-returns-2
+returns-2 c =
+    let two = c .before .before in
+    both-asked (first-two two) (c .before .if3 .taken) (c .others-left .ensures)
+    ∙ sym (outline-of-many _ (two .before .before .if1 .left))
+
+returns-3 : tie.Need-returns-3
+returns-3 c =
+    one-asked _ (first-two (c .before)) (c .if3 .left)
+    ∙ sym (outline-of-many _ (c .before .before .before .if1 .left))
 
 pub outline-sound-spec : {M : Type 1} → statement M
 outline-sound-spec =
@@ -57,8 +53,7 @@ outline-sound-spec =
     no-outline-requires
     returns
     one-outline-requires
-    returns-2
     reference-on-outline-requires
-    returns-3
     others-left-requires
-    returns-4)
+    returns-2
+    returns-3)

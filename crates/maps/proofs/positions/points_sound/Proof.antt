@@ -1,61 +1,59 @@
--- `maps::positions::points_sound` meets its contract: each test has its return, and the last one decides.
+-- `maps::positions::points_sound` meets its contract: after each `&&` stands the conjunction of the tests so far.
 -- Assumes nothing.
 use borrow.Author.Needs.{needs}
-use mathlib.Core.Path.{_≡_}
-use mathlib.Core.Bool.{true, _&&_}
+use mathlib.Core.Path.{_≡_, _∙_}
+use mathlib.Core.Logic.{⊎-elim}
+use mathlib.Core.Bool.{_&&_}
 use Rattle.model.specs.Sound.{count-fits, points-differ, points-in-range}
-use Rattle.maps.proofs.Loops.{passes, fails}
+use Rattle.maps.proofs.Loops.{both-asked, one-asked}
 use Rattle.maps.proofs.positions.points_sound.Statement.{statement}
 use Rattle.maps.proofs.positions.points_sound.Tie as tie
 
 count-fits-requires : tie.Need-count-fits-requires
 count-fits-requires c κs = search needs
 
-returns : tie.Need-returns
-returns c = rw (fails (c .before .count-fits .ensures) (c .if1 .taken))
-
-first : (c : tie.Else1) →
-    let m = c .before .before .args .m in
-    (count-fits m) ≡ true
-first c = passes (c .before .count-fits .ensures) (c .if1 .left)
-
 points-in-range-requires : tie.Need-points-in-range-requires
 points-in-range-requires c κs = search needs
-
-returns-2 : tie.Need-returns-2
-returns-2 c = rw (first (c .before .before), fails (c .before .points-in-range .ensures) (c .if2 .taken))
-
-first-two : (c : tie.Else2) →
-    let m = c .before .before .before .before .args .m in
-    (count-fits m && points-in-range m) ≡ true
-first-two c = rw (first (c .before .before)) (passes (c .before .points-in-range .ensures) (c .if2 .left))
 
 points-differ-requires : tie.Need-points-differ-requires
 points-differ-requires c κs = search needs
 
-returns-3 : tie.Need-returns-3
-returns-3 c = rw (first-two (c .before .before), fails (c .before .points-differ .ensures) (c .if3 .taken))
-
-first-three : (c : tie.Else3) →
-    let m = c .before .before .before .before .before .before .args .m in
-    (count-fits m && points-in-range m && points-differ m) ≡ true
-first-three c = rw (first-two (c .before .before)) (passes (c .before .points-differ .ensures) (c .if3 .left))
-
 places-clear-requires : tie.Need-places-clear-requires
 places-clear-requires c κs = search needs
 
-returns-4 : tie.Need-returns-4
-returns-4 c = rw (first-three (c .before)) (c .places-clear .ensures)
+first-two : (c : tie.Joined1) →
+    let m = c .before .before .args .m in
+    c .if1 .if2 ≡ (count-fits m && points-in-range m)
+first-two c =
+    let found = c .before .count-fits .ensures in
+    ⊎-elim
+    (λ w. w .2 ∙ both-asked found (w .0 .taken) (w .1 .ensures))
+    (λ w. w .1 ∙ one-asked _ found (w .0 .left))
+    (c .if1 .came)
+
+first-three : (c : tie.Joined2) →
+    let m = c .before .before .before .args .m in
+    c .if2 .if3 ≡ (count-fits m && points-in-range m && points-differ m)
+first-three c =
+    let found = first-two (c .before) in
+    ⊎-elim
+    (λ w. w .2 ∙ both-asked found (w .0 .taken) (w .1 .ensures))
+    (λ w. w .1 ∙ one-asked _ found (w .0 .left))
+    (c .if2 .came)
+
+returns : tie.Need-returns
+returns c = both-asked (first-three (c .before .before)) (c .before .if3 .taken) (c .places-clear .ensures)
+
+returns-2 : tie.Need-returns-2
+returns-2 c = one-asked _ (first-three (c .before)) (c .if3 .left)
 
 pub points-sound-spec : {M : Type 1} → statement M
 points-sound-spec =
     tie.close
     (tie.spec
     count-fits-requires
-    returns
     points-in-range-requires
-    returns-2
     points-differ-requires
-    returns-3
     places-clear-requires
-    returns-4)
+    returns
+    returns-2)

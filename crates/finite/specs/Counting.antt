@@ -104,8 +104,8 @@ pub count-injection : (n m : ℕ) (p q : ℕ → Bool) (f : ℕ → ℕ) →
     ((k : ℕ) → k < n → T (p k) → (f k < m) × T (q (f k))) →
     ((j k : ℕ) → j < n → k < n → T (p j) → T (p k) → f j ≡ f k → j ≡ k) → count n p ≤ count m q
 unfolding count
-count-injection zero m p q f into once = zero-le
-count-injection (suc n) m p q f into once =
+count-injection zero m p q f into injective = zero-le
+count-injection (suc n) m p q f into injective =
     ⊎-elim
     (λ (t : T (p n)).
     let i = into n (le-refl (suc n)) t in
@@ -118,15 +118,15 @@ count-injection (suc n) m p q f into once =
           let j = into k (omega arith) s in (
             j .0,
             and-both (q (f k)) (not (eqb (f k) (f n))) (j .1)
-                (differ-by (f k) (f n) (λ e. omega (arith, once k n (omega arith) (le-refl (suc n)) s t e))),
+                (differ-by (f k) (f n) (λ e. omega (arith, injective k n (omega arith) (le-refl (suc n)) s t e))),
           ))
-          (λ j k g h. once j k (omega arith) (omega arith)),
+          (λ j k g h. injective j k (omega arith) (omega arith)),
     ))
     (λ (t : T (not (p n))).
     omega (
       arith,
       one-if-fails (p n) t,
-      count-injection n m p q f (λ k h. into k (omega arith)) (λ j k g h. once j k (omega arith) (omega arith)),
+      count-injection n m p q f (λ k h. into k (omega arith)) (λ j k g h. injective j k (omega arith) (omega arith)),
     ))
     (decide (p n))
 

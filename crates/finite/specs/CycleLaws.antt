@@ -15,7 +15,7 @@ use lib.ListN.{length}
 use Rattle.finite.specs.Tests.{and-left, and-right, and-both, decide, is-true, is-false, equal-by}
 use Rattle.finite.specs.Bounded.{one-if}
 use Rattle.finite.specs.Lists.{elem, count-in, distinct, ring, elem-head, elem-tail, elem-cases, elem-one, elem-append, elem-append-left, elem-append-right}
-use Rattle.finite.specs.Cycles.{Chain, Cycle, cycle-turn}
+use Rattle.finite.specs.Cycles.{Chain, Cycle, cycle-rotate}
 
 -- ---- members of what is put together
 
@@ -241,14 +241,14 @@ module _ (E : ℕ → ℕ → Type 0) where
   cycle-from x s c m =
       let k = elem-cut x s m in (
         k .1 ++ k .0,
-        cycle-turn E (k .0) x (k .1) (rw (k .2) at c),
+        cycle-rotate E (k .0) x (k .1) (rw (k .2) at c),
         λ a i. elem-swap a (k .0) (x ∷ k .1) (rw (k .2) at i),
         λ a i. rw (k .2) (elem-swap a (x ∷ k .1) (k .0) i),
       )
 
   pub cycle-swap : (s t : List ℕ) → Cycle E (s ++ t) → Cycle E (t ++ s)
   cycle-swap s [] c = rw append-nil at c
-  cycle-swap s (x ∷ t) c = cycle-turn E s x t c
+  cycle-swap s (x ∷ t) c = cycle-rotate E s x t c
 
   pub cycle-change : (F : ℕ → ℕ → Type 0) (s : List ℕ) →
       ((a b : ℕ) → T (elem a s) → T (elem b s) → E a b → F a b) → Cycle E s → Cycle F s
@@ -290,7 +290,7 @@ module _ (E : ℕ → ℕ → Type 0) where
       let r = chain-switch p x (k .0 ++ x ∷ []) (k .1) n y (elem-swap y (x ∷ []) (k .0) (k .2 y j)) t in (
         r .0,
         r .1,
-        k .3 (r .0) (once (k .0) (r .0) (r .2)),
+        k .3 (r .0) (but-last (k .0) (r .0) (r .2)),
         k .3 (r .1) (elem-swap (r .1) (k .0) (x ∷ []) (r .3)),
         r .4,
         r .5,
@@ -298,8 +298,8 @@ module _ (E : ℕ → ℕ → Type 0) where
       )
     where
       -- to add x at the end adds no member
-      once : (u : List ℕ) (a : ℕ) → T (elem a (x ∷ u ++ x ∷ [])) → T (elem a (x ∷ u))
-      once u a m =
+      but-last : (u : List ℕ) (a : ℕ) → T (elem a (x ∷ u ++ x ∷ [])) → T (elem a (x ∷ u))
+      but-last u a m =
           ⊎-elim (λ h. h) (λ h. rw (elem-one a x h) (elem-head x u)) (elem-append a (x ∷ u) (x ∷ []) m)
 
 -- ---- the members taken to other things

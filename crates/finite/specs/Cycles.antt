@@ -31,10 +31,10 @@ module _ {A : Type 0} (E : A → A → Type 0) where
   chain-join (a ∷ b ∷ s) x t c d = (c .0, chain-join (b ∷ s) x t (c .1) d)
 
   -- a cycle may begin at any of its members
-  pub cycle-turn : (s : List A) (x : A) (t : List A) → Cycle (s ++ x ∷ t) → Cycle (x ∷ t ++ s)
+  pub cycle-rotate : (s : List A) (x : A) (t : List A) → Cycle (s ++ x ∷ t) → Cycle (x ∷ t ++ s)
   unfolding Cycle
-  cycle-turn [] x t c = subst (λ (u : List A). Chain (x ∷ u ++ x ∷ [])) (sym (append-nil t)) c
-  cycle-turn (a ∷ s) x t c =
+  cycle-rotate [] x t c = subst (λ (u : List A). Chain (x ∷ u ++ x ∷ [])) (sym (append-nil t)) c
+  cycle-rotate (a ∷ s) x t c =
       let halves =
       chain-cut (a ∷ s) x (t ++ a ∷ []) (subst (λ (u : List A). Chain (a ∷ u)) (append-assoc s (x ∷ t) (a ∷ [])) c)
       in

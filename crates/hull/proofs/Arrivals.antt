@@ -1,7 +1,7 @@
 -- An arrival leaves a sound map. The outline of a sound map is a convex outline of the plane; a point
 -- that sees no edge of it lies inside, and one that sees some is put between the left and the right
 -- corner, which are there and unique; plane/proofs has the geometry, maps/proofs the links.
--- In the order of this page: the convex outline; inside; outside, with the run of visible edges; every
+-- In the order of this page: the convex outline; inside; outside, with the split of visible edges; every
 -- arrival; every offer. Assumes nothing.
 use mathlib.Core.Path.{_≡_, ap}
 use mathlib.Core.Logic.{_≢_}
@@ -21,21 +21,21 @@ use Rattle.model.specs.Outline.{next-corner, previous-corner, outline, sees, vi
 use Rattle.model.specs.Sound.{Sound}
 use Rattle.model.specs.Arrival.{left-corner, right-corner, spliced, arrive, offer}
 use Rattle.plane.proofs.Convex.{Convex}
-use Rattle.plane.proofs.Corners.{Left-corner, Right-corner, left-corner-seen, right-corner-seen, left-corner-first, right-corner-first, left-tangent, right-tangent, hidden-edge}
-use Rattle.plane.proofs.Run.{Run, kept, visible-run, run-member, run-balance}
+use Rattle.plane.proofs.Corners.{LeftCorner, RightCorner, left-corner-seen, right-corner-seen, left-corner-first, right-corner-first, left-tangent, right-tangent, hidden-edge}
+use Rattle.plane.proofs.Split.{Split, remaining, visible-split, split-member, split-balance}
 use Rattle.maps.proofs.Circuits.{Circuit}
-use Rattle.maps.proofs.Outline.{outline-circuit, outline-both-ways, outline-long, outline-turned}
+use Rattle.maps.proofs.Outline.{outline-circuit, outline-both-ways, outline-long, outline-rotated}
 use Rattle.maps.proofs.Alone.{alone-sound}
 use Rattle.maps.proofs.Pair.{pair-sound}
 use Rattle.maps.proofs.Spliced.{spliced-sound, spliced-left, spliced-outline}
-use Rattle.hull.proofs.Outcomes.{Accepted, Comes, taken, turned-down, Arrives, first, second, inside, outside, arrive-arrives, offer-comes}
+use Rattle.hull.proofs.Outcomes.{Accepted, Decided, accepted, refused, Arrives, first, second, inside, outside, arrive-arrives, offer-decided}
 
 -- the outline of a sound map is a convex outline of its points
 pub sound-convex : {m : Map} → Sound m → 2 ≤ m .count →
     Convex (m .count) (point m) (next-corner m) (previous-corner m) (outline m)
 sound-convex s two =
     record {
-      once = outline-circuit s two .once;
+      all-distinct = outline-circuit s two .all-distinct;
       below = outline-circuit s two .below;
       two = outline-long s two;
       round = outline-both-ways s two;
@@ -51,62 +51,62 @@ module _ {m : Map} {p : Point} (a : Accepted m p) (two : 2 ≤ m .count) where
   pub inside-left : visible-edges m p ≡ 0 → (c : ℕ) → T (elem c (outline m)) →
       T (left-of (point m c) (point m (next-corner m c)) p)
   unfolding visible-edges sees
-  inside-left none c on = hidden-edge shape p (a .clear) c on (count-in-zero (sees m p) (outline m) none c on)
+  inside-left none c on = hidden-edge shape p (a .general) c on (count-in-zero (sees m p) (outline m) none c on)
 
   -- ---- a point that sees some edge
 
   module _ (some : visible-edges m p ≢ 0) where
     -- the left and the right corner are there, and the definition finds them
-    pub left-is : Left-corner (previous-corner m) (sees m p) (outline m) (left-corner m p)
+    pub left-is : LeftCorner (previous-corner m) (sees m p) (outline m) (left-corner m p)
     unfolding visible-edges sees left-corner
     left-is =
         let y = count-in-some (sees m p) (outline m) some in
         let corner = left-corner-seen shape p (y .0) (y .1) (y .2) in
         left-corner-first 0 (corner .0) (corner .1)
 
-    pub right-is : Right-corner (previous-corner m) (sees m p) (outline m) (right-corner m p)
+    pub right-is : RightCorner (previous-corner m) (sees m p) (outline m) (right-corner m p)
     unfolding visible-edges sees right-corner
     right-is =
         let y = count-in-some (sees m p) (outline m) some in
         let corner = right-corner-seen shape p (y .0) (y .1) (y .2) in
         right-corner-first 0 (corner .0) (corner .1)
 
-    -- the visible edges are one run, from the left corner to the right
-    pub run-is : Run (next-corner m) (previous-corner m) (sees m p) (outline m) (left-corner m p) (right-corner m p)
+    -- the visible edges are one split, from the left corner to the right
+    pub split-is : Split (next-corner m) (previous-corner m) (sees m p) (outline m) (left-corner m p) (right-corner m p)
     unfolding sees
-    run-is = visible-run shape p (a .clear) (left-corner m p) (right-corner m p) left-is right-is
+    split-is = visible-split shape p (a .general) (left-corner m p) (right-corner m p) left-is right-is
 
-    -- the outline from the right corner to the left, and then over the corners within the run
-    pub turned-circuit : Circuit m (right-corner m p ∷ run-is .middle ++ left-corner m p ∷ run-is .inner)
-    turned-circuit = outline-turned (a .is-sound) two (run-is .front) (run-is .back) _ (run-is .cut) (run-is .turned)
+    -- the outline from the right corner to the left, and then over the corners within the split
+    pub rotated-circuit : Circuit m (right-corner m p ∷ split-is .middle ++ left-corner m p ∷ split-is .inner)
+    rotated-circuit = outline-rotated (a .is-sound) two (split-is .front) (split-is .back) _ (split-is .cut) (split-is .rotated)
 
     -- the new outline, and the balance of its corners with the visible edges
-    pub outside-outline : outline (spliced m p (left-corner m p) (right-corner m p)) ≡ m .count ∷ kept run-is
+    pub outside-outline : outline (spliced m p (left-corner m p) (right-corner m p)) ≡ m .count ∷ remaining split-is
     outside-outline =
-        spliced-outline (a .is-sound) two (a .room) p (left-corner m p) (right-corner m p) (run-is .middle) (run-is .inner)
-        turned-circuit
+        spliced-outline (a .is-sound) two (a .room) p (left-corner m p) (right-corner m p) (split-is .middle) (split-is .inner)
+        rotated-circuit
 
     pub outside-balance :
         visible-edges m p + length (outline (spliced m p (left-corner m p) (right-corner m p))) ≡ length (outline m) + 2
     unfolding visible-edges
-    outside-balance = omega (arith, ap length outside-outline, run-balance run-is)
+    outside-balance = omega (arith, ap length outside-outline, split-balance split-is)
 
-    kept-on : (c : ℕ) → T (elem c (right-corner m p ∷ run-is .middle)) → T (elem c (outline m))
-    kept-on c h =
-        run-member run-is c
-        (elem-append-left c (kept run-is) (run-is .inner)
-        (elem-append-left c (right-corner m p ∷ run-is .middle) (left-corner m p ∷ []) h))
+    remaining-on : (c : ℕ) → T (elem c (right-corner m p ∷ split-is .middle)) → T (elem c (outline m))
+    remaining-on c h =
+        split-member split-is c
+        (elem-append-left c (remaining split-is) (split-is .inner)
+        (elem-append-left c (right-corner m p ∷ split-is .middle) (left-corner m p ∷ []) h))
 
     pub outside-sound : Sound (spliced m p (left-corner m p) (right-corner m p))
     unfolding sees
     outside-sound =
         let l = left-corner m p in
         let r = right-corner m p in
-        spliced-sound (a .is-sound) two (a .room) p l r (run-is .middle) (run-is .inner) turned-circuit (a .ranged) (a .fresh)
-        (spliced-left (a .is-sound) two (a .room) p l r (run-is .middle) (run-is .inner) turned-circuit
-        (λ c h. hidden-edge shape p (a .clear) c (kept-on c h) (run-is .hidden c h))
-        (left-tangent shape p (a .clear) l left-is)
-        (right-tangent shape p (a .clear) r right-is))
+        spliced-sound (a .is-sound) two (a .room) p l r (split-is .middle) (split-is .inner) rotated-circuit (a .ranged) (a .fresh)
+        (spliced-left (a .is-sound) two (a .room) p l r (split-is .middle) (split-is .inner) rotated-circuit
+        (λ c h. hidden-edge shape p (a .general) c (remaining-on c h) (split-is .hidden c h))
+        (left-tangent shape p (a .general) l left-is)
+        (right-tangent shape p (a .general) r right-is))
 
 -- ---- every arrival
 
@@ -121,8 +121,8 @@ arrival-sound m p a o (outside two some) = outside-sound a two some
 -- ---- every offer: an accepted one gives a sound map, and a refused one gives the same map
 
 pub offer-sound : (m : Map) (p : Point) → Sound m → Sound (offer m p .map)
-offer-sound m p s = kept-sound (offer m p) (offer-comes m p)
+offer-sound m p s = decided-sound (offer m p) (offer-decided m p)
   where
-    kept-sound : (o : Offered) → Comes m p o → Sound (o .map)
-    kept-sound o (taken a) = arrival-sound m p a (arrive m p) (arrive-arrives m p)
-    kept-sound o (turned-down r) = s
+    decided-sound : (o : Offered) → Decided m p o → Sound (o .map)
+    decided-sound o (accepted a) = arrival-sound m p a (arrive m p) (arrive-arrives m p)
+    decided-sound o (refused r) = s

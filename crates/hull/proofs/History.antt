@@ -1,5 +1,5 @@
 -- Demand 3 as one theorem: after every list of offers from the empty map all of its claims hold
--- (`always-balanced`). What every offer keeps is the record `Kept`; from it follow the claims, by the
+-- (`always-balanced`). What every offer keeps is the record `Invariant`; from it follow the claims, by the
 -- laws of sound maps. In the order of this page: what is kept; the start; one accepted offer; one offer;
 -- the list; the claims. Assumes nothing.
 use mathlib.Core.Path.{_≡_, refl, sym, ap, subst, _∙_}
@@ -28,7 +28,7 @@ use Rattle.maps.proofs.Points.{point-new, point-old}
 use Rattle.maps.proofs.Empty.{empty-sound}
 use Rattle.maps.proofs.Alone.{alone-outline}
 use Rattle.maps.proofs.Pair.{pair-outline}
-use Rattle.hull.proofs.Outcomes.{Accepted, Comes, taken, turned-down, Arrives, first, second, inside, outside, arrive-arrives, arrival-accepted, offer-comes}
+use Rattle.hull.proofs.Outcomes.{Accepted, Decided, accepted, refused, Arrives, first, second, inside, outside, arrive-arrives, arrival-accepted, offer-decided}
 use Rattle.hull.proofs.Arrivals.{arrival-sound, outside-balance}
 
 -- what the visible edges reported come to
@@ -36,7 +36,7 @@ abbrev seen-in-all : List Entry → ℕ
 seen-in-all h = total (map reported-edges h)
 
 -- what every offer keeps
-record Kept (r : Run) : Type 0 where
+record Invariant (r : Run) : Type 0 where
   is-sound : Sound (r .map)
   same-points : map offered-point (r .history) ≡ table (r .map .count) (point (r .map))
   reports : map reported-edges (r .history) ≡ map edges-seen (r .history)
@@ -47,9 +47,9 @@ record Kept (r : Run) : Type 0 where
 
 -- ---- the start
 
-kept-start : Kept (record { map = empty-map; history = [] })
+invariant-start : Invariant (record { map = empty-map; history = [] })
 unfolding table table-onto total outside-arrivals count-in empty-map
-kept-start =
+invariant-start =
     record {
       is-sound = empty-sound;
       same-points = refl;
@@ -95,7 +95,7 @@ points-more {m} {p} a helpers edge reference =
 -- what an arrival has to show, for the run with its entry to keep what is kept
 record Adds (m : Map) (p : Point) (o : Offered) : Type 0 where
   is-sound : Sound (o .map)
-  counted : o .map .count ≡ suc (m .count)
+  count-grows : o .map .count ≡ suc (m .count)
   points : table (o .map .count) (point (o .map)) ≡ table (m .count) (point m) ++ p ∷ []
   reports : reported (o .arrival) ≡ visible-edges m p
   first-adds : m .count ≡ 0 → (reported (o .arrival) ≡ 0) × (one-if (is-outside (o .arrival)) ≡ 0)
@@ -104,9 +104,9 @@ record Adds (m : Map) (p : Point) (o : Offered) : Type 0 where
   later-adds : 2 ≤ m .count →
       reported (o .arrival) + length (outline (o .map)) ≡ length (outline m) + 2 * one-if (is-outside (o .arrival))
 
-kept-more : (r : Run) → Kept r → (p : Point) (o : Offered) → Adds (r .map) p o → Kept (with-entry r p o)
+invariant-more : (r : Run) → Invariant r → (p : Point) (o : Offered) → Adds (r .map) p o → Invariant (with-entry r p o)
 unfolding reported-edges edges-seen offered-point
-kept-more r k p o a =
+invariant-more r k p o a =
     let e : Entry = record { before = r .map; offered = p; arrival = o .arrival } in
     let seen = seen-more (r .history) e in
     let outs = outside-more (r .history) e in
@@ -118,10 +118,10 @@ kept-more r k p o a =
           map-append reported-edges (r .history) (e ∷ []) ∙
           ((λ i. k .reports i ++ a .reports i ∷ []) ∙ sym (map-append edges-seen (r .history) (e ∷ [])));
       few-seen =
-          λ few. let none : r .map .count ≡ 0 = omega (arith, a .counted) in
+          λ few. let none : r .map .count ≡ 0 = omega (arith, a .count-grows) in
           omega (arith, seen, k .few-seen (omega arith), a .first-adds none .0);
       few-outside =
-          λ few. let none : r .map .count ≡ 0 = omega (arith, a .counted) in
+          λ few. let none : r .map .count ≡ 0 = omega (arith, a .count-grows) in
           omega (arith, outs, k .few-outside (omega arith), a .first-adds none .1);
       balance =
           λ two.
@@ -130,7 +130,7 @@ kept-more r k p o a =
           let few : r .map .count < 2 = omega arith in
           omega (arith, seen, outs, k .few-seen few, k .few-outside few, a .second-adds one .0, a .second-adds one .1, a .second-adds one .2))
           (λ (more : r .map .count ≢ 1).
-          let later : 2 ≤ r .map .count = omega (arith, a .counted) in
+          let later : 2 ≤ r .map .count = omega (arith, a .count-grows) in
           omega (arith, seen, outs, k .balance later, a .later-adds later))
           (same-or-not (r .map .count) 1);
     }
@@ -150,7 +150,7 @@ unfolding alone pair spliced with-point reported is-outside one-if
 arrival-adds m p a o (first none) =
     record {
       is-sound = arrival-sound m p a _ (first none);
-      counted = refl;
+      count-grows = refl;
       points = points-more a (m .helpers) (m .edge) (m .reference);
       reports = sym (few-visible m p (omega arith));
       first-adds = λ h. (refl, refl);
@@ -160,7 +160,7 @@ arrival-adds m p a o (first none) =
 arrival-adds m p a o (second one) =
     record {
       is-sound = arrival-sound m p a _ (second one);
-      counted = refl;
+      count-grows = refl;
       points = points-more a _ _ _;
       reports = sym (few-visible m p (omega arith));
       first-adds = λ h. (refl, refl);
@@ -170,7 +170,7 @@ arrival-adds m p a o (second one) =
 arrival-adds m p a o (inside two none) =
     record {
       is-sound = arrival-sound m p a _ (inside two none);
-      counted = refl;
+      count-grows = refl;
       points = points-more a (m .helpers) (m .edge) (m .reference);
       reports = sym none;
       first-adds = λ h. absurd (omega arith);
@@ -180,7 +180,7 @@ arrival-adds m p a o (inside two none) =
 arrival-adds m p a o (outside two some) =
     record {
       is-sound = arrival-sound m p a _ (outside two some);
-      counted = refl;
+      count-grows = refl;
       points = points-more a _ _ _;
       reports = refl;
       first-adds = λ h. absurd (omega arith);
@@ -201,42 +201,42 @@ after-offer r p o =
           (r .history);
     }
 
-kept-arrival : (r : Run) → Kept r → (p : Point) → Accepted (r .map) p → (o : Offered) → Arrives (r .map) p o →
-    Kept (after-offer r p o)
-kept-arrival r k p a o arrives =
-    subst (λ (b : Bool). Kept (record { map = o .map; history = cond b (with-entry r p o .history) (r .history) }))
+invariant-arrival : (r : Run) → Invariant r → (p : Point) → Accepted (r .map) p → (o : Offered) → Arrives (r .map) p o →
+    Invariant (after-offer r p o)
+invariant-arrival r k p a o arrives =
+    subst (λ (b : Bool). Invariant (record { map = o .map; history = cond b (with-entry r p o .history) (r .history) }))
     (sym (is-true (is-accepted (o .arrival)) (arrival-accepted (r .map) p o arrives)))
-    (kept-more r k p o (arrival-adds (r .map) p a o arrives))
+    (invariant-more r k p o (arrival-adds (r .map) p a o arrives))
 
-kept-offer : (r : Run) → Kept r → (p : Point) (o : Offered) → Comes (r .map) p o → Kept (after-offer r p o)
+invariant-offer : (r : Run) → Invariant r → (p : Point) (o : Offered) → Decided (r .map) p o → Invariant (after-offer r p o)
 unfolding is-accepted
-kept-offer r k p o (taken a) = kept-arrival r k p a (arrive (r .map) p) (arrive-arrives (r .map) p)
-kept-offer r k p o (turned-down refusal) = k
+invariant-offer r k p o (accepted a) = invariant-arrival r k p a (arrive (r .map) p) (arrive-arrives (r .map) p)
+invariant-offer r k p o (refused refusal) = k
 
-kept-extended : (r : Run) → Kept r → (p : Point) → Kept (extended r p)
+invariant-extended : (r : Run) → Invariant r → (p : Point) → Invariant (extended r p)
 unfolding extended
-kept-extended r k p = kept-offer r k p (offer (r .map) p) (offer-comes (r .map) p)
+invariant-extended r k p = invariant-offer r k p (offer (r .map) p) (offer-decided (r .map) p)
 
 -- ---- the list
 
-kept-from : (r : Run) → Kept r → (ps : List Point) → Kept (run-from r ps)
+invariant-from : (r : Run) → Invariant r → (ps : List Point) → Invariant (run-from r ps)
 unfolding run-from
-kept-from r k [] = k
-kept-from r k (p ∷ ps) = kept-from (extended r p) (kept-extended r k p) ps
+invariant-from r k [] = k
+invariant-from r k (p ∷ ps) = invariant-from (extended r p) (invariant-extended r k p) ps
 
-kept-run : (ps : List Point) → Kept (run ps)
+invariant-run : (ps : List Point) → Invariant (run ps)
 unfolding run
-kept-run ps = kept-from (record { map = empty-map; history = [] }) kept-start ps
+invariant-run ps = invariant-from (record { map = empty-map; history = [] }) invariant-start ps
 
 -- every list of offers from the empty map ends in a sound map
 pub run-sound : (ps : List Point) → Sound (run ps .map)
-run-sound ps = kept-run ps .is-sound
+run-sound ps = invariant-run ps .is-sound
 
 -- ---- the claims
 
-kept-balanced : (r : Run) → Kept r → Balanced r
+invariant-balanced : (r : Run) → Invariant r → Balanced r
 unfolding elem distinct
-kept-balanced r k =
+invariant-balanced r k =
     let s = k .is-sound in
     record {
       edge-undoes-itself = s .links .undone;
@@ -246,10 +246,10 @@ kept-balanced r k =
       one-closed-walk = λ two. s .outlined two .one-walk;
       outline-is-it = λ two. s .outlined two .reference-closed;
       corners-on-it = λ two j h. corners-on-it s two j;
-      corners-once =
+      corners-distinct =
           ⊎-elim
           (λ (few : r .map .count < 2). subst (λ (t : List ℕ). T (distinct t)) (sym (few-outline (r .map) few)) tt)
-          (λ (two : 2 ≤ r .map .count). outline-circuit s two .once)
+          (λ (two : 2 ≤ r .map .count). outline-circuit s two .all-distinct)
           (lt-or-ge (r .map .count) 2);
       others-strictly-left =
           λ a c on.
@@ -263,4 +263,4 @@ kept-balanced r k =
 
 -- demand 3
 pub always-balanced : (ps : List Point) → Balanced (run ps)
-always-balanced ps = kept-balanced (run ps) (kept-run ps)
+always-balanced ps = invariant-balanced (run ps) (invariant-run ps)

@@ -3,6 +3,6 @@ pub mod Arrivals
 pub mod History
 pub mod Theorems
 pub mod Scans
-pub mod Within
-pub mod Lookout
-pub mod Answers
+pub mod Indices
+pub mod Seeing
+pub mod Cases

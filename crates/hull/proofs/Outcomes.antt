@@ -35,12 +35,12 @@ pub record Accepted (m : Map) (p : Point) : Type 0 where
   pub room : m .count < point-limit
   pub ranged : T (in-range p)
   pub fresh : (k : ℕ) → k < m .count → point m k ≢ p
-  pub clear : (i j : ℕ) → i < j → j < m .count → ¬ T (in-line (point m i) (point m j) p)
+  pub general : (i j : ℕ) → i < j → j < m .count → ¬ T (in-line (point m i) (point m j) p)
 
 -- what an offer comes to
-pub data Comes (m : Map) (p : Point) : Offered → Type 0 where
-  taken : Accepted m p → Comes m p (arrive m p)
-  turned-down : (r : Refusal) → Comes m p (arrived (Arrival.Refused r) m)
+pub data Decided (m : Map) (p : Point) : Offered → Type 0 where
+  accepted : Accepted m p → Decided m p (arrive m p)
+  refused : (r : Refusal) → Decided m p (arrived (Arrival.Refused r) m)
 
 -- one rule after another: it applies, or the rest decides
 module _ (m : Map) (p : Point) where
@@ -48,18 +48,18 @@ module _ (m : Map) (p : Point) where
   refuse r = arrived (Arrival.Refused r) m
 
   by-rule : (rule : Rule) (rules : List Rule) →
-      (T (not (rule .applies)) → Comes m p (unless refuse rules (arrive m p))) →
-      Comes m p (unless refuse (rule ∷ rules) (arrive m p))
+      (T (not (rule .applies)) → Decided m p (unless refuse rules (arrive m p))) →
+      Decided m p (unless refuse (rule ∷ rules) (arrive m p))
   unfolding unless
   by-rule rule rules rest =
       ⊎-elim
-      (λ t. rw (is-true (rule .applies) t) (turned-down (rule .refusal)))
+      (λ t. rw (is-true (rule .applies) t) (refused (rule .refusal)))
       (λ t. rw (is-false (rule .applies) (T-not (rule .applies) t)) (rest t))
       (decide (rule .applies))
 
-  by-none : Accepted m p → Comes m p (unless refuse [] (arrive m p))
+  by-none : Accepted m p → Decided m p (unless refuse [] (arrive m p))
   unfolding unless
-  by-none a = taken a
+  by-none a = accepted a
 
 -- the conditions' tests, as statements of what they let through
 none-repeated : (m : Map) (p : Point) → T (not (is-repeated m p)) → (k : ℕ) → k < m .count → point m k ≢ p
@@ -73,9 +73,9 @@ unfolding is-in-line
 none-in-line m p t i j h k l =
     T-not (is-in-line m p) t (any-by (m .count) _ j k (any-by j (λ i′. in-line (point m i′) (point m j) p) i h l))
 
-pub offer-comes : (m : Map) (p : Point) → Comes m p (offer m p)
+pub offer-decided : (m : Map) (p : Point) → Decided m p (offer m p)
 unfolding offer
-offer-comes m p =
+offer-decided m p =
     by-rule m p _ _
     (λ t₁. by-rule m p _ _
     (λ t₂. by-rule m p _ _
@@ -88,7 +88,7 @@ offer-comes m p =
       room = nleb→lt point-limit (m .count) t₂;
       ranged = not-not (in-range p) t₃;
       fresh = none-repeated m p t₄;
-      clear = none-in-line m p t₅;
+      general = none-in-line m p t₅;
     }))))))
 
 -- ---- the four arrivals
@@ -129,11 +129,11 @@ arrival-accepted m p o (outside h n) = tt
 
 -- a refused offer leaves the map as it was
 pub refused-keeps : (m : Map) (p : Point) → ¬ T (is-accepted (offer m p .arrival)) → offer m p .map ≡ m
-refused-keeps m p n = keeps (offer m p) (offer-comes m p) n
+refused-keeps m p n = keeps (offer m p) (offer-decided m p) n
   where
-    keeps : (o : Offered) → Comes m p o → ¬ T (is-accepted (o .arrival)) → o .map ≡ m
-    keeps o (taken a) n = absurd (n (arrival-accepted m p (arrive m p) (arrive-arrives m p)))
-    keeps o (turned-down r) n = refl
+    keeps : (o : Offered) → Decided m p o → ¬ T (is-accepted (o .arrival)) → o .map ≡ m
+    keeps o (accepted a) n = absurd (n (arrival-accepted m p (arrive m p) (arrive-arrives m p)))
+    keeps o (refused r) n = refl
 
 -- ---- the number of the answer
 

@@ -15,7 +15,7 @@ use Rattle.model.specs.Sound.{sound, Sound}
 use Rattle.model.specs.Arrival.{left-corner, right-corner, spliced, offer}
 use Rattle.model.proofs.Sound.{sound-holds, sound-by}
 use Rattle.plane.proofs.Convex.{some-hidden}
-use Rattle.plane.proofs.Corners.{Left-corner, Right-corner, left-corner-unique, right-corner-unique}
+use Rattle.plane.proofs.Corners.{LeftCorner, RightCorner, left-corner-unique, right-corner-unique}
 use Rattle.plane.proofs.Hull.{Supports}
 use Rattle.plane.proofs.Hull as plane-hull
 use Rattle.maps.proofs.Outline.{outline-circuit}
@@ -32,15 +32,15 @@ sound-kept m p t = sound-by (offer m p .map) (offer-sound m p (sound-holds m t))
 -- ---- where an edge is visible there is one left corner and one right, and some edge is hidden
 
 module _ {m : Map} {p : Point} (a : Accepted m p) (two : 2 ≤ m .count) (some : visible-edges m p ≢ 0) where
-  pub left-corner-only : (c : ℕ) → Left-corner (previous-corner m) (sees m p) (outline m) c → c ≡ left-corner m p
+  pub left-corner-only : (c : ℕ) → LeftCorner (previous-corner m) (sees m p) (outline m) c → c ≡ left-corner m p
   unfolding sees
   left-corner-only c l =
-      left-corner-unique (sound-convex (a .is-sound) two) p (a .clear) c (left-corner m p) l (left-is a two some)
+      left-corner-unique (sound-convex (a .is-sound) two) p (a .general) c (left-corner m p) l (left-is a two some)
 
-  pub right-corner-only : (c : ℕ) → Right-corner (previous-corner m) (sees m p) (outline m) c → c ≡ right-corner m p
+  pub right-corner-only : (c : ℕ) → RightCorner (previous-corner m) (sees m p) (outline m) c → c ≡ right-corner m p
   unfolding sees
   right-corner-only c r =
-      right-corner-unique (sound-convex (a .is-sound) two) p (a .clear) c (right-corner m p) r (right-is a two some)
+      right-corner-unique (sound-convex (a .is-sound) two) p (a .general) c (right-corner m p) r (right-is a two some)
 
   -- how the links after an outside arrival differ from those before: just as the document names it
   pub outside-links : Splices m (spliced m p (left-corner m p) (right-corner m p)) (left-corner m p) (right-corner m p)

@@ -1,2 +1,2 @@
-pub mod Asked
-pub mod Looking
+pub mod Requires
+pub mod Sight

@@ -8,7 +8,7 @@ ghost use Prim.Native.Nat.{_<_};
 ghost use Rattle.orbits.specs.Sets.{dart-limit};
 ghost use Rattle.model.specs.Maps.{point-limit};
 ghost use Rattle.model.specs.Arrival.{alone, cut, join, pair, spliced};
-ghost use Rattle.hull.specs.Asked.{Cuttable, Spliceable};
+ghost use Rattle.hull.specs.Requires.{Cuttable, Spliceable};
 
 // The partner of dart d is fixed.
 fn cut(edge: &mut [usize; DART_LIMIT], d: usize)

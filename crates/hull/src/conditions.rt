@@ -7,7 +7,7 @@ use model::Point;
 use plane::are_in_line;
 ghost use mathlib.Core.Path.{_≡_};
 ghost use Rattle.model.specs.Arrival.{is-in-line, is-repeated};
-ghost use Rattle.hull.specs.Asked.{Ranged, in-line-with};
+ghost use Rattle.hull.specs.Requires.{Ranged, in-line-with};
 
 // Whether p is equal to a point of the map.
 pub fn is_repeated(map: Map, p: Point) -> bool

@@ -24,7 +24,7 @@ ghost use Prim.Native.Nat.{_≤_};
 ghost use lib.Dec.{T};
 ghost use Rattle.model.specs.Sound.{sound};
 ghost use Rattle.model.specs.Arrival.{arrive, arrived, later-point, offer};
-ghost use Rattle.hull.specs.Asked.{Acceptable};
+ghost use Rattle.hull.specs.Requires.{RoomFor};
 
 // The map after a point is offered to it, and what became of the point. A map that is not sound is
 // turned down; where the point is turned down, the map is as it was.
@@ -71,7 +71,7 @@ fn refused(map: Map, refusal: Refusal) -> Offered
 
 // The arrival of a point that is not turned down.
 fn arrive(map: Map, p: Point) -> Offered
-    requires { ⌜ Acceptable map p ⌝ }
+    requires { ⌜ RoomFor map p ⌝ }
     ensures { λ r. ⌜ r ≡ arrive map p ⌝ }
 {
     let count = map.count;
@@ -92,7 +92,7 @@ fn arrive(map: Map, p: Point) -> Offered
 
 // The arrival in a map that has an outline: inside if no edge of it is visible, otherwise outside.
 fn later_point(map: Map, p: Point) -> Offered
-    requires { ⌜ Acceptable map p ⌝ }
+    requires { ⌜ RoomFor map p ⌝ }
     requires { ⌜ 2 ≤ map .count ⌝ }
     ensures { λ r. ⌜ r ≡ later-point map p ⌝ }
 {

@@ -10,8 +10,8 @@ ghost use mathlib.Core.Path.{_≡_};
 ghost use Prim.Native.Nat.{_+_, _<_};
 ghost use Rattle.finite.specs.Bounded.{one-if};
 ghost use Rattle.model.specs.Maps.{point-limit};
-ghost use Rattle.hull.specs.Asked.{Outlined, Ranged, visible-at};
-ghost use Rattle.hull.specs.Looking.{kept, seen};
+ghost use Rattle.hull.specs.Requires.{OutlineFor, Ranged, visible-at};
+ghost use Rattle.hull.specs.Sight.{sought-at, seen};
 
 // The corners between which the visible edges lie, and their number.
 pub struct Seen {
@@ -28,7 +28,7 @@ pub struct Sought {
 
 // What is seen from p, once round the outline.
 pub fn seen_from(map: Map, p: Point) -> Seen
-    requires { ⌜ Outlined map p ⌝ }
+    requires { ⌜ OutlineFor map p ⌝ }
     ensures { λ r. ⌜ r ≡ seen map p ⌝ }
 {
     let start = map.reference / 2;
@@ -49,9 +49,9 @@ pub fn seen_from(map: Map, p: Point) -> Seen
     while 0 < ahead {
         let b = next_corner(&map.edge, a);
         let leaving = is_visible(&map.xs, &map.ys, a, b, p);
-        left = kept(left, entering, leaving, a);
-        right = kept(right, leaving, entering, a);
-        visible = counted(visible, leaving);
+        left = sought_at(left, entering, leaving, a);
+        right = sought_at(right, leaving, entering, a);
+        visible = plus_one_if(visible, leaving);
         entering = leaving;
         a = b;
         if b == start {
@@ -76,8 +76,8 @@ fn is_visible<'a>(xs: &'a [i64], ys: &'a [i64], a: usize, b: usize, p: Point) ->
 }
 
 // The corner sought if it is found; else corner a, where a test that failed before it passes after it.
-fn kept(sought: Sought, before: bool, after: bool, a: usize) -> Sought
-    ensures { λ r. ⌜ r ≡ kept sought before after a ⌝ }
+fn sought_at(sought: Sought, before: bool, after: bool, a: usize) -> Sought
+    ensures { λ r. ⌜ r ≡ sought-at sought before after a ⌝ }
 {
     let found = sought.found;
     if found {
@@ -97,7 +97,7 @@ fn kept(sought: Sought, before: bool, after: bool, a: usize) -> Sought
 }
 
 // The number of visible edges, with one edge more.
-fn counted(visible: usize, one_more: bool) -> usize
+fn plus_one_if(visible: usize, one_more: bool) -> usize
     requires { ⌜ visible < point-limit ⌝ }
     ensures { λ r. ⌜ r ≡ visible + one-if «one_more» ⌝ }
 {

@@ -105,7 +105,7 @@ module _ {m : Map} (s : Sound m) (p : Point) where
     unfolding alone with-point edge-link has-helper
     alone-circuit =
         let c = outline-circuit s two in
-        record { once = c .once; below = λ a h. omega (arith, c .below a h); helped = c .helped; edges = c .edges }
+        record { all-distinct = c .all-distinct; below = λ a h. omega (arith, c .below a h); helped = c .helped; edges = c .edges }
 
     -- a dart whose part is closed is none but an old one, so it lies on the outline
     alone-every : (d : ℕ) → DartOf (alone m p) d → ClosedPart (edge-link (alone m p)) (point-link (alone m p)) d →

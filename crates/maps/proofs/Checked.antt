@@ -18,7 +18,7 @@ use Rattle.orbits.specs.Sets.{dart-limit}
 use Rattle.model.specs.declared.Map.{Map}
 use Rattle.model.specs.Plane.{in-range, coordinate-in-range}
 use Rattle.model.specs.Maps.{point, point-limit}
-use Rattle.model.specs.Sound.{arrays-whole, count-fits, points-in-range, places-clear, links-undo}
+use Rattle.model.specs.Sound.{arrays-whole, count-fits, points-in-range, places-vacant, links-undo}
 use Rattle.model.specs.Sound.{one-outline, reference-on-outline, others-left, no-outline, sound}
 use Rattle.maps.specs.Checks.{points-sound, links-sound, outline-sound}
 use Rattle.maps.proofs.Loops.{from-on}
@@ -48,7 +48,7 @@ module _ (m : Map) (t : T (points-sound m)) where
   unfolding count-fits
   count-within = leb→le (m .count) point-limit (search (and-left, and-right))
 
-  -- coordinates that are clear from place `count` on
+  -- coordinates that are vacant from place `count` on
   clear-from : (s : List ℤ) → T (all-in (eqZ (pos 0)) (drop (m .count) s)) → (k : ℕ) → m .count ≤ k →
       getD s k (pos 0) ≡ pos 0
   clear-from s c k h =
@@ -59,10 +59,10 @@ module _ (m : Map) (t : T (points-sound m)) where
       (lt-or-ge k (length s))
 
   pub places-in-range : (k : ℕ) → T (in-range (point m k))
-  unfolding points-in-range places-clear point in-range coordinate-in-range
+  unfolding points-in-range places-vacant point in-range coordinate-in-range
   places-in-range k =
       let ranged : T (points-in-range m) = search (and-left, and-right) in
-      let clear : T (places-clear m) = search (and-left, and-right) in
+      let vacant : T (places-vacant m) = search (and-left, and-right) in
       ⊎-elim
       (λ (l : k < m .count). all-at (m .count) _ ranged k l)
       (λ (l : m .count ≤ k).

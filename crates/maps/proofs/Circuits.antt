@@ -1,5 +1,5 @@
 -- Circuits, in the order of this page: a list of points round which edges lead, each point's own dart
--- linked with the next one's helper; the corner after and before a member; a circuit turned; the
+-- linked with the next one's helper; the corner after and before a member; a circuit rotated; the
 -- corners from its first member, so the outline, are the circuit; its darts are just what is reached
 -- from any of them, and no link fixes one.
 -- The links undo themselves and keep the present darts (`Linked`); the map need not be sound.
@@ -15,7 +15,7 @@ use borrow.Author.Tests.{le-ltb}
 use Rattle.finite.specs.Bounded.{count}
 use Rattle.finite.specs.Counting.{count-small}
 use Rattle.finite.specs.Lists.{elem, distinct, length-distinct}
-use Rattle.finite.specs.Cycles.{Cycle, cycle-turn}
+use Rattle.finite.specs.Cycles.{Cycle, cycle-rotate}
 use Rattle.finite.specs.CycleLaws.{distinct-swap, elem-swap, cycle-change, cycle-after, cycle-before, cycle-holds, ring-of-cycle}
 use Rattle.orbits.specs.Reach.{Reach, here}
 use Rattle.orbits.specs.Classes.{is-closed}
@@ -27,7 +27,7 @@ use Rattle.model.specs.declared.Map.{Map}
 use Rattle.model.specs.Maps.{own, helper, owner, has-helper, edge-link, point-link, dart-bound}
 use Rattle.model.specs.Outline.{next-corner, previous-corner, corners-from, outline}
 use Rattle.maps.proofs.Darts.{owner-own, owner-helper, own-differs, each-dart, both-present, present-dart, point-own, point-helper, point-owner}
-use Rattle.maps.proofs.Links.{Linked, links, DartOf, point-involutes, edge-involutes, links-keep, links-two-way}
+use Rattle.maps.proofs.Links.{Linked, links, DartOf, point-involutes, edge-involutes, links-keep, links-symmetric}
 
 -- an edge from corner a to corner b "links a's own dart with b's helper"
 abbrev pub Edge : Map → ℕ → ℕ → Type 0
@@ -44,26 +44,26 @@ pub edge-previous : {m : Map} → Linked m → (a b : ℕ) → Edge m a b → pr
 unfolding previous-corner
 edge-previous l a b e = ap owner (edge-back l a b e) ∙ owner-own a
 
--- points with helpers, each once, round which edges lead
+-- points with helpers, each all-distinct, round which edges lead
 pub record Circuit (m : Map) (s : List ℕ) : Type 0 where
-  pub once : T (distinct s)
+  pub all-distinct : T (distinct s)
   pub below : (a : ℕ) → T (elem a s) → a < m .count
   pub helped : (a : ℕ) → T (elem a s) → T (has-helper m a)
   pub edges : Cycle (Edge m) s
 
 -- a circuit may begin at any of its members
-pub circuit-turn : {m : Map} (s t : List ℕ) → Circuit m (s ++ t) → Circuit m (t ++ s)
-circuit-turn {m} s t c =
+pub circuit-rotate : {m : Map} (s t : List ℕ) → Circuit m (s ++ t) → Circuit m (t ++ s)
+circuit-rotate {m} s t c =
     record {
-      once = distinct-swap s t (c .once);
+      all-distinct = distinct-swap s t (c .all-distinct);
       below = λ a h. c .below a (elem-swap a t s h);
       helped = λ a h. c .helped a (elem-swap a t s h);
-      edges = turned s t (c .edges);
+      edges = rotated s t (c .edges);
     }
   where
-    turned : (s t : List ℕ) → Cycle (Edge m) (s ++ t) → Cycle (Edge m) (t ++ s)
-    turned s [] e = rw append-nil at e
-    turned s (x ∷ t) e = cycle-turn (Edge m) s x t e
+    rotated : (s t : List ℕ) → Cycle (Edge m) (s ++ t) → Cycle (Edge m) (t ++ s)
+    rotated s [] e = rw append-nil at e
+    rotated s (x ∷ t) e = cycle-rotate (Edge m) s x t e
 
 module _ {m : Map} {s : List ℕ} (c : Circuit m s) where
   pub circuit-next : (a : ℕ) → T (elem a s) → Edge m a (next-corner m a) × T (elem (next-corner m a) s)
@@ -73,7 +73,7 @@ module _ {m : Map} {s : List ℕ} (c : Circuit m s) where
 
   circuit-length : length s ≤ m .count
   circuit-length =
-      omega (arith, length-distinct (m .count) s (c .once) (c .below), count-small (m .count) (λ k. elem k s))
+      omega (arith, length-distinct (m .count) s (c .all-distinct) (c .below), count-small (m .count) (λ k. elem k s))
 
   pub circuit-dart : (d : ℕ) → T (elem (owner d) s) → DartOf m d
   circuit-dart d h = present-dart m d (both-present m d (c .below (owner d) h) (c .helped (owner d) h))
@@ -84,7 +84,7 @@ pub circuit-corners : {m : Map} (a : ℕ) (t : List ℕ) → Circuit m (a ∷ t)
 unfolding corners-from
 circuit-corners {m} a t c =
     ring-of-cycle (next-corner m) a t (m .count)
-    (cycle-change (Edge m) (λ x y. next-corner m x ≡ y) (a ∷ t) (λ x y h k e. edge-next m x y e) (c .edges)) (c .once)
+    (cycle-change (Edge m) (λ x y. next-corner m x ≡ y) (a ∷ t) (λ x y h k e. edge-next m x y e) (c .edges)) (c .all-distinct)
     (circuit-length c)
 
 pub circuit-outline : {m : Map} (a : ℕ) (t : List ℕ) → Circuit m (a ∷ t) → 2 ≤ m .count →
@@ -150,7 +150,7 @@ module _ {m : Map} (l : Linked m) {s : List ℕ} (c : Circuit m s) where
   pub circuit-reach : (d e : ℕ) → T (elem (owner d) s) → T (elem (owner e) s) → Reach (links m) d e
   circuit-reach d e h k =
       reach-trans
-      (reach-sym (links-two-way l) (circuit-dart c (own (owner d)) (rw (owner-own (owner d)) h)) (own-reach d h))
+      (reach-sym (links-symmetric l) (circuit-dart c (own (owner d)) (rw (owner-own (owner d)) h)) (own-reach d h))
       (reach-trans (reach-own (owner d) (owner e) h k) (own-reach e k))
 
   -- a dart is reached from a dart of the circuit just where its point is a member

@@ -1,5 +1,5 @@
 -- Darts and points, in the order of this page: the point of an own dart and of a helper; a dart is
--- one or the other; the partner; which darts are present; the point link, and that it undoes itself
+-- one or the other; the other-dart; which darts are present; the point link, and that it undoes itself
 -- and keeps the present darts, in every map.
 -- Assumes nothing.
 use mathlib.Core.Path.{_≡_, refl, sym, subst}
@@ -12,7 +12,7 @@ use borrow.Author.Tests.{ne-eqb, eq-eqb}
 use Rattle.finite.specs.Tests.{and-left, and-right, and-both, or-cases, or-left, or-right, decide, is-true, is-false, equal-by, same-or-not}
 use Rattle.orbits.proofs.Reach.{Dart}
 use Rattle.model.specs.declared.Map.{Map}
-use Rattle.model.specs.Maps.{own, helper, owner, is-own, partner, has-helper, is-present, point-link, dart-bound}
+use Rattle.model.specs.Maps.{own, helper, owner, is-own, other-dart, has-helper, is-present, point-link, dart-bound}
 use Rattle.model.proofs.Sound.{present-below}
 
 -- ---- numbers
@@ -26,11 +26,11 @@ owner-helper k = omega arith
 pub own-differs : (j k : ℕ) → own j ≢ helper k
 own-differs j k = omega arith
 
-pub own-once : {j k : ℕ} → own j ≡ own k → j ≡ k
-own-once e = omega arith
+pub own-injective : {j k : ℕ} → own j ≡ own k → j ≡ k
+own-injective e = omega arith
 
-pub helper-once : {j k : ℕ} → helper j ≡ helper k → j ≡ k
-helper-once e = omega arith
+pub helper-injective : {j k : ℕ} → helper j ≡ helper k → j ≡ k
+helper-injective e = omega arith
 
 -- a dart is its point's own dart or its helper
 pub own-or-helper : (d : ℕ) → (d ≡ own (owner d)) ⊎ (d ≡ helper (owner d))
@@ -43,13 +43,13 @@ is-own-own k = equal-by (own k % 2) 0 (omega arith)
 pub own-dart : (d : ℕ) → T (is-own d) → d ≡ own (owner d)
 own-dart d t = let e = eqb→eq (d % 2) 0 t in omega arith
 
-pub partner-own : (k : ℕ) → partner (own k) ≡ helper k
-unfolding partner
-partner-own k = rw (eq-eqb (own k % 2) 0 (omega arith)) (omega arith)
+pub other-own : (k : ℕ) → other-dart (own k) ≡ helper k
+unfolding other-dart
+other-own k = rw (eq-eqb (own k % 2) 0 (omega arith)) (omega arith)
 
-pub partner-helper : (k : ℕ) → partner (helper k) ≡ own k
-unfolding partner
-partner-helper k = rw (ne-eqb (helper k % 2) 0 (omega arith)) (omega arith)
+pub other-helper : (k : ℕ) → other-dart (helper k) ≡ own k
+unfolding other-dart
+other-helper k = rw (ne-eqb (helper k % 2) 0 (omega arith)) (omega arith)
 
 -- what holds of every own dart and of every helper holds of every dart
 pub each-dart {ℓ} : (Q : ℕ → Type ℓ) → ((k : ℕ) → Q (own k)) → ((k : ℕ) → Q (helper k)) → (d : ℕ) → Q d
@@ -111,11 +111,11 @@ module _ (m : Map) where
 
   pub point-own : (k : ℕ) → T (has-helper m k) → point-link m (own k) ≡ helper k
   unfolding point-link
-  point-own k t = rw (owner-own k, is-true (has-helper m k) t) (partner-own k)
+  point-own k t = rw (owner-own k, is-true (has-helper m k) t) (other-own k)
 
   pub point-helper : (k : ℕ) → T (has-helper m k) → point-link m (helper k) ≡ own k
   unfolding point-link
-  point-helper k t = rw (owner-helper k, is-true (has-helper m k) t) (partner-helper k)
+  point-helper k t = rw (owner-helper k, is-true (has-helper m k) t) (other-helper k)
 
   pub point-lone : (d : ℕ) → ¬ T (has-helper m (owner d)) → point-link m d ≡ d
   unfolding point-link

@@ -10,8 +10,8 @@ use native.Mathlib.Omega.{arith}
 use lib.Dec.{T, T-not}
 use Rattle.finite.specs.Tests.{decide}
 use Rattle.orbits.specs.Reach.{by-two}
-use Rattle.orbits.proofs.Reach.{Dart, Keeps, TwoWay}
-use Rattle.orbits.proofs.Permutations.{Involutes, involution-permutes, part-two-way}
+use Rattle.orbits.proofs.Reach.{Dart, Keeps, Symmetric}
+use Rattle.orbits.proofs.Permutations.{Involutes, involution-permutes, part-symmetric}
 use Rattle.orbits.proofs.Balance.{balance}
 use Rattle.model.specs.declared.Kind.{Kind}
 use Rattle.model.specs.declared.Map.{Map}
@@ -40,7 +40,7 @@ DartOf m = Dart (dart-bound m) (is-present m)
 pub point-involutes : (m : Map) → Involutes (dart-bound m) (is-present m) (point-link m)
 point-involutes m =
     record {
-      kept = λ {d} h. present-dart m (point-link m d) (point-present m d (h .is-present));
+      stays = λ {d} h. present-dart m (point-link m d) (point-present m d (h .is-present));
       twice = λ {d} h. point-twice m d;
     }
 
@@ -48,18 +48,18 @@ module _ {m : Map} (l : Linked m) where
   pub edge-involutes : Involutes (dart-bound m) (is-present m) (edge-link m)
   edge-involutes =
       record {
-        kept = λ {d} h. present-dart m (edge-link m d) (l .present d (h .is-present));
+        stays = λ {d} h. present-dart m (edge-link m d) (l .present d (h .is-present));
         twice = λ {d} h. l .undone d;
       }
 
-  pub edge-once : {c d : ℕ} → edge-link m c ≡ edge-link m d → c ≡ d
-  edge-once {c} {d} e = cc (l .undone c, l .undone d)
+  pub edge-injective : {c d : ℕ} → edge-link m c ≡ edge-link m d → c ≡ d
+  edge-injective {c} {d} e = cc (l .undone c, l .undone d)
 
-  pub links-two-way : TwoWay (dart-bound m) (is-present m) (links m)
-  links-two-way = part-two-way (involution-permutes edge-involutes) (involution-permutes (point-involutes m))
+  pub links-symmetric : Symmetric (dart-bound m) (is-present m) (links m)
+  links-symmetric = part-symmetric (involution-permutes edge-involutes) (involution-permutes (point-involutes m))
 
   pub links-keep : Keeps (dart-bound m) (is-present m) (links m)
-  links-keep = links-two-way .keeps
+  links-keep = links-symmetric .keeps
 
 -- ---- in a sound map
 
@@ -111,7 +111,7 @@ module _ {m : Map} (s : Sound m) where
 
   -- the edge link of a dart that is moved is moved
   pub moved-back : (d : ℕ) → edge-link m d ≢ d → edge-link m (edge-link m d) ≢ edge-link m d
-  moved-back d moves e = moves (edge-once (sound-linked s) e)
+  moved-back d moves e = moves (edge-injective (sound-linked s) e)
 
   pub next-owned : (a : ℕ) → edge-link m (own a) ≢ own a → T (has-helper m (next-corner m a))
   next-owned a moves =

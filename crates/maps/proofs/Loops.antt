@@ -1,7 +1,7 @@
 -- Loops that test one number after another and answer false at the first that fails:
 --     for k in first..stop { if !here(k) { return false; } } true
 -- In this order: what such a loop tests; its invariant, `Passed`, with the laws of its start, of a
--- turn, of an early return and of its end; what tests every number below a bound, every element
+-- iteration, of an early return and of its end; what tests every number below a bound, every element
 -- from a place on, and every place of a list. Then the same laws for loops that fill an array, and
 -- for loops round the corners of a ring. Assumes nothing.
 use mathlib.Core.Path.{_≡_, sym, ap, subst, _∙_}
@@ -52,12 +52,12 @@ pub record Passed (here : ℕ → Bool) (first k : ℕ) : Type 0 where
 pub none-passed : (here : ℕ → Bool) (first : ℕ) → Passed here first first
 none-passed here first = record { from = omega arith; so-far = λ j h l. absurd (omega arith) }
 
--- a turn at k, in which the code found r for the test there
-pub record Turn (here : ℕ → Bool) (first k : ℕ) (r : Bool) : Type 0 where
+-- a iteration at k, in which the code found r for the test there
+pub record Iteration (here : ℕ → Bool) (first k : ℕ) (r : Bool) : Type 0 where
   pub passed : Passed here first k
   pub found : r ≡ here k
 
-module _ {here : ℕ → Bool} {first k : ℕ} {r : Bool} (t : Turn here first k r) where
+module _ {here : ℕ → Bool} {first k : ℕ} {r : Bool} (t : Iteration here first k r) where
   pub one-passed : not r ≡ false → Passed here first (k + 1)
   one-passed n =
       record {
@@ -154,7 +154,7 @@ pub round-begun : {p : ℕ → Bool} {f : ℕ → ℕ} {start n a : ℕ} {answer
     all-in p (ring f start n a) ≡ answer → Round p f start n 0 a answer
 round-begun e = record { rest = rw sub-zero e }
 
--- a turn at corner a, in which the code found r for the test there, and b for the next corner
+-- a iteration at corner a, in which the code found r for the test there, and b for the next corner
 pub record Corner (p : ℕ → Bool) (f : ℕ → ℕ) (start n k a : ℕ) (answer r : Bool) (b : ℕ) : Type 0 where
   pub round : Round p f start n k a answer
   pub within : k < n

@@ -23,15 +23,15 @@ use Rattle.orbits.specs.Classes.{is-closed}
 use Rattle.orbits.proofs.Reach.{Dart, reach-trans, reaches-sound, reaches-complete, by-first-link, by-second-link}
 use Rattle.orbits.proofs.Permutations.{Permutes}
 use Rattle.orbits.proofs.Classes.{closed-iff}
-use Rattle.orbits.proofs.Rings.{Round, orbit-round, round-darts}
+use Rattle.orbits.proofs.Rings.{Ringed, orbit-ringed, ringed-darts}
 use Rattle.orbits.proofs.ClosedWalks.{ClosedPart, OneClosed, one-closed-at}
 use Rattle.model.specs.declared.Map.{Map}
 use Rattle.model.specs.Maps.{own, helper, owner, is-present, edge-link, point-link, dart-bound}
 use Rattle.model.specs.Outline.{next-corner, previous-corner, outline}
 use Rattle.model.specs.Sound.{Sound}
-use Rattle.maps.proofs.Darts.{owner-own, own-dart, own-once, own-or-helper, present-owner, present-dart, point-helper}
-use Rattle.maps.proofs.Links.{Linked, sound-linked, links, DartOf, links-keep, links-two-way, edge-once, moved-own, moved-own-owned, next-owned, next-another}
-use Rattle.maps.proofs.Circuits.{Edge, Circuit, circuit-next, circuit-previous, circuit-both-ways, circuit-turn, circuit-outline, circuit-iff, circuit-dart, circuit-closed-part}
+use Rattle.maps.proofs.Darts.{owner-own, own-dart, own-injective, own-or-helper, present-owner, present-dart, point-helper}
+use Rattle.maps.proofs.Links.{Linked, sound-linked, links, DartOf, links-keep, links-symmetric, edge-injective, moved-own, moved-own-owned, next-owned, next-another}
+use Rattle.maps.proofs.Circuits.{Edge, Circuit, circuit-next, circuit-previous, circuit-both-ways, circuit-rotate, circuit-outline, circuit-iff, circuit-dart, circuit-closed-part}
 
 -- a list from whose members f leads to other members has two
 two-or-more : (f : ℕ → ℕ) (x : ℕ) (t : List ℕ) → T (elem x t) →
@@ -84,14 +84,14 @@ module _ {m : Map} (s : Sound m) (two : 2 ≤ m .count) where
   next-permutes : Permutes (m .count) on (next-corner m)
   next-permutes =
       record {
-        kept = λ {d = a} h.
+        stays = λ {d = a} h.
             record {
               below = s .links .owned (next-corner m a) (next-owned s a (moves a (h .is-present)));
               is-present = next-on a (h .is-present);
             };
-        once = λ {c = a} {d = b} h k e.
-            own-once
-            (edge-once linked
+        injective = λ {c = a} {d = b} h k e.
+            own-injective
+            (edge-injective linked
             (moved-own s a (moves a (h .is-present)) ∙
             (ap helper e ∙ sym (moved-own s b (moves b (k .is-present))))));
       }
@@ -103,11 +103,11 @@ module _ {m : Map} (s : Sound m) (two : 2 ≤ m .count) where
         is-present = on-by (owner (m .reference)) (subst (Reach (links m) (m .reference)) reference-is-own here);
       }
 
-  round-circuit : (t : List ℕ) → Round (next-corner m) (owner (m .reference)) t →
+  ringed-circuit : (t : List ℕ) → Ringed (next-corner m) (owner (m .reference)) t →
       Circuit m (owner (m .reference) ∷ t)
-  round-circuit t r =
+  ringed-circuit t r =
       record {
-        once = r .once;
+        all-distinct = r .all-distinct;
         below = λ a h. at a h .below;
         helped = λ a h. moved-own-owned s a (moves a (at a h .is-present));
         edges =
@@ -116,14 +116,14 @@ module _ {m : Map} (s : Sound m) (two : 2 ≤ m .count) where
       }
     where
       at : (a : ℕ) → T (elem a (owner (m .reference) ∷ t)) → Dart (m .count) on a
-      at = round-darts next-permutes first-on r
+      at = ringed-darts next-permutes first-on r
 
   -- ---- the outline
 
   found : (t : List ℕ) × (outline m ≡ owner (m .reference) ∷ t) × Circuit m (owner (m .reference) ∷ t)
   found =
-      let r = orbit-round next-permutes first-on in
-      let c = round-circuit (r .0) (r .1) in
+      let r = orbit-ringed next-permutes first-on in
+      let c = ringed-circuit (r .0) (r .1) in
       (r .0, circuit-outline (owner (m .reference)) (r .0) c two refl, c)
 
   -- it begins with the reference's point
@@ -137,9 +137,9 @@ module _ {m : Map} (s : Sound m) (two : 2 ≤ m .count) where
   pub outline-circuit : Circuit m (outline m)
   outline-circuit = rw (found .1) (found .2)
 
-  -- so they do in the outline turned
-  pub outline-turned : (s t u : List ℕ) → outline m ≡ s ++ t → t ++ s ≡ u → Circuit m u
-  outline-turned s t u e i = subst (Circuit m) i (circuit-turn s t (subst (Circuit m) e outline-circuit))
+  -- so they do in the outline rotated
+  pub outline-rotated : (s t u : List ℕ) → outline m ≡ s ++ t → t ++ s ≡ u → Circuit m u
+  outline-rotated s t u e i = subst (Circuit m) i (circuit-rotate s t (subst (Circuit m) e outline-circuit))
 
   pub outline-both-ways : Cycle (λ a b. (next-corner m a ≡ b) × (previous-corner m b ≡ a)) (outline m)
   outline-both-ways = circuit-both-ways linked outline-circuit
@@ -178,7 +178,7 @@ module _ {m : Map} (s : Sound m) (two : 2 ≤ m .count) where
 
   -- no other part is closed
   pub reference-closed-alone : OneClosed (dart-bound m) (is-present m) (edge-link m) (point-link m) (m .reference)
-  reference-closed-alone = one-closed-at (links-two-way linked) (s .outlined two .one-walk) reference-dart reference-part
+  reference-closed-alone = one-closed-at (links-symmetric linked) (s .outlined two .one-walk) reference-dart reference-part
 
   pub closed-reached : (d : ℕ) → T (is-present m d) → T (is-closed (edge-link m) (point-link m) (dart-bound m) d) →
       Reach (links m) (m .reference) d

@@ -77,7 +77,7 @@ module _ {m : Map} (s : Sound m) (one : m .count ≡ 1) (p : Point) where
   pair-splices =
       let inner = length-join 0 3 (m .edge) in
       record {
-        counted = refl;
+        count-grows = refl;
         helpers-whole =
             length-set (set (m .helpers) 0 true) 1 true ∙ (length-set (m .helpers) 0 true ∙ s .links .helpers-whole);
         edge-whole = length-join 2 1 (join 0 3 (m .edge)) ∙ (inner ∙ s .links .edge-whole);
@@ -107,8 +107,8 @@ module _ {m : Map} (s : Sound m) (one : m .count ≡ 1) (p : Point) where
   unfolding distinct Cycle Chain
   pair-circuit =
       record {
-        once = tt;
-        below = λ a h. omega (arith, pair-splices .counted, members-below a h);
+        all-distinct = tt;
+        below = λ a h. omega (arith, pair-splices .count-grows, members-below a h);
         helped = λ a h. pair-helper p s a (members-below a h);
         edges = (
           ap (λ (k : ℕ). edge-link (pair m p) (own k)) (sym one) ∙ pair-splices .at-own,
@@ -138,12 +138,12 @@ module _ {m : Map} (s : Sound m) (one : m .count ≡ 1) (p : Point) where
       (λ (e : a ≡ 1).
       let next : next-corner (pair m p) a ≡ 0 =
       ap (next-corner (pair m p)) (e ∙ sym one) ∙ splice-next-new pair-splices in
-      absurd (omega (arith, pair-splices .counted)))
+      absurd (omega (arith, pair-splices .count-grows)))
       (λ t.
       let e : a ≡ 0 = elem-one a 0 t in
       let next : next-corner (pair m p) a ≡ m .count =
       ap (next-corner (pair m p)) e ∙ splice-next-left pair-splices in
-      absurd (omega (arith, pair-splices .counted)))
+      absurd (omega (arith, pair-splices .count-grows)))
       (elem-cases a 1 (0 ∷ []) h)
 
 pub pair-sound : {m : Map} (p : Point) → Sound m → m .count ≡ 1 → T (in-range p) →

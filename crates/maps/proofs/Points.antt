@@ -57,5 +57,5 @@ module _ {m : Map} (s : Sound m) (room : m .count < point-limit) (p : Point)
             (λ (e : k ≡ m .count).
             rw (point-old j (omega arith), e, point-new) (differs j (omega arith)))
             (below-suc (m .count) k h);
-        clear = λ k h. rw (point-old k (omega arith)) (s .points .clear k (omega arith));
+        vacant = λ k h. rw (point-old k (omega arith)) (s .points .vacant k (omega arith));
       }

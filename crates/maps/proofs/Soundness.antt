@@ -13,7 +13,7 @@ use Rattle.model.specs.declared.Map.{Map}
 use Rattle.model.specs.Maps.{owner, is-own, is-present, edge-link, point-link, dart-bound}
 use Rattle.model.specs.Outline.{outline}
 use Rattle.model.specs.Sound.{SoundPoints, SoundLinks, AllLeft, Bare, Sound}
-use Rattle.maps.proofs.Links.{Linked, DartOf, links-two-way}
+use Rattle.maps.proofs.Links.{Linked, DartOf, links-symmetric}
 use Rattle.maps.proofs.Circuits.{Circuit, circuit-dart, circuit-reach, circuit-closed, circuit-closed-part}
 
 pub links-linked : {m : Map} → SoundLinks m → Linked m
@@ -35,7 +35,7 @@ sound-with-outline {m} p l two s c e own-dart first every left =
       outlined =
           λ h.
           record {
-            one-walk = one-closed-by (links-two-way linked) one;
+            one-walk = one-closed-by (links-symmetric linked) one;
             reference-own = own-dart;
             reference-present = circuit-dart c (m .reference) first .is-present;
             reference-closed = circuit-closed linked c (m .reference) first;

@@ -22,8 +22,8 @@ use Rattle.model.specs.declared.Map.{Map}
 use Rattle.model.specs.Maps.{point-limit, own, helper, owner, has-helper, is-present, edge-link, point-link}
 use Rattle.model.specs.Outline.{next-corner}
 use Rattle.model.specs.Sound.{Sound, SoundLinks}
-use Rattle.maps.proofs.Darts.{owner-own, owner-helper, own-differs, own-once, helper-once, by-present, own-present, helper-present, present-owner, present-dart}
-use Rattle.maps.proofs.Links.{Linked, sound-linked, links, DartOf, links-two-way}
+use Rattle.maps.proofs.Darts.{owner-own, owner-helper, own-differs, own-injective, helper-injective, by-present, own-present, helper-present, present-owner, present-dart}
+use Rattle.maps.proofs.Links.{Linked, sound-linked, links, DartOf, links-symmetric}
 use Rattle.maps.proofs.Circuits.{Edge, Circuit, edge-next, circuit-dart, circuit-stays, circuit-closed-part}
 use Rattle.maps.proofs.Soundness.{links-linked}
 
@@ -40,7 +40,7 @@ pub record Elsewhere (m : Map) (l r d : ℕ) : Type 0 where
 -- fixed unless they are l and r themselves. New edge links are l with 2k + 1, and 2k with r. Nothing
 -- else changes."
 pub record Splices (m m′ : Map) (l r : ℕ) : Type 0 where
-  pub counted : m′ .count ≡ suc (m .count)
+  pub count-grows : m′ .count ≡ suc (m .count)
   pub helpers-whole : length (m′ .helpers) ≡ point-limit
   pub edge-whole : length (m′ .edge) ≡ dart-limit
   pub helped-left : T (has-helper m′ l)
@@ -179,7 +179,7 @@ module _ {m m′ : Map} (s : Sound m) (room : m .count < point-limit) {l r : ℕ
       (λ d f i. refl) (λ d o i. rw i (s .links .lone j (λ t. none (z .helped-old j t)))) (own j) refl
     where
       no-own : (k : ℕ) → T (has-helper m′ k) → own k ≢ own j
-      no-own k t i = none (subst (λ (e : ℕ). T (has-helper m′ e)) (own-once i) t)
+      no-own k t i = none (subst (λ (e : ℕ). T (has-helper m′ e)) (own-injective i) t)
 
   pub splice-links : SoundLinks m′
   splice-links =
@@ -214,8 +214,8 @@ module _ {m m′ : Map} (s : Sound m) (room : m .count < point-limit) {l r : ℕ
     right-in-arc : T (elem r (arc r between l))
     right-in-arc = elem-head r (between ++ l ∷ [])
 
-    arc-once : T (distinct (arc r between l))
-    arc-once = distinct-left (arc r between l) lost (rw arc-cut at (c .once))
+    arc-distinct : T (distinct (arc r between l))
+    arc-distinct = distinct-left (arc r between l) lost (rw arc-cut at (c .all-distinct))
 
     arc-below : (x : ℕ) → T (elem x (arc r between l)) → x < m .count
     arc-below x h = c .below x (arc-old x h)
@@ -226,16 +226,16 @@ module _ {m m′ : Map} (s : Sound m) (room : m .count < point-limit) {l r : ℕ
         z .elsewhere (own x)
         (record {
           not-left = λ i.
-              distinct-apart (r ∷ between) (l ∷ lost) (c .once) x h (rw (own-once i) (elem-head l lost));
+              distinct-apart (r ∷ between) (l ∷ lost) (c .all-distinct) x h (rw (own-injective i) (elem-head l lost));
           not-right = own-differs x r;
           not-own = λ i. omega (arith, c .below x (elem-append-left x (r ∷ between) (l ∷ lost) h));
           not-helper = own-differs x (m .count);
           not-to-left = λ i. own-differs l y (sym i ∙ e);
-          not-to-right = λ i. r-once (subst (λ (w : ℕ). T (elem w (between ++ l ∷ []))) (helper-once (sym e ∙ i)) k);
+          not-to-right = λ i. r-not-later (subst (λ (w : ℕ). T (elem w (between ++ l ∷ []))) (helper-injective (sym e ∙ i)) k);
         }) ∙ e
       where
-        r-once : ¬ T (elem r (between ++ l ∷ []))
-        r-once = distinct-head r (between ++ l ∷ []) arc-once
+        r-not-later : ¬ T (elem r (between ++ l ∷ []))
+        r-not-later = distinct-head r (between ++ l ∷ []) arc-distinct
 
     -- the edges of the arc, in the old map and in the new
     both-edges : Chain (λ x y. Edge m x y × Edge m′ x y) (arc r between l)
@@ -260,8 +260,8 @@ module _ {m m′ : Map} (s : Sound m) (room : m .count < point-limit) {l r : ℕ
     unfolding Cycle Chain
     splice-circuit =
         record {
-          once =
-              distinct-cons (m .count) (arc r between l) (λ h. omega (arith, arc-below (m .count) h)) arc-once;
+          all-distinct =
+              distinct-cons (m .count) (arc r between l) (λ h. omega (arith, arc-below (m .count) h)) arc-distinct;
           below = λ a h.
               ⊎-elim (λ (e : a ≡ m .count). omega arith) (λ o. omega (arith, arc-below a o))
               (elem-cases a (m .count) (arc r between l) h);
@@ -335,7 +335,7 @@ module _ {m m′ : Map} (s : Sound m) (room : m .count < point-limit) {l r : ℕ
           (off : ¬ On d) where
         -- all of its part lies off the circuit, so the old links agree with the new ones on it
         off-all : (x : ℕ) → Reach (links m′) d x → ¬ On x
-        off-all x t on = off (circuit-stays linked splice-circuit (reach-sym (links-two-way linked) dart t) on)
+        off-all x t on = off (circuit-stays linked splice-circuit (reach-sym (links-symmetric linked) dart t) on)
 
         agree : (x : ℕ) → Reach (links m′) d x →
             (edge-link m x ≡ edge-link m′ x) × (point-link m x ≡ point-link m′ x)
@@ -345,11 +345,11 @@ module _ {m m′ : Map} (s : Sound m) (room : m .count < point-limit) {l r : ℕ
         not-off : ⊥
         not-off =
             let only =
-            one-closed-at (links-two-way old) (s .outlined two .one-walk) left-dart
+            one-closed-at (links-symmetric old) (s .outlined two .one-walk) left-dart
             (circuit-closed-part old c (own l) left-old-on) in
             let old-dart = present-dart m d (old-present d off (dart .is-present)) in
             let was = only .every d old-dart (agree-closed agree closed) in
-            off-all (own l) (agree-reach agree (reach-sym (links-two-way old) left-dart was)) left-on
+            off-all (own l) (agree-reach agree (reach-sym (links-symmetric old) left-dart was)) left-on
 
       pub splice-every : (d : ℕ) → DartOf m′ d → ClosedPart (edge-link m′) (point-link m′) d → On d
       splice-every d dart closed =

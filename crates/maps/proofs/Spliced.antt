@@ -149,7 +149,7 @@ module _ {m : Map} (s : Sound m) (room : m .count < point-limit) (p : Point) (l 
     unfolding spliced with-point
     spliced-splices =
         record {
-          counted = refl;
+          count-grows = refl;
           helpers-whole = length-set (m .helpers) (m .count) true ∙ s .links .helpers-whole;
           edge-whole = length-join (own (m .count)) (helper r) (left-joined m l r) ∙ left-length s l r;
           helped-left = spliced-helped l left-helped;
@@ -238,7 +238,7 @@ module _ {m : Map} (s : Sound m) (two : 2 ≤ m .count) (room : m .count < point
   -- ---- what is left to geometry
 
   new-count : spliced m p l r .count ≡ suc (m .count)
-  new-count = between-corners .counted
+  new-count = between-corners .count-grows
 
   pub spliced-point-new : point (spliced m p l r) (m .count) ≡ p
   unfolding spliced

@@ -55,7 +55,7 @@ module _ (m : Map) where
   unfolding links-undo
   undone-involutes t =
       record {
-        kept =
+        stays =
             λ {d} h.
             let p = and-left (is-present m (edge-link m d)) (eqb (edge-link m (edge-link m d)) d) (passed h) in
             record { below = present-below m (edge-link m d) p; is-present = p };

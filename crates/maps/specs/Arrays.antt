@@ -15,7 +15,7 @@ use Rattle.orbits.specs.declared.DartSet.{DartSet}
 use Rattle.orbits.specs.Sets.{has}
 use Rattle.model.specs.declared.Point.{Point}
 use Rattle.model.specs.Plane.{at, same-point, left-of}
-use Rattle.model.specs.Maps.{own, helper, owner, is-own, partner}
+use Rattle.model.specs.Maps.{own, helper, owner, is-own, other-dart}
 
 abbrev pub helper-at : List Bool → ℕ → Bool
 helper-at helpers k = getD helpers k false
@@ -27,7 +27,7 @@ abbrev pub edge-at : List ℕ → ℕ → ℕ
 edge-at edge d = getD edge d d
 
 abbrev pub other-at : List Bool → ℕ → ℕ
-other-at helpers d = cond (helper-at helpers (owner d)) (partner d) d
+other-at helpers d = cond (helper-at helpers (owner d)) (other-dart d) d
 
 abbrev pub next-at : List ℕ → ℕ → ℕ
 next-at edge a = owner (edge-at edge (own a))

@@ -6,12 +6,12 @@ use mathlib.Core.Bool.{Bool, _&&_}
 use lib.Dec.{ltb, leb}
 use Rattle.finite.specs.Tests.{_⇒_}
 use Rattle.model.specs.declared.Map.{Map}
-use Rattle.model.specs.Sound.{count-fits, points-in-range, points-differ, places-clear}
+use Rattle.model.specs.Sound.{count-fits, points-in-range, points-differ, places-vacant}
 use Rattle.model.specs.Sound.{helpers-owned, absent-fixed, links-undo, edges-cross, lone-fixed}
 use Rattle.model.specs.Sound.{one-outline, reference-on-outline, others-left, no-outline}
 
 abbrev pub points-sound : Map → Bool
-points-sound m = count-fits m && points-in-range m && points-differ m && places-clear m
+points-sound m = count-fits m && points-in-range m && points-differ m && places-vacant m
 
 abbrev pub links-sound : Map → Bool
 links-sound m = helpers-owned m && absent-fixed m && links-undo m && edges-cross m && lone-fixed m

@@ -51,7 +51,7 @@ fn others_left(m: Map) -> bool
     let mut a = start;
     for _ in 0..n {
         let b = next_corner(&m.edge, a);
-        if !is_clear_edge(&m.xs, &m.ys, n, a, b) {
+        if !is_supporting_edge(&m.xs, &m.ys, n, a, b) {
             return false;
         }
         if b == start {
@@ -63,7 +63,7 @@ fn others_left(m: Map) -> bool
 }
 
 // Whether the first n points, but for a and b, are strictly left of the edge from a to b.
-fn is_clear_edge<'a>(xs: &'a [i64], ys: &'a [i64], n: usize, a: usize, b: usize) -> bool
+fn is_supporting_edge<'a>(xs: &'a [i64], ys: &'a [i64], n: usize, a: usize, b: usize) -> bool
     requires { ⌜ ((k : ℕ) → T (in-range (point-at (now xs) (now ys) k))) ⌝ }
     ensures { λ r. ⌜ r ≡ all n (aside-at (now (xs .entry)) (now (ys .entry)) a b) ⌝ }
 {

@@ -12,7 +12,7 @@ ghost use lib.IntN.{pos};
 ghost use lib.ListN.{drop};
 ghost use Rattle.integers.specs.Order.{eqZ};
 ghost use Rattle.finite.specs.Lists.{all-in};
-ghost use Rattle.model.specs.Sound.{count-fits, places-clear, points-differ, points-in-range};
+ghost use Rattle.model.specs.Sound.{count-fits, places-vacant, points-differ, points-in-range};
 ghost use Rattle.maps.specs.Arrays.{first-at, new-at};
 ghost use Rattle.maps.specs.Checks.{points-sound};
 
@@ -20,7 +20,7 @@ ghost use Rattle.maps.specs.Checks.{points-sound};
 pub fn points_sound(m: Map) -> bool
     ensures { λ r. ⌜ r ≡ points-sound m ⌝ }
 {
-    count_fits(m) && points_in_range(m) && points_differ(m) && places_clear(m)
+    count_fits(m) && points_in_range(m) && points_differ(m) && places_vacant(m)
 }
 
 // Points are at most 512,
@@ -76,8 +76,8 @@ pub fn is_new<'a>(xs: &'a [i64], ys: &'a [i64], n: usize, p: Point) -> bool
 }
 
 // A place without a point holds 0, 0.
-fn places_clear(m: Map) -> bool
-    ensures { λ r. ⌜ r ≡ places-clear m ⌝ }
+fn places_vacant(m: Map) -> bool
+    ensures { λ r. ⌜ r ≡ places-vacant m ⌝ }
 {
     let n = m.count;
     is_zero_from(&m.xs, n) && is_zero_from(&m.ys, n)

@@ -23,7 +23,7 @@ use Rattle.model.specs.declared.Map.{Map}
 use Rattle.model.specs.Plane.{origin, same-point, left-of}
 use Rattle.model.specs.Maps.{point-limit, no-dart, own, owner, is-own, point, has-helper, is-present, edge-link, point-link, dart-bound}
 use Rattle.model.specs.Outline.{next-corner, outline}
-use Rattle.model.specs.Sound.{arrays-whole, count-fits, points-in-range, points-differ, places-clear, helpers-owned, absent-fixed, links-undo, edges-cross, lone-fixed, one-outline, reference-on-outline, others-left, no-outline, sound, Sound, SoundLinks}
+use Rattle.model.specs.Sound.{arrays-whole, count-fits, points-in-range, points-differ, places-vacant, helpers-owned, absent-fixed, links-undo, edges-cross, lone-fixed, one-outline, reference-on-outline, others-left, no-outline, sound, Sound, SoundLinks}
 
 -- equal points, as a test and as an equation
 pub same-point-eq : (p q : Point) → T (same-point p q) → p ≡ q
@@ -68,12 +68,12 @@ module _ {A : Type 0} (p : A → Bool) (s : List A) (n : ℕ) (d : A) where
       (λ i h. subst (λ (a : A). T (p a)) (sym (getD-drop n s i d)) (f (n + i) (omega arith)))
 
 -- the tests one by one
-record Passed (m : Map) : Type 0 where
+record EachTest (m : Map) : Type 0 where
   whole : T (arrays-whole m)
   fits : T (count-fits m)
   ranged : T (points-in-range m)
   differ : T (points-differ m)
-  cleared : T (places-clear m)
+  all-vacant : T (places-vacant m)
   owned : T (helpers-owned m)
   fixed : T (absent-fixed m)
   undone : T (links-undo m)
@@ -82,15 +82,15 @@ record Passed (m : Map) : Type 0 where
   two : T (leb 2 (m .count) ⇒ (one-outline m && reference-on-outline m && others-left m))
   fewer : T (ltb (m .count) 2 ⇒ no-outline m)
 
-passed : (m : Map) → T (sound m) → Passed m
+each-test : (m : Map) → T (sound m) → EachTest m
 unfolding sound
-passed m t = search (and-left, and-right) depth 14
+each-test m t = search (and-left, and-right) depth 14
 
-all-passed : (m : Map) → Passed m → T (sound m)
+sound-of-each : (m : Map) → EachTest m → T (sound m)
 unfolding sound
-all-passed m t = search and-both depth 14
+sound-of-each m t = search and-both depth 14
 
-module _ (m : Map) (t : Passed m) where
+module _ (m : Map) (t : EachTest m) where
   record Lengths : Type 0 where
     of-xs : length (m .xs) ≡ point-limit
     of-ys : length (m .ys) ≡ point-limit
@@ -101,14 +101,14 @@ module _ (m : Map) (t : Passed m) where
   unfolding arrays-whole
   lengths = let w = t .whole in search (and-left, and-right, eqb→eq) depth 6
 
-  -- a coordinate list that is clear from place `count` on
+  -- a coordinate list that is vacant from place `count` on
   zero-from : (s : List ℤ) → T (all-in (eqZ (pos 0)) (drop (m .count) s)) → (k : ℕ) → m .count ≤ k → getD s k (pos 0) ≡ pos 0
   zero-from s c k h = sym (eqZ-true _ _ (is-true _ (from-place (eqZ (pos 0)) s (m .count) (pos 0) tt c k h)))
 
-  clear : (k : ℕ) → m .count ≤ k → point m k ≡ origin
-  unfolding places-clear point
-  clear k h =
-      let c = t .cleared in
+  vacant : (k : ℕ) → m .count ≤ k → point m k ≡ origin
+  unfolding places-vacant point
+  vacant k h =
+      let c = t .all-vacant in
       let x = zero-from (m .xs) (search and-left) k h in
       let y = zero-from (m .ys) (search and-right) k h in
       λ i. record { x = x i; y = y i }
@@ -167,13 +167,13 @@ module _ (m : Map) (t : Passed m) where
       (lt-or-ge k (m .count))
 
   module _ (h : 2 ≤ m .count) where
-    record Outlined : Type 0 where
+    record OutlineTests : Type 0 where
       one : T (one-outline m)
       reference : T (reference-on-outline m)
       left : T (others-left m)
 
-    outlined : Outlined
-    outlined =
+    outline-tests : OutlineTests
+    outline-tests =
         let c = implies-use (leb 2 (m .count)) (one-outline m && reference-on-outline m && others-left m) (t .two) (le→leb 2 (m .count) h) in
         search (and-left, and-right)
 
@@ -184,7 +184,7 @@ module _ (m : Map) (t : Passed m) where
 
     reference-is : Reference
     unfolding reference-on-outline
-    reference-is = let c = outlined .reference in search (and-left, and-right)
+    reference-is = let c = outline-tests .reference in search (and-left, and-right)
 
     strictly-left : (a c : ℕ) → T (elem a (outline m)) → c < m .count → c ≢ a → c ≢ next-corner m a →
         T (left-of (point m a) (point m (next-corner m a)) (point m c))
@@ -192,7 +192,7 @@ module _ (m : Map) (t : Passed m) where
     strictly-left a c on l not-start not-end =
         implies-use (not (eqb c a) && not (eqb c (next-corner m a)))
         (left-of (point m a) (point m (next-corner m a)) (point m c))
-        (all-at (m .count) _ (all-elem _ (outline m) (outlined .left) a on) c l)
+        (all-at (m .count) _ (all-elem _ (outline m) (outline-tests .left) a on) c l)
         (and-both (not (eqb c a)) (not (eqb c (next-corner m a)))
         (differ-by c a not-start)
         (differ-by c (next-corner m a) not-end))
@@ -212,7 +212,7 @@ module _ (m : Map) (t : Passed m) where
     unfolding has-helper
     no-helper k = T-not (has-helper m k) (from-place not (m .helpers) 0 false tt (bare-is .helpers) k zero-le)
 
-sound-links : (m : Map) → Passed m → SoundLinks m
+sound-links : (m : Map) → EachTest m → SoundLinks m
 unfolding count-fits
 sound-links m t =
     let l = lengths m t in
@@ -238,7 +238,7 @@ sound-links m t =
 pub sound-holds : (m : Map) → T (sound m) → Sound m
 unfolding points-in-range points-differ one-outline
 sound-holds m s =
-    let t = passed m s in
+    let t = each-test m s in
     let l = lengths m t in
     record {
       points =
@@ -251,13 +251,13 @@ sound-holds m s =
                 T-not (same-point (point m j) (point m k))
                 (all-at k _ (all-at (m .count) _ (t .differ) k below) j lt)
                 (same-point-by (point m j) (point m k) e);
-            clear = clear m t;
+            vacant = vacant m t;
           };
       links = sound-links m t;
       outlined =
           λ h.
           record {
-            one-walk = eqb→eq _ _ (outlined m t h .one);
+            one-walk = eqb→eq _ _ (outline-tests m t h .one);
             reference-own = reference-is m t h .own-dart;
             reference-present = reference-is m t h .there;
             reference-closed = reference-is m t h .closed;
@@ -275,12 +275,12 @@ module _ (m : Map) (s : Sound m) where
   zero-by : (l : List ℤ) → ((k : ℕ) → m .count ≤ k → getD l k (pos 0) ≡ pos 0) → T (all-in (eqZ (pos 0)) (drop (m .count) l))
   zero-by l f = from-places (eqZ (pos 0)) l (m .count) (pos 0) (λ k h. of-true _ (eq-eqZ (sym (f k h))))
 
-  cleared-by : T (places-clear m)
-  unfolding places-clear point
-  cleared-by =
+  vacant-by : T (places-vacant m)
+  unfolding places-vacant point
+  vacant-by =
       and-both (all-in (eqZ (pos 0)) (drop (m .count) (m .xs))) (all-in (eqZ (pos 0)) (drop (m .count) (m .ys)))
-      (zero-by (m .xs) (λ k h. ap (λ (p : Point). p .x) (s .points .clear k h)))
-      (zero-by (m .ys) (λ k h. ap (λ (p : Point). p .y) (s .points .clear k h)))
+      (zero-by (m .xs) (λ k h. ap (λ (p : Point). p .x) (s .points .vacant k h)))
+      (zero-by (m .ys) (λ k h. ap (λ (p : Point). p .y) (s .points .vacant k h)))
 
   owned-by : T (helpers-owned m)
   unfolding helpers-owned has-helper
@@ -388,13 +388,13 @@ module _ (m : Map) (s : Sound m) where
 pub sound-by : (m : Map) → Sound m → T (sound m)
 unfolding count-fits points-in-range
 sound-by m s =
-    all-passed m
+    sound-of-each m
     (record {
       whole = whole-by m s;
       fits = le→leb _ _ (s .links .fits);
       ranged = all-by (m .count) _ (s .points .ranged);
       differ = differ-points m s;
-      cleared = cleared-by m s;
+      all-vacant = vacant-by m s;
       owned = owned-by m s;
       fixed = fixed-by m s;
       undone = undone-by m s;

@@ -112,7 +112,7 @@ pub record Balanced (r : Run) : Type 0 where
       T (elem k (outline (r .map))) ↔
       Reach (by-two (edge-link (r .map)) (point-link (r .map))) (r .map .reference) (own k)
   -- each corner stands once in the outline, so that its length is the number of corners
-  pub corners-once : T (distinct (outline (r .map)))
+  pub corners-distinct : T (distinct (outline (r .map)))
   -- "Strictly left of the edge from corner a to corner b means positive orientation with (a, b)."
   pub others-strictly-left :
       (a c : ℕ) → T (elem a (outline (r .map))) → c < r .map .count → c ≢ a → c ≢ next-corner (r .map) a →

@@ -35,8 +35,8 @@ abbrev pub is-own : ℕ → Bool
 is-own d = eqb (d % 2) 0
 
 -- the other dart of the same point
-unfoldable pub partner : ℕ → ℕ
-partner d = cond (is-own d) (helper (owner d)) (own (owner d))
+unfoldable pub other-dart : ℕ → ℕ
+other-dart d = cond (is-own d) (helper (owner d)) (own (owner d))
 
 -- the point numbered k
 unfoldable pub point : Map → ℕ → Point
@@ -55,7 +55,7 @@ edge-link m d = getD (m .edge) d d
 
 -- "The point link joins 2k and 2k + 1 where the helper is present; else it fixes 2k."
 unfoldable pub point-link : Map → ℕ → ℕ
-point-link m d = cond (has-helper m (owner d)) (partner d) d
+point-link m d = cond (has-helper m (owner d)) (other-dart d) d
 
 -- "edge link, then point link"
 unfoldable pub face-link : Map → ℕ → ℕ

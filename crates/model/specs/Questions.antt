@@ -18,9 +18,9 @@ use Rattle.model.specs.declared.Kind.{Kind}
 use Rattle.model.specs.Spelling.{bytes, decimal, spelt}
 use Rattle.model.specs.Refusals.{number, unless}
 use Rattle.model.specs.Plane.{at, coordinate-limit, coordinate-in-range, in-range, same-point, orientation, left-of, visible-from, in-line, strictly-between, lower}
-use Rattle.model.specs.Maps.{partner, point, has-helper, is-present, edge-link, point-link, face-link, empty-map}
+use Rattle.model.specs.Maps.{other-dart, point, has-helper, is-present, edge-link, point-link, face-link, empty-map}
 use Rattle.model.specs.Outline.{next-corner, previous-corner, corners-from, outline, sees, visible-edges, lowest-corner, corners}
-use Rattle.model.specs.Sound.{arrays-whole, count-fits, points-in-range, points-differ, places-clear, helpers-owned, absent-fixed, links-undo, edges-cross, lone-fixed, one-outline, reference-on-outline, others-left, no-outline, sound}
+use Rattle.model.specs.Sound.{arrays-whole, count-fits, points-in-range, points-differ, places-vacant, helpers-owned, absent-fixed, links-undo, edges-cross, lone-fixed, one-outline, reference-on-outline, others-left, no-outline, sound}
 use Rattle.model.specs.Reading.{links-of, number-of, darts, counts, counted, orbit-of, walked}
 use Rattle.model.specs.Answers.{oriented-answer, arrival-answer, counted-answer, walked-answer}
 use Rattle.model.specs.Arrival.{oriented, cut, join, left-corner, right-corner, with-point, alone, pair, spliced, later-point, arrive, is-repeated, is-in-line, offer}
@@ -57,8 +57,8 @@ after n = run (take n session) .map
 offered : Map → ℤ → ℤ → List ℕ
 offered m x y = printed (arrival-answer (offer m (at x y) .arrival))
 
-turn : Point → Point → Point → List ℕ
-turn a b c = printed (oriented-answer (oriented a b c))
+orientation-of : Point → Point → Point → List ℕ
+orientation-of a b c = printed (oriented-answer (oriented a b c))
 
 counts-of : Map → List ℕ
 counts-of m = printed (counted-answer (counted m))
@@ -85,9 +85,9 @@ questions =
     ∷ (counts-of (after 1) is bytes "counts 1 1 1 1 1\n")
     ∷ (counts-of (after 2) is bytes "counts 4 2 2 2 1\n")
     -- the three orientations
-    ∷ (turn (at (pos 0) (pos 0)) (at (pos 4) (pos 0)) (at (pos 1) (pos 3)) is bytes "orientation 12\n")
-    ∷ (turn (at (pos 4) (pos 0)) (at (pos 0) (pos 0)) (at (pos 1) (pos 3)) is bytes "orientation -12\n")
-    ∷ (turn (at (negℤ far) (negℤ far)) (at far (negℤ far)) (at far far)
+    ∷ (orientation-of (at (pos 0) (pos 0)) (at (pos 4) (pos 0)) (at (pos 1) (pos 3)) is bytes "orientation 12\n")
+    ∷ (orientation-of (at (pos 4) (pos 0)) (at (pos 0) (pos 0)) (at (pos 1) (pos 3)) is bytes "orientation -12\n")
+    ∷ (orientation-of (at (negℤ far) (negℤ far)) (at far (negℤ far)) (at far far)
     is bytes "orientation 4000000000000\n")
     -- refusals after four points, and at the end of the range
     ∷ (offered (after 4) (pos 2) (pos 2) is bytes "refused 5\n")
@@ -104,15 +104,15 @@ unfolding table-onto all any sum count one-if table elem all-in all-places any-i
     first-in before beyond ring insert union flatMap flatten grow reached reaches is-least
     classes is-fixed is-closed closed-walks edge-step point-step walk bits set-of bytes decimal
     spelt number unless coordinate-in-range in-range same-point orientation left-of visible-from
-    in-line strictly-between lower partner point has-helper is-present edge-link point-link
+    in-line strictly-between lower other-dart point has-helper is-present edge-link point-link
     face-link empty-map next-corner previous-corner corners-from outline sees visible-edges
-    lowest-corner corners arrays-whole count-fits points-in-range points-differ places-clear
+    lowest-corner corners arrays-whole count-fits points-in-range points-differ places-vacant
     helpers-owned absent-fixed links-undo edges-cross lone-fixed one-outline
     reference-on-outline others-left no-outline sound links-of number-of darts counts counted
     orbit-of walked oriented-answer arrival-answer counted-answer walked-answer oriented cut join
     left-corner right-corner with-point alone pair spliced later-point arrive is-repeated
     is-in-line offer is-accepted extended run-from run big-endian complement saved is-digit
     has-minus digits value-after magnitude is-number number-value line-read in-first-line lines
-    spaced printed offer-line closing arrivals report session after offered turn counts-of far
+    spaced printed offer-line closing arrivals report session after offered orientation-of counts-of far
     questions same-list
 answers-are-right = tt

@@ -42,8 +42,8 @@ unfoldable pub points-differ : Map → Bool
 points-differ m = all (m .count) (λ k. all k (λ j. not (same-point (point m j) (point m k))))
 
 -- "A place without a point holds 0, 0."
-unfoldable pub places-clear : Map → Bool
-places-clear m = all-in (eqZ (pos 0)) (drop (m .count) (m .xs)) && all-in (eqZ (pos 0)) (drop (m .count) (m .ys))
+unfoldable pub places-vacant : Map → Bool
+places-vacant m = all-in (eqZ (pos 0)) (drop (m .count) (m .xs)) && all-in (eqZ (pos 0)) (drop (m .count) (m .ys))
 
 -- "No other dart is present": a place without a point has no helper
 unfoldable pub helpers-owned : Map → Bool
@@ -103,7 +103,7 @@ no-outline m = all-in not (m .helpers) && eqb (m .reference) no-dart
 -- all of it: the last sentences go by the number of points
 unfoldable pub sound : Map → Bool
 sound m =
-    arrays-whole m && count-fits m && points-in-range m && points-differ m && places-clear m
+    arrays-whole m && count-fits m && points-in-range m && points-differ m && places-vacant m
     && helpers-owned m
     && absent-fixed m
     && links-undo m
@@ -120,7 +120,7 @@ pub record SoundPoints (m : Map) : Type 0 where
   pub ys-whole : length (m .ys) ≡ point-limit
   pub ranged : (k : ℕ) → k < m .count → T (in-range (point m k))
   pub distinct : (j k : ℕ) → j < k → k < m .count → point m j ≢ point m k
-  pub clear : (k : ℕ) → m .count ≤ k → point m k ≡ origin
+  pub vacant : (k : ℕ) → m .count ≤ k → point m k ≡ origin
 
 -- the helpers and the links
 pub record SoundLinks (m : Map) : Type 0 where

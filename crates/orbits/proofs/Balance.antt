@@ -2,7 +2,7 @@
 -- vertices + edges + faces = darts + 2 × parts, where faces are the orbits of f and then g.
 -- Assumes nothing.
 --
--- Build f from an involution that moves no dart by exchanges, each of a dart x that is not moved
+-- Build f from an involution that moves no dart by transpositions, each of a dart x that is not moved
 -- yet with a dart y (Building). If x and y lie in one part, they lie in one face, for the face of x is
 -- its whole part (`part-is-face`): the face goes along the part to its other end and back.
 -- So the genus stays 0 (Genus).
@@ -15,8 +15,8 @@ use Rattle.finite.specs.Bounded.{count}
 use Rattle.orbits.specs.Reach.{Reach, here, by-one, by-two}
 use Rattle.orbits.specs.Classes.{classes}
 use Rattle.orbits.proofs.Reach.{Dart, reach-dart, reach-trans, reach-sym, decide-reach, by-one-link}
-use Rattle.orbits.proofs.Permutations.{Permutes, Involutes, _then_, involution-permutes, compose-permutes, exchanged, fixed-reach, orbit-keeps, orbit-two-way, orbit-holds, part-keeps, part-holds}
-use Rattle.orbits.proofs.Building.{built-by-exchanges, released-involutes}
+use Rattle.orbits.proofs.Permutations.{Permutes, Involutes, _then_, involution-permutes, compose-permutes, transposed, fixed-reach, orbit-keeps, orbit-symmetric, orbit-holds, part-keeps, part-holds}
+use Rattle.orbits.proofs.Building.{built-by-transpositions, released-involutes}
 use Rattle.orbits.proofs.Genus.{Genus, genus-two-parts, genus-one-face, genus-unmoved}
 
 -- ---- the face of a dart that f leaves where it is
@@ -34,15 +34,15 @@ module _ {n : ℕ} {present : ℕ → Bool} {f g : ℕ → ℕ} (i : Involutes n
   -- the dart before w in its face
   face-back : {w : ℕ} → Dart n present w → Reach (by-one (f then g)) w (f (g w))
   face-back {w} h =
-      reach-sym (orbit-two-way face) (i .kept (j .kept h))
-      (subst (Reach (by-one (f then g)) (f (g w))) (ap g (i .twice (j .kept h)) ∙ j .twice h)
+      reach-sym (orbit-symmetric face) (i .stays (j .stays h))
+      (subst (Reach (by-one (f then g)) (f (g w))) (ap g (i .twice (j .stays h)) ∙ j .twice h)
       (by-one-link (f then g) (f (g w))))
 
   module _ {a : ℕ} (h : Dart n present a) (fixed : f a ≡ a) where
     -- the face is closed under f: where f z = w lies in it, so does f of the dart after z, f (g w)
     face-first : {z : ℕ} → Reach (by-one (f then g)) a z → Reach (by-one (f then g)) a (f z)
     face-first r =
-        orbit-holds face (λ z. Reach (by-one (f then g)) a (f z)) h (λ d k t. reach-trans t (face-back (i .kept k))) r
+        orbit-holds face (λ z. Reach (by-one (f then g)) a (f z)) h (λ d k t. reach-trans t (face-back (i .stays k))) r
         (rw fixed here)
 
     -- and under g: g z is the dart after f z
@@ -60,7 +60,7 @@ module _ {n : ℕ} {present : ℕ → Bool} {f g : ℕ → ℕ} (i : Involutes n
 
 module _ {n : ℕ} {present : ℕ → Bool} {g : ℕ → ℕ} (j : Involutes n present g) where
   balance-step : (f : ℕ → ℕ) (x y : ℕ) → Involutes n present f → Dart n present x → Dart n present y → f x ≡ x →
-      x ≢ y → Genus n present f g 0 → Genus n present (exchanged x y f) g 0
+      x ≢ y → Genus n present f g 0 → Genus n present (transposed x y f) g 0
   balance-step f x y i h k fixed differ balanced =
       ⊎-elim
       (λ r. genus-one-face (p i j) (q i j) h k apart 0 (part-is-face i j h fixed r) balanced)
@@ -77,7 +77,7 @@ pub balance : {n : ℕ} {present : ℕ → Bool} {f g : ℕ → ℕ} → Involut
 balance {n} {present} {f} {g} i j =
     omega (
       arith,
-      built-by-exchanges (Involutes n present) (λ e. Genus n present e g 0) (λ e r. involution-permutes r)
+      built-by-transpositions (Involutes n present) (λ e. Genus n present e g 0) (λ e r. involution-permutes r)
           (λ e a r h. released-involutes r h)
           (λ e r u. genus-unmoved (involution-permutes r) (involution-permutes j) u) (balance-step j) f i,
     )

@@ -1,10 +1,10 @@
--- Every permutation of the darts is built from one that moves no dart, by exchanges of a dart that
+-- Every permutation of the darts is built from one that moves no dart, by transpositions of a dart that
 -- is not moved yet with another: an induction over permutations, and over any kind of them that
 -- stays such when a moved dart is released (involutions).
 -- Assumes nothing.
 --
--- If f moves a, then f after an exchange of f a and a leaves f a where it is, and else moves only
--- what f moves; and f is that after the same exchange.
+-- If f moves a, then f after an transposition of f a and a leaves f a where it is, and else moves only
+-- what f moves; and f is that after the same transposition.
 use mathlib.Core.Path.{_≡_, sym, _∙_, ap, subst}
 use mathlib.Core.Logic.{_⊎_, inl, inr, ⊎-elim, _≢_}
 use mathlib.Core.Bool.{Bool, not, _&&_}
@@ -16,7 +16,7 @@ use Rattle.finite.specs.Tests.{and-left, and-right, and-both, decide, same-or-n
 use Rattle.finite.specs.Bounded.{any, any-at, any-by, count}
 use Rattle.finite.specs.Counting.{count-less}
 use Rattle.orbits.proofs.Reach.{Dart}
-use Rattle.orbits.proofs.Permutations.{Permutes, Involutes, involution-permutes, exchange, exchange-first, exchange-second, exchange-other, by-exchange, exchange-involutes, exchanged, exchanged-twice}
+use Rattle.orbits.proofs.Permutations.{Permutes, Involutes, involution-permutes, transposition, transposition-first, transposition-second, transposition-other, by-transposition, transposition-involutes, transposed, transposed-twice}
 
 -- f moves the present dart d
 abbrev moves : (ℕ → Bool) → (ℕ → ℕ) → ℕ → Bool
@@ -54,40 +54,40 @@ moves-some n present f =
 
 -- ---- f without the step from a
 
-released-fixes : (f : ℕ → ℕ) (a : ℕ) → exchanged (f a) a f (f a) ≡ f a
-released-fixes f a = ap f (exchange-first (f a) a)
+released-fixes : (f : ℕ → ℕ) (a : ℕ) → transposed (f a) a f (f a) ≡ f a
+released-fixes f a = ap f (transposition-first (f a) a)
 
 module _ {n : ℕ} {present : ℕ → Bool} {f : ℕ → ℕ} where
   released-moves-fewer : {a : ℕ} → Permutes n present f → Dart n present a → f a ≢ a →
-      count n (moves present (exchanged (f a) a f)) < count n (moves present f)
+      count n (moves present (transposed (f a) a f)) < count n (moves present f)
   released-moves-fewer {a} p h m =
-      count-less n (f a) (moves present (exchanged (f a) a f)) (moves present f)
+      count-less n (f a) (moves present (transposed (f a) a f)) (moves present f)
       (λ d l t.
-      moves-by present f d (and-left (present d) (not (eqb (exchanged (f a) a f d) d)) t)
+      moves-by present f d (and-left (present d) (not (eqb (transposed (f a) a f d) d)) t)
       (λ e.
-      moved present (exchanged (f a) a f) d t
-      (ap f (exchange-other (f a) a d (λ u. again (ap f (sym u) ∙ (e ∙ u))) (λ u. m (ap f (sym u) ∙ (e ∙ u)))) ∙ e)))
-      (p .kept h .below)
-      (not-T (moves present (exchanged (f a) a f) (f a))
-      (λ t. moved present (exchanged (f a) a f) (f a) t (released-fixes f a)))
-      (moves-by present f (f a) (p .kept h .is-present) again)
+      moved present (transposed (f a) a f) d t
+      (ap f (transposition-other (f a) a d (λ u. again (ap f (sym u) ∙ (e ∙ u))) (λ u. m (ap f (sym u) ∙ (e ∙ u)))) ∙ e)))
+      (p .stays h .below)
+      (not-T (moves present (transposed (f a) a f) (f a))
+      (λ t. moved present (transposed (f a) a f) (f a) t (released-fixes f a)))
+      (moves-by present f (f a) (p .stays h .is-present) again)
     where
       again : f (f a) ≢ f a
-      again e = m (p .once (p .kept h) h e)
+      again e = m (p .injective (p .stays h) h e)
 
   -- without the pair of a dart that it moves, an involution is one still
   pub released-involutes : {a : ℕ} → Involutes n present f → Dart n present a →
-      Involutes n present (exchanged (f a) a f)
+      Involutes n present (transposed (f a) a f)
   released-involutes {a} i h =
       record {
-        kept = λ {d} k. i .kept (exchange-involutes (i .kept h) h .kept k);
+        stays = λ {d} k. i .stays (transposition-involutes (i .stays h) h .stays k);
         twice = λ {d} k.
-            by-exchange (λ c e. f (exchange (f a) a (f e)) ≡ c) (f a) a d
-            (ap f (exchange-first (f a) a))
-            (cc (i .twice h, exchange-second (f a) a))
+            by-transposition (λ c e. f (transposition (f a) a (f e)) ≡ c) (f a) a d
+            (ap f (transposition-first (f a) a))
+            (cc (i .twice h, transposition-second (f a) a))
             (λ m o.
             ap f
-            (exchange-other (f a) a (f d) (λ e. o (involution-permutes i .once k h e))
+            (transposition-other (f a) a (f d) (λ e. o (involution-permutes i .injective k h e))
             (λ e. m (sym (i .twice k) ∙ ap f e))) ∙
             i .twice k);
       }
@@ -96,10 +96,10 @@ module _ {n : ℕ} {present : ℕ → Bool} {f : ℕ → ℕ} where
 
 module _ {n : ℕ} {present : ℕ → Bool} (Good Holds : (ℕ → ℕ) → Type 0)
     (permutes : (f : ℕ → ℕ) → Good f → Permutes n present f)
-    (released : (f : ℕ → ℕ) (a : ℕ) → Good f → Dart n present a → Good (exchanged (f a) a f))
+    (released : (f : ℕ → ℕ) (a : ℕ) → Good f → Dart n present a → Good (transposed (f a) a f))
     (unmoved : (f : ℕ → ℕ) → Good f → ((d : ℕ) → Dart n present d → f d ≡ d) → Holds f)
     (step : (f : ℕ → ℕ) (x y : ℕ) → Good f → Dart n present x → Dart n present y → f x ≡ x → x ≢ y →
-    Holds f → Holds (exchanged x y f)) where
+    Holds f → Holds (transposed x y f)) where
   built-within : (k : ℕ) (f : ℕ → ℕ) → Good f → count n (moves present f) ≤ k → Holds f
   built-within zero f g small =
       ⊎-elim
@@ -110,11 +110,11 @@ module _ {n : ℕ} {present : ℕ → Bool} (Good Holds : (ℕ → ℕ) → Type
       (λ s.
       let a = s .0 in
       let less = released f a g (s .1) in
-      subst Holds (exchanged-twice (f a) a f)
-      (step (exchanged (f a) a f) (f a) a less (permutes f g .kept (s .1)) (s .1) (released-fixes f a) (s .2)
-      (built-within k (exchanged (f a) a f) less
+      subst Holds (transposed-twice (f a) a f)
+      (step (transposed (f a) a f) (f a) a less (permutes f g .stays (s .1)) (s .1) (released-fixes f a) (s .2)
+      (built-within k (transposed (f a) a f) less
       (omega (arith, released-moves-fewer (permutes f g) (s .1) (s .2))))))
       (unmoved f g) (moves-some n present f)
 
-  pub built-by-exchanges : (f : ℕ → ℕ) → Good f → Holds f
-  built-by-exchanges f g = built-within (count n (moves present f)) f g (le-refl (count n (moves present f)))
+  pub built-by-transpositions : (f : ℕ → ℕ) → Good f → Holds f
+  built-by-transpositions f g = built-within (count n (moves present f)) f g (le-refl (count n (moves present f)))

@@ -17,8 +17,8 @@ use Rattle.finite.specs.Counting.{count-same, count-mono, count-one-more, count
 use Rattle.finite.specs.Lists.{elem, first-in, distinct, members, all-elem, all-of-elem, length-distinct, elem-members, elem-members-by, distinct-members, length-members, first-found}
 use Rattle.orbits.specs.Reach.{Reach, here, by-one, by-two, reached, reaches}
 use Rattle.orbits.specs.Classes.{is-least, classes, is-fixed, is-closed, closed-walks}
-use Rattle.orbits.proofs.Reach.{Dart, Keeps, TwoWay, reach-dart, reach-trans, reach-sym, reaches-sound, reaches-complete, by-one-link, by-first-link, by-second-link}
-use Rattle.orbits.proofs.Permutations.{Permutes, same-permutes, orbit-keeps, orbit-by, part-keeps, part-two-way, part-by}
+use Rattle.orbits.proofs.Reach.{Dart, Keeps, Symmetric, reach-dart, reach-trans, reach-sym, reaches-sound, reaches-complete, by-one-link, by-first-link, by-second-link}
+use Rattle.orbits.proofs.Permutations.{Permutes, same-permutes, orbit-keeps, orbit-by, part-keeps, part-symmetric, part-by}
 
 -- ---- least darts
 
@@ -48,13 +48,13 @@ module _ {n : ℕ} {present : ℕ → Bool} {next : ℕ → List ℕ} (k : Keeps
       (m .0, r, least-by (λ b l s. m .3 b l (reaches-complete k d (reach-trans r s))))
 
 -- and only one
-pub least-unique : {n : ℕ} {present : ℕ → Bool} {next : ℕ → List ℕ} {c d : ℕ} → TwoWay n present next →
+pub least-unique : {n : ℕ} {present : ℕ → Bool} {next : ℕ → List ℕ} {c d : ℕ} → Symmetric n present next →
     Dart n present c → Dart n present d → T (is-least next n c) → T (is-least next n d) → Reach next c d → c ≡ d
 least-unique w h k s t r =
     omega (arith, least-reach (w .keeps) h s r, least-reach (w .keeps) k t (reach-sym w h r))
 
 -- so a dart is least just where no dart below it reaches it
-pub least-iff-first : {n : ℕ} {present : ℕ → Bool} {next : ℕ → List ℕ} {a : ℕ} → TwoWay n present next →
+pub least-iff-first : {n : ℕ} {present : ℕ → Bool} {next : ℕ → List ℕ} {a : ℕ} → Symmetric n present next →
     Dart n present a → T (is-least next n a) ↔ ((b : ℕ) → b < a → Dart n present b → ¬ Reach next b a)
 least-iff-first w h = (
   λ t b (l : b < _) d r. omega (arith, least-reach (w .keeps) h t (reach-sym w d r)),
@@ -119,17 +119,17 @@ module _ {n : ℕ} {present : ℕ → Bool} {f e : ℕ → ℕ} (p : Permutes n 
 
 -- a list with one dart of each class
 pub record Represents (n : ℕ) (present : ℕ → Bool) (next : ℕ → List ℕ) (s : List ℕ) : Type 0 where
-  pub once : T (distinct s)
+  pub all-distinct : T (distinct s)
   pub darts : (x : ℕ) → T (elem x s) → Dart n present x
   pub apart : (x y : ℕ) → T (elem x s) → T (elem y s) → Reach next x y → x ≡ y
   pub every : (d : ℕ) → Dart n present d → (x : ℕ) × T (elem x s) × Reach next d x
 
-module _ {n : ℕ} {present : ℕ → Bool} {next : ℕ → List ℕ} (w : TwoWay n present next) where
+module _ {n : ℕ} {present : ℕ → Bool} {next : ℕ → List ℕ} (w : Symmetric n present next) where
   -- the least darts, one of each class
   pub least-represent : Represents n present next (members n (λ a. present a && is-least next n a))
   least-represent =
       record {
-        once = distinct-members n (stands next n present);
+        all-distinct = distinct-members n (stands next n present);
         darts = dart;
         apart = λ x y h k r. least-unique w (dart x h) (dart y k) (least x h) (least y k) r;
         every = λ d h.
@@ -151,7 +151,7 @@ module _ {n : ℕ} {present : ℕ → Bool} {next : ℕ → List ℕ} (w : TwoWa
       least x h = and-right (present x) (is-least next n x) (elem-members n x (stands next n present) h .1)
 
   length-represents : {s : List ℕ} → Represents n present next s → length s ≡ count n (λ k. elem k s)
-  length-represents {s} r = length-distinct n s (r .once) (λ x m. r .darts x m .below)
+  length-represents {s} r = length-distinct n s (r .all-distinct) (λ x m. r .darts x m .below)
 
   -- send each dart of one list to the dart of its class in the other
   represents-within : {s t : List ℕ} → Represents n present next s → Represents n present next t →
@@ -198,7 +198,7 @@ pub record Joins (n : ℕ) (present : ℕ → Bool) (next other : ℕ → List �
   pub no-more : (Q : ℕ → Type 0) → ((c d : ℕ) → Dart n present c → Reach next c d → Q c → Q d) →
       (Q x → Q y) → (Q y → Q x) → (c d : ℕ) → Dart n present c → Reach other c d → Q c → Q d
 
-joins-sym : {n : ℕ} {present : ℕ → Bool} {next other : ℕ → List ℕ} {x y : ℕ} → TwoWay n present other →
+joins-sym : {n : ℕ} {present : ℕ → Bool} {next other : ℕ → List ℕ} {x y : ℕ} → Symmetric n present other →
     Dart n present x → Joins n present next other x y → Joins n present next other y x
 joins-sym v h j =
     record {
@@ -208,7 +208,7 @@ joins-sym v h j =
     }
 
 module _ {n : ℕ} {present : ℕ → Bool} {next other : ℕ → List ℕ}
-    (w : TwoWay n present next) (v : TwoWay n present other) where
+    (w : Symmetric n present next) (v : Symmetric n present other) where
   -- what `other` reaches from k: the class of k, and if k lies in the class of x or y the other one
   join-cases : {x y : ℕ} (k b : ℕ) → Dart n present k → Joins n present next other x y → Reach other k b →
       Reach next k b ⊎ (Reach next k x × Reach next y b) ⊎ (Reach next k y × Reach next x b)
@@ -324,8 +324,8 @@ module _ {n : ℕ} {present : ℕ → Bool} {f g : ℕ → ℕ} (p : Permutes n 
       Permutes n (λ a. present a && is-closed f g n a) e
   closed-permutes {e} r within =
       record {
-        kept = λ {d} h.
-            let k = r .kept (closed-dart h) in
+        stays = λ {d} h.
+            let k = r .stays (closed-dart h) in
             let t = and-right (present d) (is-closed f g n d) (h .is-present) in
             record {
               below = k .below;
@@ -333,7 +333,7 @@ module _ {n : ℕ} {present : ℕ → Bool} {f g : ℕ → ℕ} (p : Permutes n 
                   and-both (present (e d)) (is-closed f g n (e d)) (k .is-present)
                   (closed-same (part-keeps p q) (closed-dart h) (within d) t);
             };
-        once = λ {c} {d} h k u. r .once (closed-dart h) (closed-dart k) u;
+        injective = λ {c} {d} h k u. r .injective (closed-dart h) (closed-dart k) u;
       }
 
   -- every list with one dart of each closed part is as long as there are closed walks
@@ -342,5 +342,5 @@ module _ {n : ℕ} {present : ℕ → Bool} {f g : ℕ → ℕ} (p : Permutes n 
   unfolding closed-walks
   closed-walks-represented r =
       classes-represented
-      (part-two-way (closed-permutes p (by-first-link f g)) (closed-permutes q (by-second-link f g)))
+      (part-symmetric (closed-permutes p (by-first-link f g)) (closed-permutes q (by-second-link f g)))
       r

@@ -15,7 +15,7 @@ use Rattle.finite.specs.Lists.{elem, distinct, members, elem-head, elem-one}
 use Rattle.finite.specs.CycleLaws.{distinct-cons}
 use Rattle.orbits.specs.Reach.{Reach, here, there, by-two}
 use Rattle.orbits.specs.Classes.{is-least, is-closed, closed-walks}
-use Rattle.orbits.proofs.Reach.{Dart, TwoWay, reach-trans, reach-sym, by-two-each, one-link, by-first-link, by-second-link}
+use Rattle.orbits.proofs.Reach.{Dart, Symmetric, reach-trans, reach-sym, by-two-each, one-link, by-first-link, by-second-link}
 use Rattle.orbits.proofs.Classes.{Represents, closed-iff, least-represent, classes-represented}
 
 -- both links move every dart of the part of a
@@ -43,7 +43,7 @@ some-member : (s : List ℕ) → length s ≡ 1 → (x : ℕ) × T (elem x s)
 some-member [] e = absurd (omega arith)
 some-member (a ∷ s) e = (a, elem-head a s)
 
-module _ {n : ℕ} {present : ℕ → Bool} {f g : ℕ → ℕ} (w : TwoWay n present (by-two f g)) where
+module _ {n : ℕ} {present : ℕ → Bool} {f g : ℕ → ℕ} (w : Symmetric n present (by-two f g)) where
   closed-dart : {a : ℕ} → Dart n present a → ClosedPart f g a → Dart n (in-closed f g n present) a
   closed-dart {a} h c =
       record {
@@ -58,13 +58,13 @@ module _ {n : ℕ} {present : ℕ → Bool} {f g : ℕ → ℕ} (w : TwoWay n pr
   closed-of {a} h = closed-iff (w .keeps) (dart-of h) .0 (and-right (present a) (is-closed f g n a) (h .is-present))
 
   -- the links keep the closed parts
-  closed-two-way : TwoWay n (in-closed f g n present) (by-two f g)
-  closed-two-way =
+  closed-symmetric : Symmetric n (in-closed f g n present) (by-two f g)
+  closed-symmetric =
       record {
         keeps =
             record {
-              kept = λ {d} c h e.
-                  closed-dart (w .keeps .kept c (dart-of h) e) (λ x r. closed-of h x (reach-trans (one-link c e) r));
+              stays = λ {d} c h e.
+                  closed-dart (w .keeps .stays c (dart-of h) e) (λ x r. closed-of h x (reach-trans (one-link c e) r));
             };
         back = λ {d} c h e. w .back c (dart-of h) e;
       }
@@ -73,9 +73,9 @@ module _ {n : ℕ} {present : ℕ → Bool} {f g : ℕ → ℕ} (w : TwoWay n pr
   unfolding closed-walks distinct
   one-closed-by {a} one =
       sym
-      (classes-represented closed-two-way {s = a ∷ []}
+      (classes-represented closed-symmetric {s = a ∷ []}
       (record {
-        once = distinct-cons a [] (λ m. m) tt;
+        all-distinct = distinct-cons a [] (λ m. m) tt;
         darts = λ x m. rw (elem-one x a m) (closed-dart (one .dart) (one .closed));
         apart = λ x y m o r. elem-one x a m ∙ sym (elem-one y a o);
         every = λ d h.
@@ -88,11 +88,11 @@ module _ {n : ℕ} {present : ℕ → Bool} {f g : ℕ → ℕ} (w : TwoWay n pr
 
     represented : Represents n (in-closed f g n present) (by-two f g) least-closed
     unfolding least-closed
-    represented = least-represent closed-two-way
+    represented = least-represent closed-symmetric
 
     one-of : length least-closed ≡ 1
     unfolding closed-walks
-    one-of = classes-represented closed-two-way represented ∙ e
+    one-of = classes-represented closed-symmetric represented ∙ e
 
     -- then every dart whose part is closed reaches all others
     pub one-closed-at : {a : ℕ} → Dart n present a → ClosedPart f g a → OneClosed n present f g a

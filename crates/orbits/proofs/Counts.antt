@@ -22,8 +22,8 @@ use Rattle.orbits.specs.Sets.{dart-limit}
 use Rattle.orbits.specs.Links.{Dart, Permutes, link-of, test-of, Permuted, part-counts}
 use Rattle.orbits.specs.Queue.{Queue, Closed, Ready, Visited, Movable, BothMove, AllMove}
 use Rattle.orbits.specs.declared.PartCounts.{PartCounts}
-use Rattle.orbits.proofs.Reach.{TwoWay, reach-trans, reach-sym, twice-once, once-twice}
-use Rattle.orbits.proofs.Permutations.{orbit-keeps, part-keeps, part-two-way}
+use Rattle.orbits.proofs.Reach.{Symmetric, reach-trans, reach-sym, double-to-single, single-to-double}
+use Rattle.orbits.proofs.Permutations.{orbit-keeps, part-keeps, part-symmetric}
 use Rattle.orbits.proofs.Classes.{least-iff-first, same-classes, closed-iff}
 use Rattle.orbits.proofs.Queue.{queue-small, grown-seen, grown-cases}
 use Rattle.orbits.proofs.Parts.{none-seen, queue-none, closed-none, closed-reach, part-within}
@@ -112,8 +112,8 @@ counting-small {f} {g} {n} {present} {a = a} c = (
 )
 
 module _ {f g : List ℕ} {n : ℕ} {present : ℕ → Bool} (p : Permuted n present f g) where
-  two-way : TwoWay n present (by-two (link-of f) (link-of g))
-  two-way = part-two-way (p .first .permutes) (p .second .permutes)
+  symmetric : Symmetric n present (by-two (link-of f) (link-of g))
+  symmetric = part-symmetric (p .first .permutes) (p .second .permutes)
 
   module _ {order : List ℕ} {seen : List Bool} {end parts closed a : ℕ}
       (c : Counting f g n present order seen end parts closed a) (l : a < n) where
@@ -121,7 +121,7 @@ module _ {f g : List ℕ} {n : ℕ} {present : ℕ → Bool} (p : Permuted n pre
     old-not-first : T (test-of seen a) → (s : ℕ → Bool) → ((b : ℕ) → T (s b) → T (present b)) → ¬ T (first f g n s a)
     old-not-first t s sub u =
         let b = c .from a t in
-        least-iff-first two-way
+        least-iff-first symmetric
         (record { below = l; is-present = sub a (and-left (s a) _ u) }) .0
         (and-right (s a) _ u) (b .0) (b .1) (b .2) (b .3)
 
@@ -141,9 +141,9 @@ module _ {f g : List ℕ} {n : ℕ} {present : ℕ → Bool} (p : Permuted n pre
               rw e (in-queue (subst (λ (x : ℕ). T (present x)) e (d .is-present))))
               (lt-or-ge b a);
           within = omega arith;
-          parts-counted = kept parts present (λ b t. t) (c .parts-counted);
+          parts-counted = carried parts present (λ b t. t) (c .parts-counted);
           closed-counted =
-              kept closed (λ b. present b && is-closed (link-of f) (link-of g) n b)
+              carried closed (λ b. present b && is-closed (link-of f) (link-of g) n b)
               (λ b t. and-left (present b) _ t) (c .closed-counted);
         }
       where
@@ -155,9 +155,9 @@ module _ {f g : List ℕ} {n : ℕ} {present : ℕ → Bool} (p : Permuted n pre
             absurd (subst T old (and-both (present a) (not (test-of seen a)) t s)))
             (decide (test-of seen a))
 
-        kept : (k : ℕ) (s : ℕ → Bool) → ((b : ℕ) → T (s b) → T (present b)) → k ≡ count a (first f g n s) →
+        carried : (k : ℕ) (s : ℕ → Bool) → ((b : ℕ) → T (s b) → T (present b)) → k ≡ count a (first f g n s) →
             k ≡ count (a + 1) (first f g n s)
-        kept k s sub e =
+        carried k s sub e =
             omega (
               arith,
               count-next a (first f g n s),
@@ -166,21 +166,21 @@ module _ {f g : List ℕ} {n : ℕ} {present : ℕ → Bool} (p : Permuted n pre
 
     -- a dart that is not in the queue is the first of its part
     module _ (new : present a && not (test-of seen a) ≡ true) where
-      is-new : T (present a && not (test-of seen a))
-      is-new = of-true (present a && not (test-of seen a)) new
+      is-unseen : T (present a && not (test-of seen a))
+      is-unseen = of-true (present a && not (test-of seen a)) new
 
       a-present : T (present a)
-      a-present = and-left (present a) (not (test-of seen a)) is-new
+      a-present = and-left (present a) (not (test-of seen a)) is-unseen
 
       not-seen : ¬ T (test-of seen a)
-      not-seen = T-not (test-of seen a) (and-right (present a) (not (test-of seen a)) is-new)
+      not-seen = T-not (test-of seen a) (and-right (present a) (not (test-of seen a)) is-unseen)
 
       a-dart : Dart n present a
       a-dart = record { below = l; is-present = a-present }
 
       a-least : T (is-least (by-two (link-of f) (link-of g)) n a)
       a-least =
-          least-iff-first two-way a-dart .1
+          least-iff-first symmetric a-dart .1
           (λ b h d r. not-seen (closed-reach seen (c .links) r (c .passed b h d)))
 
       -- its part can be visited
@@ -206,7 +206,7 @@ module _ {f g : List ℕ} {n : ℕ} {present : ℕ → Bool} (p : Permuted n pre
             (λ (h : at .0 < end).
             let same = sym (v .grown .same (at .0) h) ∙ at .2 in
             let b = c .from e (subst (λ (x : ℕ). T (test-of seen x)) same (c .queue .held (at .0) h)) in
-            let back = reach-trans (b .3) (reach-sym two-way a-dart r) in
+            let back = reach-trans (b .3) (reach-sym symmetric a-dart r) in
             absurd (not-seen (closed-reach seen (c .links) back (c .passed (b .0) (b .1) (b .2)))))
             (λ (h : end ≤ at .0). (at .0, h, at .1, at .2))
             (lt-or-ge (at .0) end)
@@ -224,8 +224,8 @@ module _ {f g : List ℕ} {n : ℕ} {present : ℕ → Bool} (p : Permuted n pre
         closed-is r moves =
             same-test (is-closed (link-of f) (link-of g) n a) r
             (λ t. moves .1
-            (λ i h m. closed-iff (two-way .keeps) a-dart .0 t (getD order₁ i 0) (v .grown .added i h m)))
-            (λ t. closed-iff (two-way .keeps) a-dart .1
+            (λ i h m. closed-iff (symmetric .keeps) a-dart .0 t (getD order₁ i 0) (v .grown .added i h m)))
+            (λ t. closed-iff (symmetric .keeps) a-dart .1
             (λ e s.
             let at = reached-new e s in
             subst (BothMove (link-of f) (link-of g)) (at .3) (moves .0 t (at .0) (at .1) (at .2))))
@@ -272,4 +272,4 @@ pub orbits-counted : {n : ℕ} {present : ℕ → Bool} {f : ℕ → ℕ} → Pe
     part-counts f f n present .parts ≡ classes (by-one f) n present
 unfolding part-counts
 orbits-counted p =
-    same-classes (part-keeps p p) (orbit-keeps p) (λ a b h r. twice-once r) (λ a b h r. once-twice r)
+    same-classes (part-keeps p p) (orbit-keeps p) (λ a b h r. double-to-single r) (λ a b h r. single-to-double r)

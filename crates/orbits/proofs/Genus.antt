@@ -1,10 +1,10 @@
 -- Two permutations f and g of the darts, in the order of this page: the statement, with vertices,
--- edges, faces and parts for the classes of g, of f, of f and then g, and of both; what an exchange
+-- edges, faces and parts for the classes of g, of f, of f and then g, and of both; what an transposition
 -- of two darts of two edges does to each; and the theorem:
 -- vertices + edges + faces + 2 × genus = darts + 2 × parts.
 -- Assumes nothing.
 --
--- An exchange joins two edges. If the two darts lie in two parts, it joins these and their faces,
+-- An transposition joins two edges. If the two darts lie in two parts, it joins these and their faces,
 -- and the genus stays. If they lie in one face, it cuts that in two, and the parts and the genus
 -- stay. If they lie in two faces of one part, it joins these, and the genus rises by one. Where f
 -- moves no dart the genus is 0: every dart is an edge, and faces and parts are the vertices.
@@ -19,10 +19,10 @@ use Rattle.finite.specs.Counting.{count-same}
 use Rattle.orbits.specs.Reach.{Reach, here, by-one, by-two}
 use Rattle.orbits.specs.Classes.{is-least, classes}
 use Rattle.orbits.proofs.Reach.{Dart, reach-trans, reach-sym, decide-reach, by-one-link, by-first-link, by-second-link}
-use Rattle.orbits.proofs.Permutations.{Permutes, _then_, compose-permutes, exchange, by-exchange, exchange-involutes, exchanged, exchanged-permutes, fixed-reach, orbit-keeps, orbit-by, part-keeps, part-two-way, part-holds, part-by}
+use Rattle.orbits.proofs.Permutations.{Permutes, _then_, compose-permutes, transposition, by-transposition, transposition-involutes, transposed, transposed-permutes, fixed-reach, orbit-keeps, orbit-by, part-keeps, part-symmetric, part-holds, part-by}
 use Rattle.orbits.proofs.Classes.{Joins, join-lowers-classes, same-classes, same-orbits, least-by}
-use Rattle.orbits.proofs.Exchange.{exchange-joins, exchange-lowers-orbits, exchange-raises-orbits}
-use Rattle.orbits.proofs.Building.{built-by-exchanges}
+use Rattle.orbits.proofs.Transpositions.{transposition-joins, transposition-lowers-orbits, transposition-raises-orbits}
+use Rattle.orbits.proofs.Building.{built-by-transpositions}
 
 -- f and g have genus k
 abbrev pub Genus : ℕ → (ℕ → Bool) → (ℕ → ℕ) → (ℕ → ℕ) → ℕ → Type 0
@@ -39,69 +39,69 @@ module _ {n : ℕ} {present : ℕ → Bool} {f g : ℕ → ℕ} (p : Permutes n 
   face-in-part h r =
       orbit-by (compose-permutes p q) h (λ d k. reach-trans (by-first-link f g d) (by-second-link f g (f d))) r
 
--- ---- two darts of two edges exchanged
+-- ---- two darts of two edges transposed
 
 module _ {n : ℕ} {present : ℕ → Bool} {f g : ℕ → ℕ} (p : Permutes n present f) (q : Permutes n present g)
     {x y : ℕ} (h : Dart n present x) (k : Dart n present y) (apart : ¬ Reach (by-one f) x y) where
-  p′ : Permutes n present (exchanged x y f)
-  p′ = exchanged-permutes p h k
+  p′ : Permutes n present (transposed x y f)
+  p′ = transposed-permutes p h k
 
-  first-finer : (d : ℕ) → Dart n present d → Reach (by-two (exchanged x y f) g) d (f d)
-  first-finer d m = edge-in-part p′ q m (exchange-joins p h k apart .finer d (f d) m (by-one-link f d))
+  first-finer : (d : ℕ) → Dart n present d → Reach (by-two (transposed x y f) g) d (f d)
+  first-finer d m = edge-in-part p′ q m (transposition-joins p h k apart .finer d (f d) m (by-one-link f d))
 
-  parts-join : Joins n present (by-two f g) (by-two (exchanged x y f) g) x y
+  parts-join : Joins n present (by-two f g) (by-two (transposed x y f) g) x y
   parts-join =
       record {
-        finer = λ c d m r. part-by p q m first-finer (λ e t. by-second-link (exchanged x y f) g e) r;
-        joined = edge-in-part p′ q h (exchange-joins p h k apart .joined);
+        finer = λ c d m r. part-by p q m first-finer (λ e t. by-second-link (transposed x y f) g e) r;
+        joined = edge-in-part p′ q h (transposition-joins p h k apart .joined);
         no-more = λ Q step forth back c d m r t.
             part-holds p′ q Q m
             (λ e l u.
-            step (exchange x y e) (f (exchange x y e)) (exchange-involutes h k .kept l) (by-first-link f g (exchange x y e))
-            (by-exchange (λ a b. Q a → Q b) x y e forth back (λ v w z. z) u))
+            step (transposition x y e) (f (transposition x y e)) (transposition-involutes h k .stays l) (by-first-link f g (transposition x y e))
+            (by-transposition (λ a b. Q a → Q b) x y e forth back (λ v w z. z) u))
             (λ e l u. step e (g e) l (by-second-link f g e) u)
             r t;
       }
 
   -- in one part, the parts stay
   parts-stay : Reach (by-two f g) x y →
-      classes (by-two f g) n present ≡ classes (by-two (exchanged x y f) g) n present
+      classes (by-two f g) n present ≡ classes (by-two (transposed x y f) g) n present
   parts-stay r =
       same-classes (part-keeps p q) (part-keeps p′ q) (parts-join .finer)
       (λ c d m t. part-by p′ q m within (λ e l. by-second-link f g e) t)
     where
-      within : (d : ℕ) → Dart n present d → Reach (by-two f g) d (f (exchange x y d))
+      within : (d : ℕ) → Dart n present d → Reach (by-two f g) d (f (transposition x y d))
       within d m =
-          by-exchange (λ c e. Reach (by-two f g) c (f e)) x y d (reach-trans r (by-first-link f g y))
-          (reach-trans (reach-sym (part-two-way p q) h r) (by-first-link f g x)) (λ u v. by-first-link f g d)
+          by-transposition (λ c e. Reach (by-two f g) c (f e)) x y d (reach-trans r (by-first-link f g y))
+          (reach-trans (reach-sym (part-symmetric p q) h r) (by-first-link f g x)) (λ u v. by-first-link f g d)
 
-  pub edges-join : classes (by-one f) n present ≡ suc (classes (by-one (exchanged x y f)) n present)
-  edges-join = exchange-lowers-orbits p h k apart
+  pub edges-join : classes (by-one f) n present ≡ suc (classes (by-one (transposed x y f)) n present)
+  edges-join = transposition-lowers-orbits p h k apart
 
   pub genus-two-parts : (i : ℕ) → ¬ Reach (by-two f g) x y → Genus n present f g i →
-      Genus n present (exchanged x y f) g i
+      Genus n present (transposed x y f) g i
   genus-two-parts i two balanced =
       omega (
         arith,
         edges-join,
-        exchange-lowers-orbits (compose-permutes p q) h k (λ r. two (face-in-part p q h r)),
-        join-lowers-classes (part-two-way p q) (part-two-way p′ q) h k two parts-join,
+        transposition-lowers-orbits (compose-permutes p q) h k (λ r. two (face-in-part p q h r)),
+        join-lowers-classes (part-symmetric p q) (part-symmetric p′ q) h k two parts-join,
       )
 
   pub genus-one-face : (i : ℕ) → Reach (by-one (f then g)) x y → Genus n present f g i →
-      Genus n present (exchanged x y f) g i
+      Genus n present (transposed x y f) g i
   genus-one-face i r balanced =
       omega (
         arith,
         edges-join,
-        exchange-raises-orbits (compose-permutes p q) h k (λ e. apart (subst (Reach (by-one f) x) e here)) r,
+        transposition-raises-orbits (compose-permutes p q) h k (λ e. apart (subst (Reach (by-one f) x) e here)) r,
         parts-stay (face-in-part p q h r),
       )
 
   pub genus-two-faces : (i : ℕ) → Reach (by-two f g) x y → ¬ Reach (by-one (f then g)) x y →
-      Genus n present f g i → Genus n present (exchanged x y f) g (suc i)
+      Genus n present f g i → Genus n present (transposed x y f) g (suc i)
   genus-two-faces i r two balanced =
-      omega (arith, edges-join, exchange-lowers-orbits (compose-permutes p q) h k two, parts-stay r)
+      omega (arith, edges-join, transposition-lowers-orbits (compose-permutes p q) h k two, parts-stay r)
 
 -- ---- f leaves every dart where it is
 
@@ -135,7 +135,7 @@ module _ {n : ℕ} {present : ℕ → Bool} {f g : ℕ → ℕ} (p : Permutes n 
 
 module _ {n : ℕ} {present : ℕ → Bool} {g : ℕ → ℕ} (q : Permutes n present g) where
   genus-step : (f : ℕ → ℕ) (x y : ℕ) → Permutes n present f → Dart n present x → Dart n present y → f x ≡ x → x ≢ y →
-      (k : ℕ) × Genus n present f g k → (k : ℕ) × Genus n present (exchanged x y f) g k
+      (k : ℕ) × Genus n present f g k → (k : ℕ) × Genus n present (transposed x y f) g k
   genus-step f x y p h k fixed differ (i, balanced) =
       ⊎-elim
       (λ r. (i, genus-one-face p q h k apart i r balanced))
@@ -153,5 +153,5 @@ module _ {n : ℕ} {present : ℕ → Bool} {g : ℕ → ℕ} (q : Permutes n pr
 pub genus : {n : ℕ} {present : ℕ → Bool} {f g : ℕ → ℕ} → Permutes n present f → Permutes n present g →
     (k : ℕ) × Genus n present f g k
 genus {n} {present} {f} {g} p q =
-    built-by-exchanges (Permutes n present) (λ e. (k : ℕ) × Genus n present e g k) (λ e r. r)
-    (λ e a r h. exchanged-permutes r (r .kept h) h) (λ e r u. (0, genus-unmoved r q u)) (genus-step q) f p
+    built-by-transpositions (Permutes n present) (λ e. (k : ℕ) × Genus n present e g k) (λ e r. r)
+    (λ e a r h. transposed-permutes r (r .stays h) h) (λ e r u. (0, genus-unmoved r q u)) (genus-step q) f p

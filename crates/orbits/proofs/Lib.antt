@@ -1,7 +1,7 @@
 pub mod Reach
 pub mod Permutations
 pub mod Classes
-pub mod Exchange
+pub mod Transpositions
 pub mod Building
 pub mod Genus
 pub mod Balance

@@ -15,9 +15,9 @@ use Rattle.finite.specs.Bounded.{any-at, any-by, lt-or-ge}
 use Rattle.finite.specs.Counting.{count-none}
 use Rattle.orbits.specs.Reach.{Reach, here, there, by-one, by-two, reaches, StaysBelow}
 use Rattle.orbits.specs.Sets.{dart-limit, set-of}
-use Rattle.orbits.specs.Links.{link-of, test-of, Within, Permuted}
+use Rattle.orbits.specs.Links.{link-of, test-of, Followable, Permuted}
 use Rattle.orbits.specs.Queue.{Queue, Closed, Visited, queued}
-use Rattle.orbits.proofs.Reach.{Dart, Keeps, keeps-stays, reaches-sound, stays-complete, reaches-same, reaches-wider, twice-once, once-twice, by-two-each}
+use Rattle.orbits.proofs.Reach.{Dart, Keeps, keeps-stays, reaches-sound, stays-complete, reaches-same, reaches-wider, double-to-single, single-to-double, by-two-each}
 use Rattle.orbits.proofs.Permutations.{part-keeps}
 use Rattle.orbits.proofs.Sets.{set-of-same}
 
@@ -56,7 +56,7 @@ closed-reach {f} {g} seen closed {a} (there {b = b} {c = c} r e) t =
 
 -- from no dart, the queue comes to hold just what is reached from d
 pub visited-set : {f g : List ℕ} {d : ℕ} {order order-after : List ℕ} {seen-after : List Bool} {end : ℕ} →
-    Within f g d → Visited f g d order 0 order-after seen-after end →
+    Followable f g d → Visited f g d order 0 order-after seen-after end →
     set-of (queued order-after end) ≡ set-of (reaches (by-two (link-of f) (link-of g)) dart-limit d)
 unfolding queued
 visited-set {f} {g} {d} {order-after = order} {seen-after = seen} {end = end} w v =
@@ -78,21 +78,21 @@ visited-set {f} {g} {d} {order-after = order} {seen-after = seen} {end = end} w 
 -- ---- one link
 
 pub orbit-within : {f : List ℕ} {d : ℕ} → length f ≡ dart-limit → StaysBelow dart-limit (by-one (link-of f)) d →
-    Within f f d
+    Followable f f d
 orbit-within whole stays =
-    record { first-whole = whole; second-whole = whole; below = λ b r. stays b (twice-once r) }
+    record { first-whole = whole; second-whole = whole; below = λ b r. stays b (double-to-single r) }
 
 pub orbit-set : {f : ℕ → ℕ} {d : ℕ} → StaysBelow dart-limit (by-one f) d →
     set-of (reaches (by-two f f) dart-limit d) ≡ set-of (reaches (by-one f) dart-limit d)
 orbit-set {f} {d} stays =
     set-of-same (reaches (by-two f f) dart-limit d) (reaches (by-one f) dart-limit d)
     (λ b l.
-    reaches-same (λ c r. stays c (twice-once r)) stays (λ c r. twice-once r) (λ c r. once-twice r) b)
+    reaches-same (λ c r. stays c (double-to-single r)) stays (λ c r. double-to-single r) (λ c r. single-to-double r) b)
 
 -- ---- for callers
 
 pub part-within : {n : ℕ} {present : ℕ → Bool} {f g : List ℕ} {d : ℕ} → Permuted n present f g → Dart n present d →
-    Within f g d
+    Followable f g d
 part-within p h =
     record {
       first-whole = p .first .whole;

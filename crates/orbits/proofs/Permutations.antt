@@ -1,5 +1,5 @@
--- Permutations of the present darts (specs/Links), in the order of this page: exchanges of two darts
--- (the field's transpositions); involutions, compositions and exchanges permute; paths of one link;
+-- Permutations of the present darts (specs/Links), in the order of this page: transpositions of two darts
+-- (the field's transpositions); involutions, compositions and transpositions permute; paths of one link;
 -- iterates; every dart comes back within as many steps as there are darts, by the pigeonhole;
 -- so links that are permutations lead back, and orbits and connected parts are the classes of an
 -- equivalence.
@@ -19,27 +19,27 @@ use Rattle.finite.specs.Counting.{pigeonhole}
 use Rattle.finite.specs.Lists.{elem-one}
 use Rattle.orbits.specs.Reach.{Reach, here, there, by-one, by-two}
 pub use Rattle.orbits.specs.Links.{Permutes, Involutes, _then_}
-use Rattle.orbits.proofs.Reach.{Dart, Keeps, TwoWay, reach-trans, reach-holds, by-one-each, by-two-each, by-one-link, by-first-link, by-second-link}
+use Rattle.orbits.proofs.Reach.{Dart, Keeps, Symmetric, reach-trans, reach-holds, by-one-each, by-two-each, by-one-link, by-first-link, by-second-link}
 
 -- x for y and y for x
-unfoldable pub exchange : ℕ → ℕ → ℕ → ℕ
-exchange x y d = let rest = cond (eqb d y) x d in cond (eqb d x) y rest
+unfoldable pub transposition : ℕ → ℕ → ℕ → ℕ
+transposition x y d = let rest = cond (eqb d y) x d in cond (eqb d x) y rest
 
-pub exchange-first : (x y : ℕ) → exchange x y x ≡ y
-unfolding exchange
-exchange-first x y = rw (eq-eqb x x refl)
+pub transposition-first : (x y : ℕ) → transposition x y x ≡ y
+unfolding transposition
+transposition-first x y = rw (eq-eqb x x refl)
 
-pub exchange-second : (x y : ℕ) → exchange x y y ≡ x
-unfolding exchange
-exchange-second x y =
+pub transposition-second : (x y : ℕ) → transposition x y y ≡ x
+unfolding transposition
+transposition-second x y =
     ⊎-elim
-    (λ (e : y ≡ x). rw e (exchange-first x x))
+    (λ (e : y ≡ x). rw e (transposition-first x x))
     (λ (n : y ≢ x). rw (ne-eqb y x n, eq-eqb y y refl))
     (same-or-not y x)
 
-pub exchange-other : (x y d : ℕ) → d ≢ x → d ≢ y → exchange x y d ≡ d
-unfolding exchange
-exchange-other x y d m n = rw (ne-eqb d x m, ne-eqb d y n)
+pub transposition-other : (x y d : ℕ) → d ≢ x → d ≢ y → transposition x y d ≡ d
+unfolding transposition
+transposition-other x y d m n = rw (ne-eqb d x m, ne-eqb d y n)
 
 pub first-second-other : (x y d : ℕ) → (d ≡ x) ⊎ (d ≡ y) ⊎ ((d ≢ x) × (d ≢ y))
 first-second-other x y d =
@@ -49,59 +49,59 @@ first-second-other x y d =
     ⊎-elim (λ (e : d ≡ y). inr (inl e)) (λ (n : d ≢ y). inr (inr (m, n))) (same-or-not d y))
     (same-or-not d x)
 
--- what holds of x and y, of y and x, and of any other dart and itself, holds of d and its exchange
-pub by-exchange {ℓ} : (Q : ℕ → ℕ → Type ℓ) (x y d : ℕ) →
-    Q x y → Q y x → (d ≢ x → d ≢ y → Q d d) → Q d (exchange x y d)
-by-exchange Q x y d first second other =
+-- what holds of x and y, of y and x, and of any other dart and itself, holds of d and its transposition
+pub by-transposition {ℓ} : (Q : ℕ → ℕ → Type ℓ) (x y d : ℕ) →
+    Q x y → Q y x → (d ≢ x → d ≢ y → Q d d) → Q d (transposition x y d)
+by-transposition Q x y d first second other =
     ⊎-elim
-    (λ (e : d ≡ x). rw (e, exchange-first) first)
+    (λ (e : d ≡ x). rw (e, transposition-first) first)
     (⊎-elim
-    (λ (e : d ≡ y). rw (e, exchange-second) second)
-    (λ o. rw (exchange-other x y d (o .0) (o .1)) (other (o .0) (o .1))))
+    (λ (e : d ≡ y). rw (e, transposition-second) second)
+    (λ o. rw (transposition-other x y d (o .0) (o .1)) (other (o .0) (o .1))))
     (first-second-other x y d)
 
-pub exchange-twice : (x y d : ℕ) → exchange x y (exchange x y d) ≡ d
-exchange-twice x y d =
-    by-exchange (λ c e. exchange x y e ≡ c) x y d (exchange-second x y) (exchange-first x y) (exchange-other x y d)
+pub transposition-twice : (x y d : ℕ) → transposition x y (transposition x y d) ≡ d
+transposition-twice x y d =
+    by-transposition (λ c e. transposition x y e ≡ c) x y d (transposition-second x y) (transposition-first x y) (transposition-other x y d)
 
 module _ {n : ℕ} {present : ℕ → Bool} where
   pub involution-permutes : {f : ℕ → ℕ} → Involutes n present f → Permutes n present f
   involution-permutes {f} i =
-      record { kept = λ {d} h. i .kept h; once = λ {c} {d} g h e. cc (i .twice g, i .twice h) }
+      record { stays = λ {d} h. i .stays h; injective = λ {c} {d} g h e. cc (i .twice g, i .twice h) }
 
   pub compose-permutes : {f g : ℕ → ℕ} → Permutes n present f → Permutes n present g →
       Permutes n present (f then g)
   compose-permutes {f} {g} p q =
       record {
-        kept = λ {d} h. q .kept (p .kept h);
-        once = λ {c} {d} h k e. p .once h k (q .once (p .kept h) (p .kept k) e);
+        stays = λ {d} h. q .stays (p .stays h);
+        injective = λ {c} {d} h k e. p .injective h k (q .injective (p .stays h) (p .stays k) e);
       }
 
   pub same-permutes : {f e : ℕ → ℕ} → Permutes n present f → ((d : ℕ) → Dart n present d → f d ≡ e d) →
       Permutes n present e
   same-permutes {f} {e} p same =
       record {
-        kept = λ {d} h. subst (Dart n present) (same d h) (p .kept h);
-        once = λ {c} {d} h k u. p .once h k (same c h ∙ (u ∙ sym (same d k)));
+        stays = λ {d} h. subst (Dart n present) (same d h) (p .stays h);
+        injective = λ {c} {d} h k u. p .injective h k (same c h ∙ (u ∙ sym (same d k)));
       }
 
-  pub exchange-involutes : {x y : ℕ} → Dart n present x → Dart n present y → Involutes n present (exchange x y)
-  exchange-involutes {x} {y} g h =
+  pub transposition-involutes : {x y : ℕ} → Dart n present x → Dart n present y → Involutes n present (transposition x y)
+  transposition-involutes {x} {y} g h =
       record {
-        kept = λ {d} k. by-exchange (λ c e. Dart n present e) x y d h g (λ m o. k);
-        twice = λ {d} k. exchange-twice x y d;
+        stays = λ {d} k. by-transposition (λ c e. Dart n present e) x y d h g (λ m o. k);
+        twice = λ {d} k. transposition-twice x y d;
       }
 
--- f after an exchange of x and y
-abbrev pub exchanged : ℕ → ℕ → (ℕ → ℕ) → ℕ → ℕ
-exchanged x y f d = f (exchange x y d)
+-- f after an transposition of x and y
+abbrev pub transposed : ℕ → ℕ → (ℕ → ℕ) → ℕ → ℕ
+transposed x y f d = f (transposition x y d)
 
-pub exchanged-twice : (x y : ℕ) (f : ℕ → ℕ) → exchanged x y (exchanged x y f) ≡ f
-exchanged-twice x y f = fun-ext (λ d. ap f (exchange-twice x y d))
+pub transposed-twice : (x y : ℕ) (f : ℕ → ℕ) → transposed x y (transposed x y f) ≡ f
+transposed-twice x y f = fun-ext (λ d. ap f (transposition-twice x y d))
 
-pub exchanged-permutes : {n : ℕ} {present : ℕ → Bool} {f : ℕ → ℕ} {x y : ℕ} → Permutes n present f →
-    Dart n present x → Dart n present y → Permutes n present (exchanged x y f)
-exchanged-permutes p g h = compose-permutes (involution-permutes (exchange-involutes g h)) p
+pub transposed-permutes : {n : ℕ} {present : ℕ → Bool} {f : ℕ → ℕ} {x y : ℕ} → Permutes n present f →
+    Dart n present x → Dart n present y → Permutes n present (transposed x y f)
+transposed-permutes p g h = compose-permutes (involution-permutes (transposition-involutes g h)) p
 
 -- ---- paths of one link
 
@@ -158,7 +158,7 @@ module _ {n : ℕ} {present : ℕ → Bool} {f : ℕ → ℕ} (p : Permutes n pr
   pub iterate-dart : {a : ℕ} (k : ℕ) → Dart n present a → Dart n present (iterate f k a)
   unfolding iterate
   iterate-dart zero h = h
-  iterate-dart (suc k) h = p .kept (iterate-dart k h)
+  iterate-dart (suc k) h = p .stays (iterate-dart k h)
 
   -- two iterates that meet met at a
   pub iterates-meet : {a : ℕ} (i j : ℕ) → Dart n present a → i < j → iterate f i a ≡ iterate f j a →
@@ -167,7 +167,7 @@ module _ {n : ℕ} {present : ℕ → Bool} {f : ℕ → ℕ} (p : Permutes n pr
   iterates-meet zero j h l e = (j, l, le-refl j, sym e)
   iterates-meet (suc i) zero h l e = absurd (not-suc-le-zero l)
   iterates-meet (suc i) (suc j) h l e =
-      let m = iterates-meet i j h (omega arith) (p .once (iterate-dart i h) (iterate-dart j h) e) in
+      let m = iterates-meet i j h (omega arith) (p .injective (iterate-dart i h) (iterate-dart j h) e) in
       (m .0, m .1, omega arith, m .3)
 
   -- every dart comes back, within as many steps as there are darts
@@ -197,7 +197,7 @@ module _ {n : ℕ} {present : ℕ → Bool} {f : ℕ → ℕ} (p : Permutes n pr
       (i .0, omega arith, i .2)
 
   pub orbit-keeps : Keeps n present (by-one f)
-  orbit-keeps = record { kept = λ {d} c h e. by-one-each (Dart n present) f d c e (p .kept h) }
+  orbit-keeps = record { stays = λ {d} c h e. by-one-each (Dart n present) f d c e (p .stays h) }
 
   -- a link that is a permutation leads back
   pub link-back : {d : ℕ} → Dart n present d → Reach (by-one f) (f d) d
@@ -207,8 +207,8 @@ module _ {n : ℕ} {present : ℕ → Bool} {f : ℕ → ℕ} (p : Permutes n pr
       after zero l e = absurd (not-suc-le-zero l)
       after (suc k) l e = subst (Reach (by-one f) (f d)) (iterate-after f k d ∙ e) (iterate-reach f k (f d))
 
-  pub orbit-two-way : TwoWay n present (by-one f)
-  orbit-two-way =
+  pub orbit-symmetric : Symmetric n present (by-one f)
+  orbit-symmetric =
       record {
         keeps = orbit-keeps;
         back = λ {d} c h e. by-one-each (λ b. Reach (by-one f) b d) f d c e (link-back h);
@@ -227,16 +227,16 @@ module _ {n : ℕ} {present : ℕ → Bool} {f : ℕ → ℕ} (p : Permutes n pr
 
 module _ {n : ℕ} {present : ℕ → Bool} {f g : ℕ → ℕ} (p : Permutes n present f) (q : Permutes n present g) where
   pub part-keeps : Keeps n present (by-two f g)
-  part-keeps = record { kept = λ {d} c h e. by-two-each (Dart n present) f g d c e (p .kept h) (q .kept h) }
+  part-keeps = record { stays = λ {d} c h e. by-two-each (Dart n present) f g d c e (p .stays h) (q .stays h) }
 
-  pub part-two-way : TwoWay n present (by-two f g)
-  part-two-way =
+  pub part-symmetric : Symmetric n present (by-two f g)
+  part-symmetric =
       record {
         keeps = part-keeps;
         back = λ {d} c h e.
             by-two-each (λ b. Reach (by-two f g) b d) f g d c e
-            (orbit-by p (p .kept h) (λ b k. by-first-link f g b) (link-back p h))
-            (orbit-by q (q .kept h) (λ b k. by-second-link f g b) (link-back q h));
+            (orbit-by p (p .stays h) (λ b k. by-first-link f g b) (link-back p h))
+            (orbit-by q (q .stays h) (λ b k. by-second-link f g b) (link-back q h));
       }
 
   pub part-holds {ℓ} : {a b : ℕ} (Q : ℕ → Type ℓ) → Dart n present a →

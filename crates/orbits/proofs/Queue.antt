@@ -19,7 +19,7 @@ use Rattle.finite.specs.Counting.{count-small, count-less, count-one-more}
 use Rattle.orbits.specs.Reach.{Reach, here, by-two}
 use Rattle.orbits.specs.Classes.{is-fixed}
 use Rattle.orbits.specs.Sets.{dart-limit, set-of, no-darts, with-dart}
-use Rattle.orbits.specs.Links.{link-of, test-of, Within}
+use Rattle.orbits.specs.Links.{link-of, test-of, Followable}
 use Rattle.orbits.specs.Queue.{Queue, Grown, LinksSeen, Ready, Visited, Put, queued, AllMove}
 use Rattle.orbits.proofs.Links.{link-read}
 use Rattle.orbits.proofs.Sets.{no-darts-set, with-set-of}
@@ -204,7 +204,7 @@ visit-ends {f} {g} {seen = seen} v h =
 
 -- until then there is a dart at `head`, reached from d
 module _ {f g : List ℕ} {d : ℕ} {order₀ : List ℕ} {end₀ : ℕ} {order : List ℕ} {seen : List Bool} {end head : ℕ}
-    (w : Within f g d) (v : Visiting f g d order₀ end₀ order seen end head) (h : head < end) where
+    (w : Followable f g d) (v : Visiting f g d order₀ end₀ order seen end head) (h : head < end) where
   head-reached : Reach (by-two (link-of f) (link-of g)) d (getD order head 0)
   head-reached = v .grown .added head (v .begun) h
 

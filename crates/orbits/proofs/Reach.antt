@@ -1,6 +1,6 @@
 -- The laws of reaching, in the order of this page: paths put together and carried from one set of
 -- links to another; links that keep the present darts; the test `reaches` agrees with the relation
--- `Reach` where all that is reached lies below the bound, since each round of `grow` adds a dart until
+-- `Reach` where all that is reached lies below the bound, since each widened of `grow` adds a dart until
 -- the list is closed under the links; links that lead back make reaching an equivalence.
 -- Assumes nothing.
 use mathlib.Core.Path.{_≡_}
@@ -50,22 +50,22 @@ by-two-each Q f g d c e q r =
     (elem-cases c (f d) (g d ∷ []) e)
 
 -- a link taken twice over reaches what it reaches alone
-pub twice-once : {f : ℕ → ℕ} {a b : ℕ} → Reach (by-two f f) a b → Reach (by-one f) a b
-twice-once here = here
-twice-once {f} {a} (there {b = b} {c = c} r e) =
-    let on = reach-trans (twice-once r) (by-one-link f b) in by-two-each (Reach (by-one f) a) f f b c e on on
+pub double-to-single : {f : ℕ → ℕ} {a b : ℕ} → Reach (by-two f f) a b → Reach (by-one f) a b
+double-to-single here = here
+double-to-single {f} {a} (there {b = b} {c = c} r e) =
+    let on = reach-trans (double-to-single r) (by-one-link f b) in by-two-each (Reach (by-one f) a) f f b c e on on
 
-pub once-twice : {f : ℕ → ℕ} {a b : ℕ} → Reach (by-one f) a b → Reach (by-two f f) a b
-once-twice here = here
-once-twice {f} {a} (there {b = b} {c = c} r e) =
-    by-one-each (Reach (by-two f f) a) f b c e (reach-trans (once-twice r) (by-first-link f f b))
+pub single-to-double : {f : ℕ → ℕ} {a b : ℕ} → Reach (by-one f) a b → Reach (by-two f f) a b
+single-to-double here = here
+single-to-double {f} {a} (there {b = b} {c = c} r e) =
+    by-one-each (Reach (by-two f f) a) f b c e (reach-trans (single-to-double r) (by-first-link f f b))
 
 -- ---- present darts
 
 pub reach-dart : {n : ℕ} {present : ℕ → Bool} {next : ℕ → List ℕ} {a b : ℕ} →
     Keeps n present next → Dart n present a → Reach next a b → Dart n present b
 reach-dart k d here = d
-reach-dart k d (there {c = c} r e) = k .kept c (reach-dart k d r) e
+reach-dart k d (there {c = c} r e) = k .stays c (reach-dart k d r) e
 
 -- what holds at the start of a path and goes over each link holds at its end
 pub reach-holds {ℓ} : {n : ℕ} {present : ℕ → Bool} {next : ℕ → List ℕ} {a b : ℕ} (Q : ℕ → Type ℓ) →
@@ -104,8 +104,8 @@ reaches-sound next n a b t =
     grow-sound next a n (a ∷ []) (λ x h. rw (elem-one x a h) here) b t
 
 -- the members of s with all that lies one link from them
-round : (ℕ → List ℕ) → List ℕ → List ℕ
-round next s = union (flatMap next s) s
+widened : (ℕ → List ℕ) → List ℕ → List ℕ
+widened next s = union (flatMap next s) s
 
 -- every link from a member leads to a member
 abbrev Closed : (ℕ → List ℕ) → List ℕ → Type 0
@@ -114,58 +114,58 @@ Closed next s = (x c : ℕ) → T (elem x s) → T (elem c (next x)) → T (elem
 size : ℕ → List ℕ → ℕ
 size n s = count n (λ x. elem x s)
 
-round-closed : (next : ℕ → List ℕ) (s : List ℕ) → Closed next s → Closed next (round next s)
-unfolding round
-round-closed next s closed x c m e =
+widened-closed : (next : ℕ → List ℕ) (s : List ℕ) → Closed next s → Closed next (widened next s)
+unfolding widened
+widened-closed next s closed x c m e =
     elem-union-right c (flatMap next s) s (closed x c (⊎-elim linked (λ r. r) (elem-union x (flatMap next s) s m)) e)
   where
     linked : T (elem x (flatMap next s)) → T (elem x s)
     linked l = let i = elem-flatMap x next s l in closed (i .0) x (i .1) (i .2)
 
 grow-closed : (next : ℕ → List ℕ) (k : ℕ) (s : List ℕ) → Closed next s → Closed next (grow next k s)
-unfolding grow round
+unfolding grow widened
 grow-closed next zero s closed = closed
-grow-closed next (suc k) s closed = grow-closed next k (round next s) (round-closed next s closed)
+grow-closed next (suc k) s closed = grow-closed next k (widened next s) (widened-closed next s closed)
 
 grow-holds : (next : ℕ → List ℕ) (k : ℕ) (s : List ℕ) (x : ℕ) → T (elem x s) → T (elem x (grow next k s))
-unfolding grow round
+unfolding grow widened
 grow-holds next zero s x m = m
-grow-holds next (suc k) s x m = grow-holds next k (round next s) x (elem-union-right x (flatMap next s) s m)
+grow-holds next (suc k) s x m = grow-holds next k (widened next s) x (elem-union-right x (flatMap next s) s m)
 
-round-sound : (next : ℕ → List ℕ) (a : ℕ) (s : List ℕ) → ((x : ℕ) → T (elem x s) → Reach next a x) →
-    (x : ℕ) → T (elem x (round next s)) → Reach next a x
-unfolding round grow
-round-sound next a s f = grow-sound next a 1 s f
+widened-sound : (next : ℕ → List ℕ) (a : ℕ) (s : List ℕ) → ((x : ℕ) → T (elem x s) → Reach next a x) →
+    (x : ℕ) → T (elem x (widened next s)) → Reach next a x
+unfolding widened grow
+widened-sound next a s f = grow-sound next a 1 s f
 
 module _ {n : ℕ} {next : ℕ → List ℕ} {a : ℕ} (stays : StaysBelow n next a) where
-  -- a round adds a member, or there was none to add
-  round-grows : (s : List ℕ) → ((x : ℕ) → T (elem x s) → Reach next a x) →
-      Closed next s ⊎ (size n s < size n (round next s))
-  unfolding round size
-  round-grows s f =
+  -- a widened adds a member, or there was none to add
+  widened-grows : (s : List ℕ) → ((x : ℕ) → T (elem x s) → Reach next a x) →
+      Closed next s ⊎ (size n s < size n (widened next s))
+  unfolding widened size
+  widened-grows s f =
       ⊎-elim
       (λ (t : T (all-in (λ x. elem x s) (flatMap next s))).
       inl (λ x c m e. all-elem (λ x. elem x s) (flatMap next s) t c (elem-flatMap-by c x next s m e)))
       (λ (t : T (not (all-in (λ x. elem x s) (flatMap next s)))).
       let new = some-fails (λ x. elem x s) (flatMap next s) t in
       let m = elem-union-left (new .0) (flatMap next s) s (new .1) in
-      inr (count-less n (new .0) (λ x. elem x s) (λ x. elem x (round next s))
+      inr (count-less n (new .0) (λ x. elem x s) (λ x. elem x (widened next s))
       (λ x h r. elem-union-right x (flatMap next s) s r)
-      (stays (new .0) (round-sound next a s f (new .0) m)) (new .2) m))
+      (stays (new .0) (widened-sound next a s f (new .0) m)) (new .2) m))
       (decide (all-in (λ x. elem x s) (flatMap next s)))
 
   grow-ends : (k : ℕ) (s : List ℕ) → ((x : ℕ) → T (elem x s) → Reach next a x) →
       Closed next (grow next k s) ⊎ (k + size n s ≤ size n (grow next k s))
-  unfolding grow round
+  unfolding grow widened
   grow-ends zero s f = inr (omega arith)
   grow-ends (suc k) s f =
       ⊎-elim
       (λ (closed : Closed next s). inl (grow-closed next (suc k) s closed))
-      (λ (l : size n s < size n (round next s)).
+      (λ (l : size n s < size n (widened next s)).
       ⊎-elim (λ closed. inl closed)
-      (λ (h : k + size n (round next s) ≤ size n (grow next k (round next s))). inr (omega arith))
-      (grow-ends k (round next s) (round-sound next a s f)))
-      (round-grows s f)
+      (λ (h : k + size n (widened next s) ≤ size n (grow next k (widened next s))). inr (omega arith))
+      (grow-ends k (widened next s) (widened-sound next a s f)))
+      (widened-grows s f)
 
   reached-closed : Closed next (reached next n a)
   unfolding reached size
@@ -223,17 +223,17 @@ module _ {n : ℕ} {present : ℕ → Bool} {next : ℕ → List ℕ} (keeps : K
 -- where the links keep all that is below n, every number below n counts as a dart
 pub keeps-below : {n : ℕ} {next : ℕ → List ℕ} →
     ((d c : ℕ) → d < n → T (elem c (next d)) → c < n) → Keeps n (λ d. true) next
-keeps-below f = record { kept = λ {d} c h e. record { below = f d c (h .below) e; is-present = tt } }
+keeps-below f = record { stays = λ {d} c h e. record { below = f d c (h .below) e; is-present = tt } }
 
 -- ---- links that lead back
 
 -- from each dart that a link leads to there is a path back, so reaching is an equivalence
-pub record TwoWay (n : ℕ) (present : ℕ → Bool) (next : ℕ → List ℕ) : Type 0 where
+pub record Symmetric (n : ℕ) (present : ℕ → Bool) (next : ℕ → List ℕ) : Type 0 where
   pub keeps : Keeps n present next
   pub back : {d : ℕ} (c : ℕ) → Dart n present d → T (elem c (next d)) → Reach next c d
 
 pub reach-sym : {n : ℕ} {present : ℕ → Bool} {next : ℕ → List ℕ} {a b : ℕ} →
-    TwoWay n present next → Dart n present a → Reach next a b → Reach next b a
+    Symmetric n present next → Dart n present a → Reach next a b → Reach next b a
 reach-sym w d here = here
 reach-sym w d (there {c = c} r e) =
     reach-trans (w .back c (reach-dart (w .keeps) d r) e) (reach-sym w d r)

@@ -84,15 +84,15 @@ meet-sooner f p i j a l h home e =
     )
 
 -- an orbit as a list: all after a
-pub record Round (f : ℕ → ℕ) (a : ℕ) (t : List ℕ) : Type 0 where
+pub record Ringed (f : ℕ → ℕ) (a : ℕ) (t : List ℕ) : Type 0 where
   pub cycle : Cycle (λ x y. f x ≡ y) (a ∷ t)
-  pub once : T (distinct (a ∷ t))
+  pub all-distinct : T (distinct (a ∷ t))
 
 -- the orbit of a dart that comes back
-round-from : (f : ℕ → ℕ) (p a : ℕ) → iterate f (suc p) a ≡ a →
-    (t : List ℕ) × Round f a t × (length (a ∷ t) ≤ suc p)
+ringed-from : (f : ℕ → ℕ) (p a : ℕ) → iterate f (suc p) a ≡ a →
+    (t : List ℕ) × Ringed f a t × (length (a ∷ t) ≤ suc p)
 unfolding trail Cycle
-round-from f p a home =
+ringed-from f p a home =
     let back : ℕ → Bool = λ q. eqb (iterate f (suc q) a) a in
     let least = least-passing p back (equal-by (iterate f (suc p) a) a home) in
     let q = least .0 in
@@ -101,7 +101,7 @@ round-from f p a home =
       record {
         cycle =
             subst (λ (d : ℕ). Chain (λ x y. f x ≡ y) (trail f (suc q) a ++ d ∷ [])) again (trail-chain f (suc q) a);
-        once =
+        all-distinct =
             trail-distinct f (suc q) a
             (λ i j l h e.
             let s = meet-sooner f q i j a l h again e in
@@ -111,25 +111,25 @@ round-from f p a home =
     )
 
 module _ {n : ℕ} {present : ℕ → Bool} {f : ℕ → ℕ} (p : Permutes n present f) {a : ℕ} (h : Dart n present a) where
-  pub orbit-round : (t : List ℕ) × Round f a t × (length (a ∷ t) ≤ count n present)
-  orbit-round = let m = comes-back p h in from (m .0) (m .1) (m .2) (m .3)
+  pub orbit-ringed : (t : List ℕ) × Ringed f a t × (length (a ∷ t) ≤ count n present)
+  orbit-ringed = let m = comes-back p h in from (m .0) (m .1) (m .2) (m .3)
     where
       from : (m : ℕ) → 0 < m → m ≤ count n present → iterate f m a ≡ a →
-          (t : List ℕ) × Round f a t × (length (a ∷ t) ≤ count n present)
+          (t : List ℕ) × Ringed f a t × (length (a ∷ t) ≤ count n present)
       from zero l e home = absurd (not-suc-le-zero l)
-      from (suc m) l e home = let r = round-from f m a home in (r .0, r .1, omega arith)
+      from (suc m) l e home = let r = ringed-from f m a home in (r .0, r .1, omega arith)
 
   -- its members are what is reached
-  pub round-reach : {t : List ℕ} → Round f a t → (x : ℕ) → T (elem x (a ∷ t)) → Reach (by-one f) a x
-  round-reach {t} r x m =
+  pub ringed-reach : {t : List ℕ} → Ringed f a t → (x : ℕ) → T (elem x (a ∷ t)) → Reach (by-one f) a x
+  ringed-reach {t} r x m =
       cycle-holds (λ x y. f x ≡ y) (Reach (by-one f) a)
       (λ x y (e : f x ≡ y) (q : Reach (by-one f) a x).
       subst (Reach (by-one f) a) e (reach-trans q (by-one-link f x)))
       a x (a ∷ t) (r .cycle) (elem-head a t) m here
 
-  pub round-darts : {t : List ℕ} → Round f a t → (x : ℕ) → T (elem x (a ∷ t)) → Dart n present x
-  round-darts r x m = reach-dart (orbit-keeps p) h (round-reach r x m)
+  pub ringed-darts : {t : List ℕ} → Ringed f a t → (x : ℕ) → T (elem x (a ∷ t)) → Dart n present x
+  ringed-darts r x m = reach-dart (orbit-keeps p) h (ringed-reach r x m)
 
 -- `ring` runs through it
-pub round-ring : (f : ℕ → ℕ) (k a : ℕ) (t : List ℕ) → Round f a t → length (a ∷ t) ≤ k → ring f a k a ≡ a ∷ t
-round-ring f k a t r l = ring-of-cycle f a t k (r .cycle) (r .once) l
+pub ringed-ring : (f : ℕ → ℕ) (k a : ℕ) (t : List ℕ) → Ringed f a t → length (a ∷ t) ≤ k → ring f a k a ≡ a ∷ t
+ringed-ring f k a t r l = ring-of-cycle f a t k (r .cycle) (r .all-distinct) l

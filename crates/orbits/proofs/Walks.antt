@@ -31,7 +31,7 @@ use Rattle.orbits.proofs.Classes.{closed-iff}
 use Rattle.orbits.proofs.Permutations.{Permutes, Involutes, involution-permutes, part-keeps, part-holds}
 
 -- In the part of a, g fixes only what f fixes, so a walk comes by an edge step to no dart that g
--- fixes. Without this it may turn there and come home: if f exchanges 0 and 1 and g fixes both, the
+-- fixes. Without this it may turn there and come home: if f transpositions 0 and 1 and g fixes both, the
 -- walk from 0 makes four moves, to 1, 1, 0 and 0.
 abbrev pub OpenEnds : (ℕ → ℕ) → (ℕ → ℕ) → ℕ → Type 0
 OpenEnds f g a = (d : ℕ) → Reach (by-two f g) a d → g d ≡ d → f d ≡ d
@@ -84,7 +84,7 @@ module _ (f g : ℕ → ℕ) (start c : ℕ) where
 -- ---- the darts seen
 
 -- an edge step is due at d, and the walk has gone along the darts of the list
-record Seen (n : ℕ) (present : ℕ → Bool) (f g : ℕ → ℕ) (start : ℕ) (seen : List ℕ) (d : ℕ) : Type 0 where
+record Walking (n : ℕ) (present : ℕ → Bool) (f g : ℕ → ℕ) (start : ℕ) (seen : List ℕ) (d : ℕ) : Type 0 where
   reach : Reach (by-two f g) start d
   darts : (x : ℕ) → T (elem x seen) → Dart n present x
   moved : (x : ℕ) → T (elem x seen) → f x ≢ x
@@ -94,9 +94,9 @@ record Seen (n : ℕ) (present : ℕ → Bool) (f g : ℕ → ℕ) (start : ℕ)
   from : (d ≡ start) ⊎ T (elem (g d) seen)
   begun : (d ≡ start) ⊎ T (elem start seen)
 
-seen-none : {n : ℕ} {present : ℕ → Bool} {f g : ℕ → ℕ} (start : ℕ) → Seen n present f g start [] start
+walking-none : {n : ℕ} {present : ℕ → Bool} {f g : ℕ → ℕ} (start : ℕ) → Walking n present f g start [] start
 unfolding elem
-seen-none start =
+walking-none start =
     record {
       reach = here;
       darts = λ x h. absurd h;
@@ -139,7 +139,7 @@ module _ {n : ℕ} {present : ℕ → Bool} {f g : ℕ → ℕ} (i : Involutes n
   q : Permutes n present g
   q = involution-permutes j
 
-  module _ {seen : List ℕ} {d : ℕ} (w : Seen n present f g start seen d) where
+  module _ {seen : List ℕ} {d : ℕ} (w : Walking n present f g start seen d) where
     at : Dart n present d
     at = reach-dart (part-keeps p q) h (w .reach)
 
@@ -176,7 +176,7 @@ module _ {n : ℕ} {present : ℕ → Bool} {f g : ℕ → ℕ} (i : Involutes n
       more-new away m = edge-each f d seen (λ x. x ≢ g (f d)) not-first not-second not-old (g (f d)) m refl
         where
           back : (x : ℕ) → x ≡ g (f d) → g x ≡ f d
-          back x e = ap g e ∙ j .twice (i .kept at)
+          back x e = ap g e ∙ j .twice (i .stays at)
 
           not-first : d ≢ g (f d)
           not-first e =
@@ -199,16 +199,16 @@ module _ {n : ℕ} {present : ℕ → Bool} {f g : ℕ → ℕ} (i : Involutes n
               (λ (u : x ≡ start). away (sym e ∙ u)))
               (w .second x t)
 
-      seen-more : g (f d) ≢ start → Seen n present f g start (with-edge f d seen) (g (f d))
-      seen-more away =
+      walking-more : g (f d) ≢ start → Walking n present f g start (with-edge f d seen) (g (f d))
+      walking-more away =
           record {
             reach = reach-trans (w .reach) (reach-trans (by-first-link f g d) (by-second-link f g (f d)));
-            darts = edge-each f d seen (Dart n present) at (i .kept at) (w .darts);
+            darts = edge-each f d seen (Dart n present) at (i .stays at) (w .darts);
             moved = more-moved;
             first = more-first;
             second = more-second;
             new = more-new away;
-            from = inr (rw (j .twice (i .kept at)) (edge-second f d seen));
+            from = inr (rw (j .twice (i .stays at)) (edge-second f d seen));
             begun = inr more-begun;
           }
 
@@ -222,7 +222,7 @@ module _ {n : ℕ} {present : ℕ → Bool} {f g : ℕ → ℕ} (i : Involutes n
           (⊎-elim
           (λ (e : g z ≡ g (f d)). rw (e ∙ home) more-begun)
           (λ (e : z ≡ start).
-          rw (ap g (e ∙ sym home) ∙ j .twice (i .kept at)) (edge-second f d seen)))
+          rw (ap g (e ∙ sym home) ∙ j .twice (i .stays at)) (edge-second f d seen)))
           (more-second z m))
           r more-begun)
 
@@ -230,7 +230,7 @@ module _ {n : ℕ} {present : ℕ → Bool} {f g : ℕ → ℕ} (i : Involutes n
       more-count =
           count-members n d (f d ∷ seen) (at .below)
           (λ m. ⊎-elim (λ (e : d ≡ f d). moves (sym e)) (w .new) (elem-cases d (f d) seen m)) ∙
-          ap suc (count-members n (f d) seen (i .kept at .below) second-new)
+          ap suc (count-members n (f d) seen (i .stays at .below) second-new)
 
     -- there is room for d
     room : count n (λ x. elem x seen) < count n present
@@ -245,7 +245,7 @@ module _ {n : ℕ} {present : ℕ → Bool} {f g : ℕ → ℕ} (i : Involutes n
           arith,
           more-count moves,
           count-mono n (λ x. elem x (with-edge f d seen)) present
-              (λ x l m. edge-each f d seen (Dart n present) at (i .kept at) (w .darts) x m .is-present),
+              (λ x l m. edge-each f d seen (Dart n present) at (i .stays at) (w .darts) x m .is-present),
         )
 
 -- ---- how a walk ends
@@ -272,7 +272,7 @@ record Ends (n : ℕ) (present : ℕ → Bool) (f g : ℕ → ℕ) (start d m : 
 
 module _ {n : ℕ} {present : ℕ → Bool} {f g : ℕ → ℕ} (i : Involutes n present f) (j : Involutes n present g)
     {start : ℕ} (h : Dart n present start) (open-ends : OpenEnds f g start) where
-  walk-on : (k m : ℕ) (seen : List ℕ) (d : ℕ) → Seen n present f g start seen d →
+  walk-on : (k m : ℕ) (seen : List ℕ) (d : ℕ) → Walking n present f g start seen d →
       count n (λ x. elem x seen) ≡ m → count n present ≤ k + m → Ends n present f g start d m
   walk-on zero m seen d w e enough = absurd (omega (arith, room i j h open-ends w))
   walk-on (suc k) m seen d w e enough =
@@ -296,7 +296,7 @@ module _ {n : ℕ} {present : ℕ → Bool} {f g : ℕ → ℕ} (i : Involutes n
         how = inl (record { ending = refl; last = home; moved = home-moved i j h open-ends w moves home });
       })
       (λ (away : g (f d) ≢ start).
-      let later = walk-on k (suc (suc m)) (with-edge f d seen) (g (f d)) (seen-more i j h open-ends w moves away)
+      let later = walk-on k (suc (suc m)) (with-edge f d seen) (g (f d)) (walking-more i j h open-ends w moves away)
       (more-count i j h open-ends w moves ∙ ap (λ (c : ℕ). suc (suc c)) e) (omega arith) in
       record {
         result = later .result;
@@ -310,7 +310,7 @@ module _ {n : ℕ} {present : ℕ → Bool} {f g : ℕ → ℕ} (i : Involutes n
   walk-ends : Ends n present f g start start 0
   unfolding elem
   walk-ends =
-      walk-on (count n present) 0 [] start (seen-none start) (count-none n (λ x. elem x []) (λ k l t. t)) (omega arith)
+      walk-on (count n present) 0 [] start (walking-none start) (count-none n (λ x. elem x []) (λ k l t. t)) (omega arith)
 
 -- ---- the theorems
 

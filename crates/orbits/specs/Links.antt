@@ -34,7 +34,7 @@ pub record Composed (f g h : List ℕ) : Type 0 where
   pub leads : link-of h ≡ link-of f then link-of g
 
 -- lists for all darts, whose links lead from d to darts alone
-pub record Within (f g : List ℕ) (d : ℕ) : Type 0 where
+pub record Followable (f g : List ℕ) (d : ℕ) : Type 0 where
   pub first-whole : length f ≡ dart-limit
   pub second-whole : length g ≡ dart-limit
   pub below : StaysBelow dart-limit (by-two (link-of f) (link-of g)) d
@@ -46,16 +46,16 @@ pub record Dart (n : ℕ) (present : ℕ → Bool) (d : ℕ) : Type 0 where
 
 -- the links lead from darts to darts
 pub record Keeps (n : ℕ) (present : ℕ → Bool) (next : ℕ → List ℕ) : Type 0 where
-  pub kept : {d : ℕ} (c : ℕ) → Dart n present d → T (elem c (next d)) → Dart n present c
+  pub stays : {d : ℕ} (c : ℕ) → Dart n present d → T (elem c (next d)) → Dart n present c
 
 -- f leads from darts to darts, and no two to the same
 pub record Permutes (n : ℕ) (present : ℕ → Bool) (f : ℕ → ℕ) : Type 0 where
-  pub kept : {d : ℕ} → Dart n present d → Dart n present (f d)
-  pub once : {c d : ℕ} → Dart n present c → Dart n present d → f c ≡ f d → c ≡ d
+  pub stays : {d : ℕ} → Dart n present d → Dart n present (f d)
+  pub injective : {c d : ℕ} → Dart n present c → Dart n present d → f c ≡ f d → c ≡ d
 
 -- f leads from darts to darts, and undoes itself
 pub record Involutes (n : ℕ) (present : ℕ → Bool) (f : ℕ → ℕ) : Type 0 where
-  pub kept : {d : ℕ} → Dart n present d → Dart n present (f d)
+  pub stays : {d : ℕ} → Dart n present d → Dart n present (f d)
   pub twice : {d : ℕ} → Dart n present d → f (f d) ≡ d
 
 -- a list for all darts, whose link permutes those that are there

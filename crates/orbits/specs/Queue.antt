@@ -14,7 +14,7 @@ use lib.ListN.{length, getD}
 use Rattle.finite.specs.Bounded.{any, count}
 use Rattle.orbits.specs.Reach.{Reach, by-two}
 use Rattle.orbits.specs.Sets.{dart-limit}
-use Rattle.orbits.specs.Links.{link-of, test-of, Within}
+use Rattle.orbits.specs.Links.{link-of, test-of, Followable}
 
 -- the darts seen stand in the queue, each once
 pub record Queue (order : List ℕ) (seen : List Bool) (end : ℕ) : Type 0 where
@@ -41,7 +41,7 @@ Closed f g seen = (d : ℕ) → T (test-of seen d) → LinksSeen f g seen d
 
 -- what is reached from d can be put into the queue
 pub record Ready (f g : List ℕ) (d : ℕ) (order : List ℕ) (seen : List Bool) (end : ℕ) : Type 0 where
-  pub within : Within f g d
+  pub within : Followable f g d
   pub queue : Queue order seen end
   pub closed : Closed (link-of f) (link-of g) seen
 

@@ -7,7 +7,7 @@ ghost use lib.ListN.{length};
 ghost use Rattle.orbits.specs.Reach.{by-one, by-two, reaches, StaysBelow};
 ghost use Rattle.orbits.specs.Classes.{classes};
 ghost use Rattle.orbits.specs.Sets.{dart-limit, set-of, no-darts, has, with-dart};
-ghost use Rattle.orbits.specs.Links.{link-of, test-of, Composed, Within, Permuted, part-counts};
+ghost use Rattle.orbits.specs.Links.{link-of, test-of, Composed, Followable, Permuted, part-counts};
 
 // Darts are numbered 0 to 1,023.
 pub const DART_LIMIT: usize = 1024;
@@ -106,7 +106,7 @@ pub fn composed(f: &[usize; DART_LIMIT], g: &[usize; DART_LIMIT]) -> [usize; DAR
 
 // The connected part of dart d: all that is reached from it by the links f and g.
 pub fn part(f: &[usize; DART_LIMIT], g: &[usize; DART_LIMIT], d: usize) -> DartSet
-    requires { ⌜ Within (now f) (now g) d ⌝ }
+    requires { ⌜ Followable (now f) (now g) d ⌝ }
     ensures { λ r. ⌜ r ≡
         set-of (reaches (by-two (link-of (now (f .entry))) (link-of (now (g .entry)))) dart-limit d) ⌝ }
 {
@@ -143,7 +143,7 @@ pub fn part_counts(
     let mut closed = 0;
     let mut a = 0;
     while a < n {
-        if visits::is_new(present, &seen, a) {
+        if visits::is_unseen(present, &seen, a) {
             let from = end;
             end = visits::visit(f, g, a, &mut order, &mut seen, from);
             parts += 1;

@@ -103,7 +103,7 @@ pub(crate) fn all_move(
 }
 
 // Whether dart a is present and not in the queue.
-pub(crate) fn is_new(present: &[bool; DART_LIMIT], seen: &[bool; DART_LIMIT], a: usize) -> bool
+pub(crate) fn is_unseen(present: &[bool; DART_LIMIT], seen: &[bool; DART_LIMIT], a: usize) -> bool
     requires { ⌜ a < dart-limit ⌝ }
     ensures { λ r. ⌜ r ≡ test-of (now (present .entry)) a && not (test-of (now (seen .entry)) a) ⌝ }
 {

@@ -19,8 +19,8 @@ use Rattle.integers.specs.Range.{Bounded, bounded-self, +ℤ-bounded, -ℤ-boun
 use Rattle.finite.specs.Tests.{and-left, and-right}
 use Rattle.model.specs.declared.Point.{Point}
 use Rattle.model.specs.Plane.{at, coordinate-limit, coordinate-in-range, in-range, orientation, orientation-limit}
-use Rattle.plane.specs.Turned.{Near}
-use Rattle.plane.proofs.Orientation.{turn}
+use Rattle.plane.specs.OrientedAnswer.{Near}
+use Rattle.plane.proofs.Orientation.{orientation-expr}
 
 pub coordinate-bounded : (z : ℤ) → T (coordinate-in-range z) → Bounded coordinate-limit z
 unfolding coordinate-in-range
@@ -60,7 +60,7 @@ module _ (a b c : Point) (near : Near (a .x) (a .y) (b .x) (b .y) (c .x) (c .y))
   orientation-bounded =
       let regrouped =
       identity 6
-      (λ ax ay bx by cx cy. turn ax ay bx by cx cy ≐ ax ⊗ (by ⊖ cy) ⊕ bx ⊗ (cy ⊖ ay) ⊕ cx ⊗ (ay ⊖ by))
+      (λ ax ay bx by cx cy. orientation-expr ax ay bx by cx cy ≐ ax ⊗ (by ⊖ cy) ⊕ bx ⊗ (cy ⊖ ay) ⊕ cx ⊗ (ay ⊖ by))
       tt (a .x) (a .y) (b .x) (b .y) (c .x) (c .y)
       in
       let whole =
@@ -80,7 +80,7 @@ read-point p hx hy =
     let ey : toZ w64 (ofZ w64 (p .y)) ≡ p .y = read w64 tt hy .is in
     λ i. at (ex i) (ey i)
 
--- what `turn` ensures at a call, with all that is read back from its bits
+-- what `orientation-expr` ensures at a call, with all that is read back from its bits
 module _ (a b c : Point) (near : Near (a .x) (a .y) (b .x) (b .y) (c .x) (c .y)) where
   pub read-near : Near (read-back a .x) (read-back a .y) (read-back b .x) (read-back b .y) (read-back c .x) (read-back c .y)
   read-near =
@@ -93,8 +93,8 @@ module _ (a b c : Point) (near : Near (a .x) (a .y) (b .x) (b .y) (c .x) (c .y))
         cy-near = read-bounded (near .cy-near);
       }
 
-  pub read-turn : (z : ℤ) → z ≡ orientation (read-back a) (read-back b) (read-back c) → toZ w64 (ofZ w64 z) ≡ orientation a b c
-  read-turn z e =
+  pub read-determinant : (z : ℤ) → z ≡ orientation (read-back a) (read-back b) (read-back c) → toZ w64 (ofZ w64 z) ≡ orientation a b c
+  read-determinant z e =
       let ea = read-point a (near .ax-near) (near .ay-near) in
       let eb = read-point b (near .bx-near) (near .by-near) in
       let ec = read-point c (near .cx-near) (near .cy-near) in

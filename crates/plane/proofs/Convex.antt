@@ -1,7 +1,7 @@
 -- A convex outline, in the order of this page: points numbered below n, and a list of some of them,
 -- the corners, round which `next` and `prev` lead, so that all other points lie strictly left of
 -- each edge; the list may begin at any corner, and is the ring that `next` makes; `next` and `prev`
--- lead from corner to corner and back; a point that is clear of the numbered ones, and the edges it
+-- lead from corner to corner and back; a point that is general of the numbered ones, and the edges it
 -- sees, which are not all.
 -- Assumes nothing.
 use mathlib.Core.Path.{_≡_, sym, ap, subst, _∙_}
@@ -35,7 +35,7 @@ abbrev pub Link : (ℕ → ℕ) → (ℕ → ℕ) → ℕ → ℕ → Type 0
 Link next prev a b = (next a ≡ b) × (prev b ≡ a)
 
 pub record Convex (n : ℕ) (P : ℕ → Point) (next prev : ℕ → ℕ) (s : List ℕ) : Type 0 where
-  pub once : T (distinct s)
+  pub all-distinct : T (distinct s)
   pub below : (a : ℕ) → T (elem a s) → a < n
   pub two : 2 ≤ length s
   pub round : Cycle (Link next prev) s
@@ -46,7 +46,7 @@ module _ {n : ℕ} {P : ℕ → Point} {next prev : ℕ → ℕ} where
   pub convex-swap : (s t : List ℕ) → Convex n P next prev (s ++ t) → Convex n P next prev (t ++ s)
   convex-swap s t C =
       record {
-        once = distinct-swap s t (C .once);
+        all-distinct = distinct-swap s t (C .all-distinct);
         below = λ a m. C .below a (elem-swap a t s m);
         two = omega (arith, C .two, length-append s t, length-append t s);
         round = cycle-swap (Link next prev) s t (C .round);
@@ -67,14 +67,14 @@ module _ {n : ℕ} {P : ℕ → Point} {next prev : ℕ → ℕ} where
   convex-ring a t D =
       ring-of-cycle next a t n
       (cycle-change (Link next prev) (λ c d. next c ≡ d) (a ∷ t) (λ c d i j e. e .0) (D .round))
-      (D .once)
-      (omega (arith, length-distinct n (a ∷ t) (D .once) (D .below), count-small n (λ k. elem k (a ∷ t))))
+      (D .all-distinct)
+      (omega (arith, length-distinct n (a ∷ t) (D .all-distinct) (D .below), count-small n (λ k. elem k (a ∷ t))))
 
   first-differs : (a : ℕ) (t : List ℕ) → Convex n P next prev (a ∷ t) → next a ≢ a
   unfolding Cycle Chain distinct
   first-differs a [] D e = omega (arith, D .two)
   first-differs a (b ∷ t) D e =
-      T-not (elem a (b ∷ t)) (and-left (not (elem a (b ∷ t))) (distinct (b ∷ t)) (D .once))
+      T-not (elem a (b ∷ t)) (and-left (not (elem a (b ∷ t))) (distinct (b ∷ t)) (D .all-distinct))
       (subst (λ (x : ℕ). T (elem x (b ∷ t))) (sym (D .round .0 .0) ∙ e) (elem-head b t))
 
   first-between : (a : ℕ) (t : List ℕ) → Convex n P next prev (a ∷ t) → 3 ≤ length (a ∷ t) → next a ≢ prev a
@@ -83,7 +83,7 @@ module _ {n : ℕ} {P : ℕ → Point} {next prev : ℕ → ℕ} where
   first-between a (b ∷ []) D h e = omega arith
   first-between a (b ∷ d ∷ t) D h e =
       let r = chain-last (Link next prev) d t a (D .round .1 .1) in
-      distinct-apart (a ∷ b ∷ []) (d ∷ t) (D .once) b (elem-tail b a (b ∷ []) (elem-head b []))
+      distinct-apart (a ∷ b ∷ []) (d ∷ t) (D .all-distinct) b (elem-tail b a (b ∷ []) (elem-head b []))
       (subst (λ (x : ℕ). T (elem x (d ∷ t))) (sym (r .2 .1) ∙ sym e ∙ D .round .0 .0) (r .1))
 
   module _ {s : List ℕ} (C : Convex n P next prev s) where
@@ -131,7 +131,7 @@ module _ {n : ℕ} {P : ℕ → Point} {next prev : ℕ → ℕ} where
         ((a : ℕ) → T (elem a s) → Link next′ prev′ a (next a)) → Convex n P′ next′ prev′ s
     convex-agrees P′ next′ prev′ same links =
         record {
-          once = C .once;
+          all-distinct = C .all-distinct;
           below = C .below;
           two = C .two;
           round =
@@ -146,8 +146,8 @@ module _ {n : ℕ} {P : ℕ → Point} {next prev : ℕ → ℕ} where
 -- ---- a point apart from the numbered ones
 
 -- in line with no two of them
-abbrev pub Clear : ℕ → (ℕ → Point) → Point → Type 0
-Clear n P q = (i j : ℕ) → i < j → j < n → ¬ T (in-line (P i) (P j) q)
+abbrev pub GeneralPosition : ℕ → (ℕ → Point) → Point → Type 0
+GeneralPosition n P q = (i j : ℕ) → i < j → j < n → ¬ T (in-line (P i) (P j) q)
 
 -- the edge that leaves a is visible from q
 abbrev pub sees : (ℕ → Point) → (ℕ → ℕ) → Point → ℕ → Bool
@@ -159,16 +159,16 @@ in-line-swap a b c t =
     (omega (arith, order, in-line-zero a b c t, orientation-swap b a c, negℤ-splits (orientation a b c)))
 
 -- .. as a test
-pub clear-by : (n : ℕ) (P : ℕ → Point) (q : Point) →
-    ¬ T (any n (λ j. any j (λ i. in-line (P i) (P j) q))) → Clear n P q
-clear-by n P q none i j h k t =
+pub general-by : (n : ℕ) (P : ℕ → Point) (q : Point) →
+    ¬ T (any n (λ j. any j (λ i. in-line (P i) (P j) q))) → GeneralPosition n P q
+general-by n P q none i j h k t =
     none (any-by n (λ j. any j (λ i. in-line (P i) (P j) q)) j k (any-by j (λ i. in-line (P i) (P j) q) i h t))
 
-pub clear-both : (n : ℕ) (P : ℕ → Point) (q : Point) → Clear n P q → (i j : ℕ) → i < n → j < n → i ≢ j →
+pub general-both : (n : ℕ) (P : ℕ → Point) (q : Point) → GeneralPosition n P q → (i j : ℕ) → i < n → j < n → i ≢ j →
     ¬ T (in-line (P i) (P j) q)
-clear-both n P q clear i j h k d =
-    ⊎-elim (λ (l : i < j). clear i j l k)
-    (λ (l : j ≤ i) t. clear j i (omega arith) h (in-line-swap (P i) (P j) q t)) (lt-or-ge i j)
+general-both n P q general i j h k d =
+    ⊎-elim (λ (l : i < j). general i j l k)
+    (λ (l : j ≤ i) t. general j i (omega arith) h (in-line-swap (P i) (P j) q t)) (lt-or-ge i j)
 
 -- ---- not all edges are visible from a point
 

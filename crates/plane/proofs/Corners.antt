@@ -16,26 +16,26 @@ use Rattle.finite.specs.CycleLaws.{cycle-switch}
 use Rattle.model.specs.declared.Point.{Point}
 use Rattle.model.specs.Plane.{left-of}
 use Rattle.plane.proofs.Knuth.{cyclic-symmetry, cyclic-back, antisymmetry, within-left, within-right, visible-left, hidden-left}
-use Rattle.plane.proofs.Convex.{Link, Convex, Clear, sees, same-unless, clear-both, entering-left, next-prev, prev-member, next-below, prev-below, next-differs, prev-differs, some-hidden}
+use Rattle.plane.proofs.Convex.{Link, Convex, GeneralPosition, sees, same-unless, general-both, entering-left, next-prev, prev-member, next-below, prev-below, next-differs, prev-differs, some-hidden}
 
-pub record Left-corner (prev : ℕ → ℕ) (p : ℕ → Bool) (s : List ℕ) (l : ℕ) : Type 0 where
+pub record LeftCorner (prev : ℕ → ℕ) (p : ℕ → Bool) (s : List ℕ) (l : ℕ) : Type 0 where
   pub member : T (elem l s)
   pub enters : ¬ T (p (prev l))
   pub leaves : T (p l)
 
-pub record Right-corner (prev : ℕ → ℕ) (p : ℕ → Bool) (s : List ℕ) (r : ℕ) : Type 0 where
+pub record RightCorner (prev : ℕ → ℕ) (p : ℕ → Bool) (s : List ℕ) (r : ℕ) : Type 0 where
   pub member : T (elem r s)
   pub enters : T (p (prev r))
   pub leaves : ¬ T (p r)
 
 pub left-not-right : {prev : ℕ → ℕ} {p : ℕ → Bool} {s : List ℕ} {l r : ℕ} →
-    Left-corner prev p s l → Right-corner prev p s r → l ≢ r
+    LeftCorner prev p s l → RightCorner prev p s r → l ≢ r
 left-not-right {p} L R e = R .leaves (subst (λ (x : ℕ). T (p x)) e (L .leaves))
 
 -- the first member that meets the document's test is such a corner, where there is one
 module _ {prev : ℕ → ℕ} {p : ℕ → Bool} {s : List ℕ} (d x : ℕ) where
-  pub left-corner-first : Left-corner prev p s x →
-      Left-corner prev p s (first-in (λ a. not (p (prev a)) && p a) d s)
+  pub left-corner-first : LeftCorner prev p s x →
+      LeftCorner prev p s (first-in (λ a. not (p (prev a)) && p a) d s)
   left-corner-first L =
       let f = first-found (λ a. not (p (prev a)) && p a) d x s (L .member)
       (and-both (not (p (prev x))) (p x) (not-T (p (prev x)) (L .enters)) (L .leaves)) in
@@ -46,8 +46,8 @@ module _ {prev : ℕ → ℕ} {p : ℕ → Bool} {s : List ℕ} (d x : ℕ) wher
         leaves = and-right (not (p (prev l))) (p l) (f .1);
       }
 
-  pub right-corner-first : Right-corner prev p s x →
-      Right-corner prev p s (first-in (λ a. p (prev a) && not (p a)) d s)
+  pub right-corner-first : RightCorner prev p s x →
+      RightCorner prev p s (first-in (λ a. p (prev a) && not (p a)) d s)
   right-corner-first R =
       let f = first-found (λ a. p (prev a) && not (p a)) d x s (R .member)
       (and-both (p (prev x)) (not (p x)) (R .enters) (not-T (p x) (R .leaves))) in
@@ -62,12 +62,12 @@ module _ {prev : ℕ → ℕ} {p : ℕ → Bool} {s : List ℕ} (d x : ℕ) wher
 
 module _ {n : ℕ} {P : ℕ → Point} {next prev : ℕ → ℕ} {s : List ℕ} (C : Convex n P next prev s)
     (p : ℕ → Bool) (x y : ℕ) (mx : T (elem x s)) (my : T (elem y s)) (fails : ¬ T (p x)) (passes : T (p y)) where
-  pub left-corner-of : (l : ℕ) × Left-corner prev p s l
+  pub left-corner-of : (l : ℕ) × LeftCorner prev p s l
   left-corner-of =
       let r = cycle-switch (Link next prev) p s (C .round) x y mx fails my passes in
       (r .1, record { member = r .3; enters = rw (r .4 .1) (r .5); leaves = r .6 })
 
-  pub right-corner-of : (r : ℕ) × Right-corner prev p s r
+  pub right-corner-of : (r : ℕ) × RightCorner prev p s r
   right-corner-of =
       let r =
       cycle-switch (Link next prev) (λ a. not (p a)) s (C .round) y x my (λ t. T-not (p y) t passes) mx
@@ -108,14 +108,14 @@ module _ {n : ℕ} {P : ℕ → Point} {next prev : ℕ → ℕ} {s : List ℕ} 
       (same-or-not c (prev a)))
       (same-or-not c (next a))
 
-  module _ (q : Point) (clear : Clear n P q) where
+  module _ (q : Point) (general : GeneralPosition n P q) where
     -- the hidden edges have q strictly left
     pub hidden-edge : (a : ℕ) → T (elem a s) → ¬ T (sees P next q a) → T (left-of (P a) (P (next a)) q)
     hidden-edge a m h =
         hidden-left (P a) (P (next a)) q
-        (clear-both n P q clear a (next a) (C .below a m) (next-below C a m) (λ e. next-differs C a m (sym e))) h
+        (general-both n P q general a (next a) (C .below a m) (next-below C a m) (λ e. next-differs C a m (sym e))) h
 
-    pub left-tangent : (l : ℕ) → Left-corner prev (sees P next q) s l →
+    pub left-tangent : (l : ℕ) → LeftCorner prev (sees P next q) s l →
         (c : ℕ) → c < n → c ≢ l → T (left-of (P l) q (P c))
     left-tangent l L =
         corner-angle l (L .member) (λ c. T (left-of (P l) q (P c)))
@@ -125,7 +125,7 @@ module _ {n : ℕ} {P : ℕ → Point} {next prev : ℕ → ℕ} {s : List ℕ} 
         (subst (λ (x : ℕ). T (left-of (P (prev l)) (P x) q)) (next-prev C l (L .member))
         (hidden-edge (prev l) (prev-member C l (L .member)) (L .enters))))
 
-    pub right-tangent : (r : ℕ) → Right-corner prev (sees P next q) s r →
+    pub right-tangent : (r : ℕ) → RightCorner prev (sees P next q) s r →
         (c : ℕ) → c < n → c ≢ r → T (left-of q (P r) (P c))
     right-tangent r R c h d =
         cyclic-back (P r) (P c) q
@@ -139,7 +139,7 @@ module _ {n : ℕ} {P : ℕ → Point} {next prev : ℕ → ℕ} {s : List ℕ} 
     -- ---- each corner is there where q sees an edge, and is the only one
 
     pub left-corner-unique : (x y : ℕ) →
-        Left-corner prev (sees P next q) s x → Left-corner prev (sees P next q) s y → x ≡ y
+        LeftCorner prev (sees P next q) s x → LeftCorner prev (sees P next q) s y → x ≡ y
     left-corner-unique x y X Y =
         same-unless x y
         (λ d.
@@ -147,7 +147,7 @@ module _ {n : ℕ} {P : ℕ → Point} {next prev : ℕ → ℕ} {s : List ℕ} 
         (cyclic-back (P y) q (P x) (left-tangent y Y x (C .below x (X .member)) d)))
 
     pub right-corner-unique : (x y : ℕ) →
-        Right-corner prev (sees P next q) s x → Right-corner prev (sees P next q) s y → x ≡ y
+        RightCorner prev (sees P next q) s x → RightCorner prev (sees P next q) s y → x ≡ y
     right-corner-unique x y X Y =
         same-unless x y
         (λ d.
@@ -155,10 +155,10 @@ module _ {n : ℕ} {P : ℕ → Point} {next prev : ℕ → ℕ} {s : List ℕ} 
         (right-tangent y Y x (C .below x (X .member)) d))
 
   module _ (q : Point) (y : ℕ) (m : T (elem y s)) (seen : T (sees P next q y)) where
-    pub left-corner-seen : (l : ℕ) × Left-corner prev (sees P next q) s l
+    pub left-corner-seen : (l : ℕ) × LeftCorner prev (sees P next q) s l
     left-corner-seen =
         let h = some-hidden C q in left-corner-of C (sees P next q) (h .0) y (h .1) m (h .2) seen
 
-    pub right-corner-seen : (r : ℕ) × Right-corner prev (sees P next q) s r
+    pub right-corner-seen : (r : ℕ) × RightCorner prev (sees P next q) s r
     right-corner-seen =
         let h = some-hidden C q in right-corner-of C (sees P next q) (h .0) y (h .1) m (h .2) seen

@@ -14,7 +14,7 @@ use Rattle.integers.specs.Solver.{_⊕_, _⊖_, _≐_, identity}
 use Rattle.finite.specs.Cycles.{Chain, Cycle}
 use Rattle.model.specs.declared.Point.{Point}
 use Rattle.model.specs.Plane.{orientation}
-use Rattle.plane.proofs.Orientation.{turn}
+use Rattle.plane.proofs.Orientation.{orientation-expr}
 
 -- the orientations from q along a, then the list
 unfoldable pub path-sum : Point → Point → List Point → ℤ
@@ -34,7 +34,7 @@ unfolding orientation
 term-moves p q a b =
     identity 8
     (λ px py qx qy ax ay bx by.
-    turn qx qy ax ay bx by ≐ turn px py ax ay bx by ⊕ (turn qx qy px py bx by ⊖ turn qx qy px py ax ay))
+    orientation-expr qx qy ax ay bx by ≐ orientation-expr px py ax ay bx by ⊕ (orientation-expr qx qy px py bx by ⊖ orientation-expr qx qy px py ax ay))
     tt
     (p .x) (p .y) (q .x) (q .y) (a .x) (a .y) (b .x) (b .y)
 

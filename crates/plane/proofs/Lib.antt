@@ -4,6 +4,5 @@ pub mod Fan
 pub mod Knuth
 pub mod Convex
 pub mod Corners
-pub mod Run
-pub mod Growth
+pub mod Split
 pub mod Hull

@@ -15,26 +15,26 @@ use Rattle.model.specs.declared.Point.{Point}
 use Rattle.model.specs.Plane.{orientation, left-of, visible-from, in-line}
 
 -- the formula as an expression of the solver
-abbrev pub turn : (ax ay bx by cx cy : Expr) → Expr
-turn ax ay bx by cx cy = (bx ⊖ ax) ⊗ (cy ⊖ ay) ⊖ (by ⊖ ay) ⊗ (cx ⊖ ax)
+abbrev pub orientation-expr : (ax ay bx by cx cy : Expr) → Expr
+orientation-expr ax ay bx by cx cy = (bx ⊖ ax) ⊗ (cy ⊖ ay) ⊖ (by ⊖ ay) ⊗ (cx ⊖ ax)
 
 pub orientation-cyclic : (a b c : Point) → orientation a b c ≡ orientation b c a
 unfolding orientation
 orientation-cyclic a b c =
-    identity 6 (λ ax ay bx by cx cy. turn ax ay bx by cx cy ≐ turn bx by cx cy ax ay) tt
+    identity 6 (λ ax ay bx by cx cy. orientation-expr ax ay bx by cx cy ≐ orientation-expr bx by cx cy ax ay) tt
     (a .x) (a .y) (b .x) (b .y) (c .x) (c .y)
 
 pub orientation-swap : (a b c : Point) → orientation a b c ≡ negℤ (orientation b a c)
 unfolding orientation
 orientation-swap a b c =
-    identity 6 (λ ax ay bx by cx cy. turn ax ay bx by cx cy ≐ ⊝ (turn bx by ax ay cx cy)) tt
+    identity 6 (λ ax ay bx by cx cy. orientation-expr ax ay bx by cx cy ≐ ⊝ (orientation-expr bx by ax ay cx cy)) tt
     (a .x) (a .y) (b .x) (b .y) (c .x) (c .y)
 
 -- two equal points are in line with any third
 pub orientation-twice : (a b : Point) → orientation a a b ≡ pos 0
 unfolding orientation
 orientation-twice a b =
-    identity 4 (λ ax ay bx by. turn ax ay ax ay bx by ≐ con (pos 0)) tt (a .x) (a .y) (b .x) (b .y)
+    identity 4 (λ ax ay bx by. orientation-expr ax ay ax ay bx by ≐ con (pos 0)) tt (a .x) (a .y) (b .x) (b .y)
 
 -- a triangle is the sum of the three that a point t makes with its sides
 pub orientation-split : (p q r t : Point) → orientation p q r ≡ orientation t q r +ℤ orientation p t r +ℤ orientation p q t
@@ -42,7 +42,7 @@ unfolding orientation
 orientation-split p q r t =
     identity 8
     (λ px py qx qy rx ry tx ty.
-    turn px py qx qy rx ry ≐ turn tx ty qx qy rx ry ⊕ turn px py tx ty rx ry ⊕ turn px py qx qy tx ty)
+    orientation-expr px py qx qy rx ry ≐ orientation-expr tx ty qx qy rx ry ⊕ orientation-expr px py tx ty rx ry ⊕ orientation-expr px py qx qy tx ty)
     tt
     (p .x) (p .y) (q .x) (q .y) (r .x) (r .y) (t .x) (t .y)
 
@@ -53,8 +53,8 @@ unfolding orientation
 orientation-exchange t s p q r =
     identity 10
     (λ tx ty sx sy px py qx qy rx ry.
-    turn tx ty sx sy qx qy ⊗ turn tx ty px py rx ry
-    ≐ turn tx ty sx sy px py ⊗ turn tx ty qx qy rx ry ⊕ turn tx ty sx sy rx ry ⊗ turn tx ty px py qx qy)
+    orientation-expr tx ty sx sy qx qy ⊗ orientation-expr tx ty px py rx ry
+    ≐ orientation-expr tx ty sx sy px py ⊗ orientation-expr tx ty qx qy rx ry ⊕ orientation-expr tx ty sx sy rx ry ⊗ orientation-expr tx ty px py qx qy)
     tt
     (t .x) (t .y) (s .x) (s .y) (p .x) (p .y) (q .x) (q .y) (r .x) (r .y)
 

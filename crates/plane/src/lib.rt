@@ -7,17 +7,17 @@ ghost use mathlib.Core.Path.{_≡_};
 ghost use mathlib.Core.Bool.{_&&_};
 ghost use lib.Dec.{T};
 ghost use Rattle.model.specs.Plane.{at, coordinate-in-range, in-line, in-range, left-of, orientation, same-point, visible-from};
-ghost use Rattle.plane.specs.Turned.{Near, Turned};
+ghost use Rattle.plane.specs.OrientedAnswer.{Near, OrientedAnswer};
 
-// Coordinates run from -LIMIT to LIMIT.
-pub const LIMIT: i64 = 1000000;
+// Coordinates run from -COORDINATE_LIMIT to COORDINATE_LIMIT.
+pub const COORDINATE_LIMIT: i64 = 1000000;
 
-// The orientation of three points: positive is a left turn. A coordinate out of range is refused.
+// The orientation of three points: positive is a left determinant. A coordinate out of range is refused.
 pub fn orientation_of(a: Point, b: Point, c: Point) -> Oriented
-    ensures { λ r. ⌜ Turned a b c r ⌝ }
+    ensures { λ r. ⌜ OrientedAnswer a b c r ⌝ }
 {
     if all_in_range(a, b, c) {
-        Oriented::Value(turn_of(a, b, c))
+        Oriented::Value(orientation_in_range(a, b, c))
     } else {
         Oriented::Refused(Refusal::OutOfRange)
     }
@@ -40,7 +40,7 @@ pub fn in_range(p: Point) -> bool
 pub fn coordinate_in_range(z: i64) -> bool
     ensures { λ r. ⌜ r ≡ coordinate-in-range z ⌝ }
 {
-    -LIMIT <= z && z <= LIMIT
+    -COORDINATE_LIMIT <= z && z <= COORDINATE_LIMIT
 }
 
 // Whether two points are equal.
@@ -55,7 +55,7 @@ pub fn is_left_of(a: Point, b: Point, c: Point) -> bool
     requires { ⌜ T (in-range a && in-range b && in-range c) ⌝ }
     ensures { λ r. ⌜ r ≡ left-of a b c ⌝ }
 {
-    let z = turn_of(a, b, c);
+    let z = orientation_in_range(a, b, c);
     0 < z
 }
 
@@ -64,7 +64,7 @@ pub fn is_visible_from(a: Point, b: Point, c: Point) -> bool
     requires { ⌜ T (in-range a && in-range b && in-range c) ⌝ }
     ensures { λ r. ⌜ r ≡ visible-from a b c ⌝ }
 {
-    let z = turn_of(a, b, c);
+    let z = orientation_in_range(a, b, c);
     z < 0
 }
 
@@ -73,20 +73,20 @@ pub fn are_in_line(a: Point, b: Point, c: Point) -> bool
     requires { ⌜ T (in-range a && in-range b && in-range c) ⌝ }
     ensures { λ r. ⌜ r ≡ in-line a b c ⌝ }
 {
-    let z = turn_of(a, b, c);
+    let z = orientation_in_range(a, b, c);
     z == 0
 }
 
 // The orientation of three points that are in range, for callers that know it.
-pub fn turn_of(a: Point, b: Point, c: Point) -> i64
+pub fn orientation_in_range(a: Point, b: Point, c: Point) -> i64
     requires { ⌜ T (in-range a && in-range b && in-range c) ⌝ }
     ensures { λ r. ⌜ r ≡ orientation a b c ⌝ }
 {
-    turn(a.x, a.y, b.x, b.y, c.x, c.y)
+    determinant(a.x, a.y, b.x, b.y, c.x, c.y)
 }
 
 // The orientation of three points by their coordinates, which are in range.
-pub fn turn(ax: i64, ay: i64, bx: i64, by: i64, cx: i64, cy: i64) -> i64
+pub fn determinant(ax: i64, ay: i64, bx: i64, by: i64, cx: i64, cy: i64) -> i64
     requires { ⌜ Near ax ay bx by cx cy ⌝ }
     ensures { λ r. ⌜ r ≡ orientation (at ax ay) (at bx by) (at cx cy) ⌝ }
 {

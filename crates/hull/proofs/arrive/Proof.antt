@@ -3,7 +3,7 @@ use borrow.Author.Needs.{needs}
 use mathlib.Core.Path.{_∙_, ap}
 use Rattle.model.specs.declared.Arrival.{Arrival}
 use Rattle.model.specs.Arrival.{arrived}
-use Rattle.hull.proofs.Answers.{first, second, later}
+use Rattle.hull.proofs.Cases.{first, second, later}
 use Rattle.hull.proofs.arrive.Statement.{statement}
 use Rattle.hull.proofs.arrive.Tie as tie
 

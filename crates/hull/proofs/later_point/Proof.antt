@@ -7,9 +7,9 @@ use Rattle.model.specs.declared.Arrival.{Arrival}
 use Rattle.model.specs.declared.Offered.{Offered}
 use Rattle.model.specs.Arrival.{arrived, spliced}
 use Rattle.hull.specs.declared.sight.Seen.{Seen}
-use Rattle.hull.specs.Asked.{Spliceable}
-use Rattle.hull.proofs.Within.{spliceable}
-use Rattle.hull.proofs.Answers.{inside, outside}
+use Rattle.hull.specs.Requires.{Spliceable}
+use Rattle.hull.proofs.Indices.{spliceable}
+use Rattle.hull.proofs.Cases.{inside, outside}
 use Rattle.hull.proofs.later_point.Statement.{statement}
 use Rattle.hull.proofs.later_point.Tie as tie
 

@@ -2,7 +2,7 @@
 use borrow.Author.Needs.{needs}
 use mathlib.Core.Path.{sym, _∙_}
 use Rattle.finite.specs.Tests.{of-true}
-use Rattle.hull.proofs.Answers.{not-sound}
+use Rattle.hull.proofs.Cases.{not-sound}
 use Rattle.hull.proofs.offer.Statement.{statement}
 use Rattle.hull.proofs.offer.Tie as tie
 

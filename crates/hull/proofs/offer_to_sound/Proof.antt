@@ -9,8 +9,8 @@ use Rattle.model.specs.Plane.{in-range}
 use Rattle.model.specs.Maps.{point}
 use Rattle.model.specs.Arrival.{is-repeated}
 use Rattle.model.proofs.Sound.{sound-holds}
-use Rattle.hull.proofs.Within.{place-ranged}
-use Rattle.hull.proofs.Answers.{full, out-of-range, repeated, in-line, arrives}
+use Rattle.hull.proofs.Indices.{place-ranged}
+use Rattle.hull.proofs.Cases.{full, out-of-range, repeated, in-line, arrives}
 use Rattle.hull.proofs.offer_to_sound.Statement.{statement}
 use Rattle.hull.proofs.offer_to_sound.Tie as tie
 

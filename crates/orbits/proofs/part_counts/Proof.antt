@@ -21,21 +21,21 @@ abbrev μ-loop : tie.MeasureT-loop
 abbrev turn : tie.Then1 Inv-loop μ-loop → tie.In-loop Inv-loop μ-loop
 turn t = t .before .before .before
 
-is-new : (t : tie.Then1 Inv-loop μ-loop) →
+is-unseen : (t : tie.Then1 Inv-loop μ-loop) →
     test-of (turn t .before .before .args .present .now) (turn t .before .loop .a) &&
     not (test-of (turn t .before .loop .seen) (turn t .before .loop .a)) ≡ true
-is-new t = sym (t .before .is-new .ensures) ∙ t .if1 .taken
+is-unseen t = sym (t .before .is-unseen .ensures) ∙ t .if1 .taken
 
 loop-holds : tie.Need-loop-holds Inv-loop μ-loop
 loop-holds c = counting-none (c .args .f .now) (c .args .g .now) (c .args .n) (test-of (c .args .present .now))
 
-is-new-requires : tie.Need-is-new-requires Inv-loop μ-loop
-is-new-requires c κs = omega (arith, c .before .before .before .pre .within)
+is-unseen-requires : tie.Need-is-unseen-requires Inv-loop μ-loop
+is-unseen-requires c κs = omega (arith, c .before .before .before .pre .within)
 
 visit-requires : tie.Need-visit-requires Inv-loop μ-loop
 visit-requires c κs =
     let t = c .before .before in
-    counting-ready (turn t .before .before .pre) (turn t .before .loop .inv) (turn t .loop-test .taken) (is-new t)
+    counting-ready (turn t .before .before .pre) (turn t .before .loop .inv) (turn t .loop-test .taken) (is-unseen t)
 
 add-parts : tie.Need-add-parts Inv-loop μ-loop
 add-parts c =
@@ -45,7 +45,7 @@ add-parts c =
 all-move-requires : tie.Need-all-move-requires Inv-loop μ-loop
 all-move-requires c κs =
     let t = c .before .before .before .before in
-    counting-movable (turn t .before .before .pre) (turn t .before .loop .inv) (turn t .loop-test .taken) (is-new t)
+    counting-movable (turn t .before .before .pre) (turn t .before .loop .inv) (turn t .loop-test .taken) (is-unseen t)
     (c .before .visit .ensures)
 
 cast-closed : tie.Need-cast-closed Inv-loop μ-loop
@@ -75,11 +75,11 @@ loop-again c =
     (λ w.
     counting-same (w .6) (w .7) (w .8) (w .9) (w .10)
     (counting-part (i .before .before .pre) (i .before .loop .inv) (i .loop-test .taken)
-    (sym (c .before .is-new .ensures) ∙ w .0 .taken) (w .3 .ensures) (w .5 .result) (w .5 .ensures)))
+    (sym (c .before .is-unseen .ensures) ∙ w .0 .taken) (w .3 .ensures) (w .5 .result) (w .5 .ensures)))
     (λ w.
     counting-same (w .1) (w .2) (w .3) (w .4) (w .5)
     (counting-skip (i .before .before .pre) (i .before .loop .inv) (i .loop-test .taken)
-    (sym (c .before .is-new .ensures) ∙ w .0 .left)))
+    (sym (c .before .is-unseen .ensures) ∙ w .0 .left)))
     (c .if1 .came)
 
 returns : tie.Need-returns Inv-loop μ-loop
@@ -92,7 +92,7 @@ part-counts-spec =
     Inv-loop
     μ-loop
     loop-holds
-    is-new-requires
+    is-unseen-requires
     visit-requires
     add-parts
     all-move-requires

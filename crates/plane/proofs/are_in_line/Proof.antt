@@ -21,15 +21,15 @@ zero-in-line z = go (ltZ (pos 0) z) (ltZ z (pos 0)) refl refl
     go false true e f = omega (arith, order)
     go false false e f = omega (arith, order)
 
-turn-of-requires : tie.Need-turn-of-requires
-turn-of-requires c κs = search needs
+orientation-in-range-requires : tie.Need-orientation-in-range-requires
+orientation-in-range-requires c κs = search needs
 
 returns : tie.Need-returns
 unfolding in-line left-of visible-from
 returns c =
-    let z = c .turn-of .result in
-    eqb-read {w = w64} {x = z} {y = pos 0} (record { sfits = c .turn-of .ok }) (literal-fits (pos 0) tt)
-    ∙ (zero-in-line z ∙ ap (λ (y : ℤ). not (ltZ (pos 0) y) && not (ltZ y (pos 0))) (c .turn-of .ensures))
+    let z = c .orientation-in-range .result in
+    eqb-read {w = w64} {x = z} {y = pos 0} (record { sfits = c .orientation-in-range .ok }) (literal-fits (pos 0) tt)
+    ∙ (zero-in-line z ∙ ap (λ (y : ℤ). not (ltZ (pos 0) y) && not (ltZ y (pos 0))) (c .orientation-in-range .ensures))
 
 pub are-in-line-spec : {M : Type 1} → statement M
-are-in-line-spec = tie.close (tie.spec turn-of-requires returns)
+are-in-line-spec = tie.close (tie.spec orientation-in-range-requires returns)

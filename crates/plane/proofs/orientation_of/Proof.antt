@@ -27,16 +27,16 @@ all-in-range-requires c κs = search needs
 ranged : (c : tie.Then1) → (in-range (c .before .before .args .a) && in-range (c .before .before .args .b) && in-range (c .before .before .args .c)) ≡ true
 ranged c = sym (c .before .all-in-range .ensures) ∙ c .if1 .taken
 
-turn-of-requires : tie.Need-turn-of-requires
-turn-of-requires c κs = of-true _ (ranged c)
+orientation-in-range-requires : tie.Need-orientation-in-range-requires
+orientation-in-range-requires c κs = of-true _ (ranged c)
 
 returns : tie.Need-returns
 unfolding oriented unless oriented-answer number
 returns c =
     let s = c .before .before .before in
     let bounded = orientation-bounded (s .args .a) (s .args .b) (s .args .c) (points-near (s .args .a) (s .args .b) (s .args .c) (of-true _ (ranged (c .before)))) in
-    let value = c .turn-of .ensures in
-    let back = toZ-ofZ w64 (c .turn-of .result) (subst (SFits w64) (sym value) (bounded-fits w64 tt bounded)) ∙ value in
+    let value = c .orientation-in-range .ensures in
+    let back = toZ-ofZ w64 (c .orientation-in-range .result) (subst (SFits w64) (sym value) (bounded-fits w64 tt bounded)) ∙ value in
     let served = ap (λ (t : Bool). cond (not t) (Oriented.Refused Refusal.OutOfRange) (Oriented.Value (orientation (s .args .a) (s .args .b) (s .args .c)))) (ranged (c .before)) in
     record {
       answer = ap Oriented.Value back ∙ sym served;
@@ -56,4 +56,4 @@ returns-2 c =
     }
 
 pub orientation-of-spec : {M : Type 1} → statement M
-orientation-of-spec = tie.close (tie.spec all-in-range-requires turn-of-requires returns returns-2)
+orientation-of-spec = tie.close (tie.spec all-in-range-requires orientation-in-range-requires returns returns-2)

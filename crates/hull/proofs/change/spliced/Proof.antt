@@ -6,7 +6,7 @@ use native.Mathlib.Omega.{arith}
 use Rattle.orbits.specs.Sets.{dart-limit}
 use Rattle.model.specs.Maps.{own, helper, edge-link}
 use Rattle.model.specs.Arrival.{alone, spliced, with-point}
-use Rattle.hull.proofs.Within.{cut-whole, cut-below}
+use Rattle.hull.proofs.Indices.{cut-whole, cut-below}
 use Rattle.hull.proofs.change.spliced.Statement.{statement}
 use Rattle.hull.proofs.change.spliced.Tie as tie
 

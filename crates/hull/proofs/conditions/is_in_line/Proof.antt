@@ -7,7 +7,7 @@ use Rattle.model.specs.declared.Point.{Point}
 use Rattle.model.specs.declared.Map.{Map}
 use Rattle.model.specs.Maps.{point}
 use Rattle.model.specs.Arrival.{is-in-line}
-use Rattle.hull.specs.Asked.{in-line-with}
+use Rattle.hull.specs.Requires.{in-line-with}
 use Rattle.hull.proofs.Scans.{NoneBelow, none-at-first, none-more, one-found, none-found}
 use Rattle.hull.proofs.conditions.is_in_line.Statement.{statement}
 use Rattle.hull.proofs.conditions.is_in_line.Tie as tie
@@ -21,9 +21,9 @@ Inv-loop p map count j₀ j = NoneBelow (here map p) (map .count) j
 abbrev μ-loop : tie.MeasureT-loop
 μ-loop p map count j₀ j = map .count - j
 
--- the turn of the loop
-abbrev turn : tie.After-is-in-line-with Inv-loop μ-loop → tie.In-loop Inv-loop μ-loop
-turn c = c .before .before .before .before .before .before
+-- the iteration of the loop
+abbrev iteration : tie.After-is-in-line-with Inv-loop μ-loop → tie.In-loop Inv-loop μ-loop
+iteration c = c .before .before .before .before .before .before
 
 loop-holds : tie.Need-loop-holds Inv-loop μ-loop
 loop-holds c = none-at-first _ _
@@ -34,7 +34,7 @@ is-in-line-with-requires c κs = search needs
 returns : tie.Need-returns Inv-loop μ-loop
 unfolding is-in-line point
 returns c =
-    one-found _ _ (turn (c .before) .loop-test .taken) (c .before .is-in-line-with .ensures) (c .if1 .taken)
+    one-found _ _ (iteration (c .before) .loop-test .taken) (c .before .is-in-line-with .ensures) (c .if1 .taken)
 
 add-j : tie.Need-add-j Inv-loop μ-loop
 add-j c = search needs
@@ -44,7 +44,7 @@ loop-less c = search needs
 
 loop-again : tie.Need-loop-again Inv-loop μ-loop
 loop-again c =
-    let t = turn (c .before) in
+    let t = iteration (c .before) in
     none-more _ _ (t .loop-test .taken) (c .before .is-in-line-with .ensures) (t .before .loop .inv) (c .if1 .left)
 
 returns-2 : tie.Need-returns-2 Inv-loop μ-loop

@@ -10,7 +10,7 @@ use lib.IntN.{ℤ}
 use Rattle.model.specs.declared.Point.{Point}
 use Rattle.model.specs.Plane.{in-line}
 use Rattle.maps.specs.Arrays.{point-at}
-use Rattle.hull.proofs.Within.{three-ranged}
+use Rattle.hull.proofs.Indices.{three-ranged}
 use Rattle.hull.proofs.Scans.{NoneBelow, none-at-first, none-more, one-found, none-found}
 use Rattle.hull.proofs.conditions.is_in_line_with.Statement.{statement}
 use Rattle.hull.proofs.conditions.is_in_line_with.Tie as tie
@@ -24,12 +24,12 @@ Inv-loop xs ys j p b i₀ i = NoneBelow (here xs ys j p) j i
 abbrev μ-loop : tie.MeasureT-loop
 μ-loop xs ys j p b i₀ i = j - i
 
--- the turn of the loop, and where the function starts
-abbrev turn : tie.After-are-in-line Inv-loop μ-loop → tie.In-loop Inv-loop μ-loop
-turn c = c .before .before
+-- the iteration of the loop, and where the function starts
+abbrev iteration : tie.After-are-in-line Inv-loop μ-loop → tie.In-loop Inv-loop μ-loop
+iteration c = c .before .before
 
 abbrev start : tie.After-are-in-line Inv-loop μ-loop → tie.Start Inv-loop μ-loop
-start c = turn c .before .before .before
+start c = iteration c .before .before .before
 
 point-at-requires : tie.Need-point-at-requires Inv-loop μ-loop
 point-at-requires c κs = search needs
@@ -46,18 +46,18 @@ are-in-line-requires c κs =
     three-ranged (s .pre) (c .before .before .loop .i) (s .args .j) (c .point-at2 .ensures)
     (c .before .before .before .point-at .ensures)
 
--- the test of a turn is that of the definition
+-- the test of a iteration is that of the definition
 tested : (c : tie.After-are-in-line Inv-loop μ-loop) →
     let s = start c .args in
-    c .are-in-line .result ≡ here (now (s .xs)) (now (s .ys)) (s .j) (s .p) (turn c .before .loop .i)
+    c .are-in-line .result ≡ here (now (s .xs)) (now (s .ys)) (s .j) (s .p) (iteration c .before .loop .i)
 tested c =
     let p = start c .args .p in
-    let b-is = turn c .before .before .point-at .ensures in
+    let b-is = iteration c .before .before .point-at .ensures in
     c .are-in-line .ensures ∙ ap₂ (λ a b. in-line a b p) (c .before .point-at2 .ensures) b-is
 
 returns : tie.Need-returns Inv-loop μ-loop
 returns c =
-    one-found _ _ (turn (c .before) .loop-test .taken) (tested (c .before)) (c .if1 .taken)
+    one-found _ _ (iteration (c .before) .loop-test .taken) (tested (c .before)) (c .if1 .taken)
 
 add-i : tie.Need-add-i Inv-loop μ-loop
 add-i c = search needs
@@ -67,7 +67,7 @@ loop-less c = search needs
 
 loop-again : tie.Need-loop-again Inv-loop μ-loop
 loop-again c =
-    let t = turn (c .before) in
+    let t = iteration (c .before) in
     none-more _ _ (t .loop-test .taken) (tested (c .before)) (t .before .loop .inv) (c .if1 .left)
 
 returns-2 : tie.Need-returns-2 Inv-loop μ-loop

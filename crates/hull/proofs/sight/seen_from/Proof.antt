@@ -4,14 +4,14 @@ use borrow.Author.Needs.{needs}
 use native.Mathlib.Omega.{arith}
 use Rattle.model.specs.Maps.{edge-link}
 use Rattle.model.specs.Outline.{next-corner, previous-corner}
-use Rattle.hull.proofs.Within.{ranged}
-use Rattle.hull.proofs.Lookout.{Underway, at-first, passed-last, passed-one, at-end}
+use Rattle.hull.proofs.Indices.{ranged}
+use Rattle.hull.proofs.Seeing.{SightAhead, at-first, passed-last, passed-one, at-end}
 use Rattle.hull.proofs.sight.seen_from.Statement.{statement}
 use Rattle.hull.proofs.sight.seen_from.Tie as tie
 
 abbrev Inv-loop : tie.InvT-loop
 Inv-loop p map start last entering₀ left₀ right₀ visible₀ a₀ ahead₀ entering left right visible a ahead =
-    Underway map p entering left right visible a ahead
+    SightAhead map p entering left right visible a ahead
 
 abbrev μ-loop : tie.MeasureT-loop
 μ-loop p map start last entering₀ left₀ right₀ visible₀ a₀ ahead₀ entering left right visible a ahead =
@@ -48,14 +48,14 @@ next-corner-requires c κs = search needs
 is-visible-requires-2 : tie.Need-is-visible-requires-2 Inv-loop μ-loop
 is-visible-requires-2 c κs = ranged (began (goes (c .before .before .before .before .before)) .pre)
 
-kept-requires : tie.Need-kept-requires Inv-loop μ-loop
-kept-requires c κs = search needs
+sought-at-requires : tie.Need-sought-at-requires Inv-loop μ-loop
+sought-at-requires c κs = search needs
 
-kept-requires-2 : tie.Need-kept-requires-2 Inv-loop μ-loop
-kept-requires-2 c κs = search needs
+sought-at-requires-2 : tie.Need-sought-at-requires-2 Inv-loop μ-loop
+sought-at-requires-2 c κs = search needs
 
-counted-requires : tie.Need-counted-requires Inv-loop μ-loop
-counted-requires c κs =
+plus-one-if-requires : tie.Need-plus-one-if-requires Inv-loop μ-loop
+plus-one-if-requires c κs =
     let t = goes (leads (c .before .before)) in
     omega (arith, t .before .loop .inv .few, began t .pre .is-sound .links .fits, t .loop-test .taken)
 
@@ -70,7 +70,7 @@ loop-again c =
     let t = goes (leads e) in
     passed-last (began t .args .t1) (began t .args .p) (began t .pre) (t .before .loop .inv) (t .loop-test .taken)
     (leads e .next-corner .ensures) (e .is-visible2 .ensures)
-    (d .before .before .kept .ensures) (d .before .kept2 .ensures) (d .counted .ensures) (c .if1 .taken)
+    (d .before .before .sought-at .ensures) (d .before .sought-at2 .ensures) (d .plus-one-if .ensures) (c .if1 .taken)
 
 sub-ahead : tie.Need-sub-ahead Inv-loop μ-loop
 sub-ahead c = search needs
@@ -86,7 +86,7 @@ loop-again-2 c =
     let t = goes (leads e) in
     passed-one (began t .args .t1) (began t .args .p) (began t .pre) (t .before .loop .inv) (t .loop-test .taken)
     (leads e .next-corner .ensures) (e .is-visible2 .ensures)
-    (d .before .before .kept .ensures) (d .before .kept2 .ensures) (d .counted .ensures) (c .if1 .left)
+    (d .before .before .sought-at .ensures) (d .before .sought-at2 .ensures) (d .plus-one-if .ensures) (c .if1 .left)
 
 returns : tie.Need-returns Inv-loop μ-loop
 returns c =
@@ -104,9 +104,9 @@ seen-from-spec =
     loop-holds
     next-corner-requires
     is-visible-requires-2
-    kept-requires
-    kept-requires-2
-    counted-requires
+    sought-at-requires
+    sought-at-requires-2
+    plus-one-if-requires
     loop-less
     loop-again
     sub-ahead

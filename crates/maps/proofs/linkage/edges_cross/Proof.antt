@@ -10,7 +10,7 @@ use Rattle.model.specs.Sound.{edges-cross}
 use Prim.Native.Nat.{ℕ, _-_, _%_}
 use native.Mathlib.Omega.{arith}
 use Rattle.model.specs.declared.Map.{Map}
-use Rattle.maps.proofs.Loops.{Tests, Passed, Turn, none-passed, one-passed, one-failed, all-passed, below}
+use Rattle.maps.proofs.Loops.{Tests, Passed, Iteration, none-passed, one-passed, one-failed, all-passed, below}
 use Rattle.maps.proofs.linkage.edges_cross.Statement.{statement}
 use Rattle.maps.proofs.linkage.edges_cross.Tie as tie
 
@@ -45,12 +45,12 @@ module _ (c : tie.After-edge-crosses Inv-loop μ-loop) where
   abbrev map : Map
   map = head .before .args .t1
 
-  turn : Turn (here map) 0 (head .loop .d) (c .edge-crosses .result)
+  iteration : Iteration (here map) 0 (head .loop .d) (c .edge-crosses .result)
   unfolding is-present edge-link has-helper is-fixed
-  turn = record { passed = head .loop .inv; found = c .edge-crosses .ensures }
+  iteration = record { passed = head .loop .inv; found = c .edge-crosses .ensures }
 
 returns : tie.Need-returns Inv-loop μ-loop
-returns c = one-failed (turn (c .before)) (tests (map (c .before))) (omega arith) (c .if1 .taken)
+returns c = one-failed (iteration (c .before)) (tests (map (c .before))) (omega arith) (c .if1 .taken)
 
 add-d : tie.Need-add-d Inv-loop μ-loop
 add-d c = omega arith
@@ -59,7 +59,7 @@ loop-less : tie.Need-loop-less Inv-loop μ-loop
 loop-less c = omega arith
 
 loop-again : tie.Need-loop-again Inv-loop μ-loop
-loop-again c = one-passed (turn (c .before)) (c .if1 .left)
+loop-again c = one-passed (iteration (c .before)) (c .if1 .left)
 
 returns-2 : tie.Need-returns-2 Inv-loop μ-loop
 returns-2 c = all-passed (tests (c .before .before .args .t1)) (c .before .loop .inv) (omega arith)

@@ -8,7 +8,7 @@ use Prim.Native.Nat.{ℕ, _-_}
 use native.Mathlib.Omega.{arith}
 use lib.ListN.{length}
 use Rattle.maps.specs.Arrays.{helper-at}
-use Rattle.maps.proofs.Loops.{Passed, Turn, none-passed, one-passed, one-failed, all-passed}
+use Rattle.maps.proofs.Loops.{Passed, Iteration, none-passed, one-passed, one-failed, all-passed}
 use Rattle.maps.proofs.Loops.{from-on, not-twice}
 use Rattle.maps.proofs.linkage.is_bare_from.Statement.{statement}
 use Rattle.maps.proofs.linkage.is_bare_from.Tie as tie
@@ -35,11 +35,11 @@ module _ (c : tie.After-has-helper Inv-loop μ-loop) where
   abbrev start : tie.Start Inv-loop μ-loop
   start = head .before .before
 
-  turn : Turn (here (start .args .helpers .now)) (start .args .n) (head .loop .k) (not (c .has-helper .result))
-  turn = record { passed = head .loop .inv; found = ap not (c .has-helper .ensures) }
+  iteration : Iteration (here (start .args .helpers .now)) (start .args .n) (head .loop .k) (not (c .has-helper .result))
+  iteration = record { passed = head .loop .inv; found = ap not (c .has-helper .ensures) }
 
 returns : tie.Need-returns Inv-loop μ-loop
-returns c = one-failed (turn (c .before)) (from-on _ _ false not) (omega arith) (not-twice (c .if1 .taken))
+returns c = one-failed (iteration (c .before)) (from-on _ _ false not) (omega arith) (not-twice (c .if1 .taken))
 
 add-k : tie.Need-add-k Inv-loop μ-loop
 add-k c = omega arith
@@ -48,7 +48,7 @@ loop-less : tie.Need-loop-less Inv-loop μ-loop
 loop-less c = omega arith
 
 loop-again : tie.Need-loop-again Inv-loop μ-loop
-loop-again c = one-passed (turn (c .before)) (not-twice (c .if1 .left))
+loop-again c = one-passed (iteration (c .before)) (not-twice (c .if1 .left))
 
 returns-2 : tie.Need-returns-2 Inv-loop μ-loop
 returns-2 c = all-passed (from-on _ _ false not) (c .before .loop .inv) (omega arith)

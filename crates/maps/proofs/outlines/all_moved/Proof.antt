@@ -5,7 +5,7 @@ use Prim.Native.Nat.{_-_}
 use native.Mathlib.Omega.{arith}
 use Rattle.orbits.specs.Sets.{dart-limit}
 use Rattle.maps.specs.Arrays.{moved-at}
-use Rattle.maps.proofs.Loops.{Passed, Turn, none-passed, one-passed, one-failed, all-passed, below}
+use Rattle.maps.proofs.Loops.{Passed, Iteration, none-passed, one-passed, one-failed, all-passed, below}
 use Rattle.maps.proofs.outlines.all_moved.Statement.{statement}
 use Rattle.maps.proofs.outlines.all_moved.Tie as tie
 
@@ -28,12 +28,12 @@ module _ (c : tie.After-is-outside-or-moved Inv-loop μ-loop) where
   abbrev start : tie.Start Inv-loop μ-loop
   start = head .before .before .before
 
-  turn : Turn (moved-at (start .args .darts) (start .args .edge .now) (start .args .point .now)) 0
+  iteration : Iteration (moved-at (start .args .darts) (start .args .edge .now) (start .args .point .now)) 0
       (head .loop .e) (c .is-outside-or-moved .result)
-  turn = record { passed = head .loop .inv; found = c .is-outside-or-moved .ensures }
+  iteration = record { passed = head .loop .inv; found = c .is-outside-or-moved .ensures }
 
 returns : tie.Need-returns Inv-loop μ-loop
-returns c = one-failed (turn (c .before)) (below dart-limit _) (omega arith) (c .if1 .taken)
+returns c = one-failed (iteration (c .before)) (below dart-limit _) (omega arith) (c .if1 .taken)
 
 add-e : tie.Need-add-e Inv-loop μ-loop
 add-e c = omega arith
@@ -42,7 +42,7 @@ loop-less : tie.Need-loop-less Inv-loop μ-loop
 loop-less c = omega arith
 
 loop-again : tie.Need-loop-again Inv-loop μ-loop
-loop-again c = one-passed (turn (c .before)) (c .if1 .left)
+loop-again c = one-passed (iteration (c .before)) (c .if1 .left)
 
 returns-2 : tie.Need-returns-2 Inv-loop μ-loop
 returns-2 c = all-passed (below dart-limit _) (c .before .loop .inv) (omega arith)

@@ -50,13 +50,13 @@ loop-holds c = begun (c .before .args .t1) (c .if1 .left)
 next-corner-requires : tie.Need-next-corner-requires Inv-loop μ-loop
 next-corner-requires c κs = search needs
 
-is-clear-edge-requires : tie.Need-is-clear-edge-requires Inv-loop μ-loop
+is-supporting-edge-requires : tie.Need-is-supporting-edge-requires Inv-loop μ-loop
 unfolding point
-is-clear-edge-requires c κs =
+is-supporting-edge-requires c κs =
     c .before .before .before .before .before .before .before .before .before .before .before .before .pre
 
--- where the two calls of a turn have been made
-module _ (c : tie.After-is-clear-edge Inv-loop μ-loop) where
+-- where the two calls of a iteration have been made
+module _ (c : tie.After-is-supporting-edge Inv-loop μ-loop) where
   abbrev next : tie.After-next-corner Inv-loop μ-loop
   next = c .before .before .before .before .before .before
 
@@ -71,14 +71,14 @@ module _ (c : tie.After-is-clear-edge Inv-loop μ-loop) where
   led = next .next-corner .ensures
 
   corner : Corner (here map) (next-corner map) (owner (map .reference)) (map .count) (head .loop .counter)
-      (head .loop .a) (others-left map) (c .is-clear-edge .result) (next .next-corner .result)
+      (head .loop .a) (others-left map) (c .is-supporting-edge .result) (next .next-corner .result)
   unfolding point
   corner =
       record {
         round = head .loop .inv;
         within = omega arith;
         found =
-            c .is-clear-edge .ensures
+            c .is-supporting-edge .ensures
             ∙ ap (λ (b : ℕ). all (map .count) (aside-at (map .xs) (map .ys) (head .loop .a) b)) led;
         led = led;
       }
@@ -110,7 +110,7 @@ others-left-spec =
     returns
     loop-holds
     next-corner-requires
-    is-clear-edge-requires
+    is-supporting-edge-requires
     returns-2
     returns-3
     add-counter

@@ -10,7 +10,7 @@ use lib.IntN.{ℤ}
 use Rattle.model.specs.declared.Point.{Point}
 use Rattle.model.specs.Plane.{same-point}
 use Rattle.maps.specs.Arrays.{point-at}
-use Rattle.maps.proofs.Loops.{Passed, Turn, none-passed, one-passed, one-failed, all-passed}
+use Rattle.maps.proofs.Loops.{Passed, Iteration, none-passed, one-passed, one-failed, all-passed}
 use Rattle.maps.proofs.Loops.{below, not-twice}
 use Rattle.maps.proofs.positions.is_new.Statement.{statement}
 use Rattle.maps.proofs.positions.is_new.Tie as tie
@@ -40,9 +40,9 @@ module _ (c : tie.After-is-same Inv-loop μ-loop) where
   abbrev start : tie.Start Inv-loop μ-loop
   start = head .before
 
-  turn : Turn (here (start .args .xs .now) (start .args .ys .now) (start .args .p)) 0 (head .loop .j)
+  iteration : Iteration (here (start .args .xs .now) (start .args .ys .now) (start .args .p)) 0 (head .loop .j)
       (not (c .is-same .result))
-  turn =
+  iteration =
       record {
         passed = head .loop .inv;
         found =
@@ -52,7 +52,7 @@ module _ (c : tie.After-is-same Inv-loop μ-loop) where
 
 returns : tie.Need-returns Inv-loop μ-loop
 returns c =
-    one-failed (turn (c .before)) (below (start (c .before) .args .n) _) (omega arith) (not-twice (c .if1 .taken))
+    one-failed (iteration (c .before)) (below (start (c .before) .args .n) _) (omega arith) (not-twice (c .if1 .taken))
 
 add-j : tie.Need-add-j Inv-loop μ-loop
 add-j c = omega arith
@@ -61,7 +61,7 @@ loop-less : tie.Need-loop-less Inv-loop μ-loop
 loop-less c = omega arith
 
 loop-again : tie.Need-loop-again Inv-loop μ-loop
-loop-again c = one-passed (turn (c .before)) (not-twice (c .if1 .left))
+loop-again c = one-passed (iteration (c .before)) (not-twice (c .if1 .left))
 
 returns-2 : tie.Need-returns-2 Inv-loop μ-loop
 returns-2 c = all-passed (below (c .before .before .args .n) _) (c .before .loop .inv) (omega arith)

@@ -14,7 +14,7 @@ use lib.IntN.{ℤ, pos}
 use lib.ListN.{length, getD}
 use Rattle.integers.specs.Order.{eqZ}
 use Rattle.integers.specs.Range.{eqb-read, literal-fits}
-use Rattle.maps.proofs.Loops.{Passed, Turn, none-passed, one-passed, one-failed, all-passed, from-on}
+use Rattle.maps.proofs.Loops.{Passed, Iteration, none-passed, one-passed, one-failed, all-passed, from-on}
 use Rattle.maps.proofs.positions.is_zero_from.Statement.{statement}
 use Rattle.maps.proofs.positions.is_zero_from.Tie as tie
 
@@ -40,9 +40,9 @@ module _ (c : tie.After-coordinate Inv-loop μ-loop) where
   abbrev start : tie.Start Inv-loop μ-loop
   start = head .before
 
-  turn : Turn (here (start .args .coordinates .now)) (start .args .n) (head .loop .k)
+  iteration : Iteration (here (start .args .coordinates .now)) (start .args .n) (head .loop .k)
       (eqb 0 (ofZ w64 (c .coordinate .result)))
-  turn =
+  iteration =
       record {
         passed = head .loop .inv;
         found =
@@ -53,7 +53,7 @@ module _ (c : tie.After-coordinate Inv-loop μ-loop) where
 
 returns : tie.Need-returns Inv-loop μ-loop
 returns c =
-    one-failed (turn (c .before)) (from-on _ _ (pos 0) (eqZ (pos 0))) (omega arith)
+    one-failed (iteration (c .before)) (from-on _ _ (pos 0) (eqZ (pos 0))) (omega arith)
     (ap not (ne-eqb 0 _ (λ e. c .if1 .taken (sym e))))
 
 add-k : tie.Need-add-k Inv-loop μ-loop
@@ -63,7 +63,7 @@ loop-less : tie.Need-loop-less Inv-loop μ-loop
 loop-less c = omega arith
 
 loop-again : tie.Need-loop-again Inv-loop μ-loop
-loop-again c = one-passed (turn (c .before)) (ap not (eq-eqb 0 _ (sym (c .if1 .left))))
+loop-again c = one-passed (iteration (c .before)) (ap not (eq-eqb 0 _ (sym (c .if1 .left))))
 
 returns-2 : tie.Need-returns-2 Inv-loop μ-loop
 returns-2 c = all-passed (from-on _ _ (pos 0) (eqZ (pos 0))) (c .before .loop .inv) (omega arith)

@@ -9,7 +9,7 @@ use Rattle.model.specs.Sound.{points-in-range}
 use Prim.Native.Nat.{ℕ, _-_}
 use native.Mathlib.Omega.{arith}
 use Rattle.model.specs.declared.Map.{Map}
-use Rattle.maps.proofs.Loops.{Tests, Passed, Turn, none-passed, one-passed, one-failed, all-passed, below}
+use Rattle.maps.proofs.Loops.{Tests, Passed, Iteration, none-passed, one-passed, one-failed, all-passed, below}
 use Rattle.maps.proofs.positions.points_in_range.Statement.{statement}
 use Rattle.maps.proofs.positions.points_in_range.Tie as tie
 
@@ -42,16 +42,16 @@ module _ (c : tie.After-in-range Inv-loop μ-loop) where
   abbrev map : Map
   map = head .before .args .t1
 
-  turn : Turn (here map) 0 (head .loop .k) (c .in-range .result)
+  iteration : Iteration (here map) 0 (head .loop .k) (c .in-range .result)
   unfolding point
-  turn =
+  iteration =
       record {
         passed = head .loop .inv;
         found = c .in-range .ensures ∙ ap in-range (c .before .point-at .ensures);
       }
 
 returns : tie.Need-returns Inv-loop μ-loop
-returns c = one-failed (turn (c .before)) (tests (map (c .before))) (omega arith) (c .if1 .taken)
+returns c = one-failed (iteration (c .before)) (tests (map (c .before))) (omega arith) (c .if1 .taken)
 
 add-k : tie.Need-add-k Inv-loop μ-loop
 add-k c = omega arith
@@ -60,7 +60,7 @@ loop-less : tie.Need-loop-less Inv-loop μ-loop
 loop-less c = omega arith
 
 loop-again : tie.Need-loop-again Inv-loop μ-loop
-loop-again c = one-passed (turn (c .before)) (c .if1 .left)
+loop-again c = one-passed (iteration (c .before)) (c .if1 .left)
 
 returns-2 : tie.Need-returns-2 Inv-loop μ-loop
 returns-2 c = all-passed (tests (c .before .before .args .t1)) (c .before .loop .inv) (omega arith)

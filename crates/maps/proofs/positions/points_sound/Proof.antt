@@ -18,8 +18,8 @@ points-in-range-requires c κs = search needs
 points-differ-requires : tie.Need-points-differ-requires
 points-differ-requires c κs = search needs
 
-places-clear-requires : tie.Need-places-clear-requires
-places-clear-requires c κs = search needs
+places-vacant-requires : tie.Need-places-vacant-requires
+places-vacant-requires c κs = search needs
 
 first-two : (c : tie.Joined1) →
     let m = c .before .before .args .m in
@@ -42,7 +42,7 @@ first-three c =
     (c .if2 .came)
 
 returns : tie.Need-returns
-returns c = both-asked (first-three (c .before .before)) (c .before .if3 .taken) (c .places-clear .ensures)
+returns c = both-asked (first-three (c .before .before)) (c .before .if3 .taken) (c .places-vacant .ensures)
 
 returns-2 : tie.Need-returns-2
 returns-2 c = one-asked _ (first-three (c .before)) (c .if3 .left)
@@ -54,6 +54,6 @@ points-sound-spec =
     count-fits-requires
     points-in-range-requires
     points-differ-requires
-    places-clear-requires
+    places-vacant-requires
     returns
     returns-2)

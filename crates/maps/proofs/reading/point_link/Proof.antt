@@ -4,7 +4,7 @@ use borrow.Author.Needs.{needs}
 use mathlib.Core.Path.{sym, _∙_}
 use native.Mathlib.Omega.{arith}
 use borrow.Author.Tests.{eq-eqb, ne-eqb}
-use Rattle.model.specs.Maps.{partner}
+use Rattle.model.specs.Maps.{other-dart}
 use Rattle.maps.proofs.reading.point_link.Statement.{statement}
 use Rattle.maps.proofs.reading.point_link.Tie as tie
 
@@ -18,13 +18,13 @@ sub-result : tie.Need-sub-result
 sub-result c = search needs
 
 returns : tie.Need-returns
-unfolding partner
+unfolding other-dart
 returns c =
     rw (sym (c .before .before .has-helper .ensures) ∙ c .before .if1 .taken, eq-eqb _ _ (c .if2 .taken))
     (omega arith)
 
 returns-2 : tie.Need-returns-2
-unfolding partner
+unfolding other-dart
 returns-2 c =
     rw (sym (c .before .before .has-helper .ensures) ∙ c .before .if1 .taken, ne-eqb _ _ (c .if2 .left))
     (omega arith)

@@ -1,4 +1,4 @@
--- Looking round an outline, in the order of this page: a corner that is sought; what is seen.
+-- Sight round an outline, in the order of this page: a corner that is sought; what is seen.
 -- Assumes nothing.
 use mathlib.Core.Bool.{Bool, true, not, cond, _&&_}
 use Prim.Native.Nat.{ℕ}
@@ -10,8 +10,8 @@ use Rattle.hull.specs.declared.sight.Seen.{Seen}
 use Rattle.hull.specs.declared.sight.Sought.{Sought}
 
 -- the corner sought if it is found; else corner a, where a test that failed before it passes after it
-abbrev pub kept : Sought → Bool → Bool → ℕ → Sought
-kept s before after a = cond (s .found) s (cond (not before && after) (record { corner = a; found = true }) s)
+abbrev pub sought-at : Sought → Bool → Bool → ℕ → Sought
+sought-at s before after a = cond (s .found) s (cond (not before && after) (record { corner = a; found = true }) s)
 
 -- what is seen of a map's outline from p
 abbrev pub seen : Map → Point → Seen

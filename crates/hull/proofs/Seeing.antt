@@ -23,8 +23,8 @@ use Rattle.maps.proofs.Links.{sound-linked}
 use Rattle.maps.proofs.Circuits.{edge-next, edge-previous}
 use Rattle.maps.proofs.Outline.{outline-first, outline-next, outline-previous}
 use Rattle.hull.specs.declared.sight.Sought.{Sought}
-use Rattle.hull.specs.Asked.{Outlined, visible-at}
-use Rattle.hull.specs.Looking.{kept, seen}
+use Rattle.hull.specs.Requires.{OutlineFor, visible-at}
+use Rattle.hull.specs.Sight.{sought-at, seen}
 
 -- ---- a corner that is sought
 
@@ -32,13 +32,13 @@ use Rattle.hull.specs.Looking.{kept, seen}
 abbrev settled : Sought → (ℕ → Bool) → List ℕ → ℕ
 settled s test ahead = cond (s .found) (s .corner) (first-in test (s .corner) ahead)
 
-kept-settles : (test : ℕ → Bool) (s : Sought) (before after : Bool) (a : ℕ) (ahead : List ℕ) →
-    test a ≡ (not before && after) → settled (kept s before after a) test ahead ≡ settled s test (a ∷ ahead)
+sought-settles : (test : ℕ → Bool) (s : Sought) (before after : Bool) (a : ℕ) (ahead : List ℕ) →
+    test a ≡ (not before && after) → settled (sought-at s before after a) test ahead ≡ settled s test (a ∷ ahead)
 unfolding first-in
-kept-settles test s before after a ahead is = go (s .found) (not before && after) refl refl
+sought-settles test s before after a ahead is = go (s .found) (not before && after) refl refl
   where
     go : (f t : Bool) → s .found ≡ f → (not before && after) ≡ t →
-        settled (kept s before after a) test ahead ≡ settled s test (a ∷ ahead)
+        settled (sought-at s before after a) test ahead ≡ settled s test (a ∷ ahead)
     go true t e d = rw e
     go false true e d = rw (is, e, d)
     go false false e d = rw (is, e, d)
@@ -83,7 +83,7 @@ module _ (m : Map) (p : Point) where
   is-right a = sees m p (previous-corner m a) && not (sees m p a)
 
   -- a is the first corner ahead, and `entering` says whether its entering edge is visible
-  pub record Underway (entering : Bool) (left right : Sought) (visible a ahead : ℕ) : Type 0 where
+  pub record SightAhead (entering : Bool) (left right : Sought) (visible a ahead : ℕ) : Type 0 where
     pub on : T (elem a (outline m))
     pub few : visible + ahead ≤ m .count
     pub entered : entering ≡ sees m p (previous-corner m a)
@@ -102,14 +102,14 @@ module _ (m : Map) (p : Point) where
   unfolding sees point
   leaves a b to e = rw to at e
 
-  module _ (o : Outlined m p) where
+  module _ (o : OutlineFor m p) where
     abbrev s : Sound m
     s = o .is-sound
 
     -- nothing is found at first, and all of the outline is ahead
     pub at-first : {last : ℕ} {entering : Bool} → last ≡ previous-corner m (owner (m .reference)) →
         entering ≡ visible-at (m .xs) (m .ys) last (owner (m .reference)) p →
-        Underway entering (record { corner = 0; found = false }) (record { corner = 0; found = false }) 0
+        SightAhead entering (record { corner = 0; found = false }) (record { corner = 0; found = false }) 0
         (owner (m .reference)) (m .count)
     unfolding outline corners-from left-corner right-corner visible-edges
     at-first {last} {entering} from e =
@@ -128,13 +128,13 @@ module _ (m : Map) (p : Point) where
         }
 
     module _ {entering leaving : Bool} {left right left′ right′ : Sought} {visible visible′ a b ahead : ℕ}
-        (u : Underway entering left right visible a ahead) (more : 0 < ahead)
+        (u : SightAhead entering left right visible a ahead) (more : 0 < ahead)
         (to : b ≡ next-corner m a) (edge : leaving ≡ visible-at (m .xs) (m .ys) a b p)
-        (l : left′ ≡ kept left entering leaving a) (r : right′ ≡ kept right leaving entering a)
+        (l : left′ ≡ sought-at left entering leaving a) (r : right′ ≡ sought-at right leaving entering a)
         (v : visible′ ≡ visible + one-if leaving) where
       -- corner a is passed, and so many are ahead then
       passed : (on : ℕ) → on < ahead → corners-ahead m ahead a ≡ a ∷ corners-ahead m on b →
-          Underway leaving left′ right′ visible′ b on
+          SightAhead leaving left′ right′ visible′ b on
       unfolding count-in
       passed on h is =
           let n = outline-next s (o .two) a (u .on) in
@@ -145,32 +145,32 @@ module _ (m : Map) (p : Point) where
             entered = rw to (e ∙ ap (sees m p) (sym (edge-previous (sound-linked s) a (next-corner m a) (n .0))));
             left-is =
                 rw l
-                (kept-settles is-left left entering leaving a (corners-ahead m on b) (rw (u .entered, e))
+                (sought-settles is-left left entering leaving a (corners-ahead m on b) (rw (u .entered, e))
                 ∙ (ap (settled left is-left) (sym is) ∙ u .left-is));
             right-is =
                 rw r
-                (kept-settles is-right right leaving entering a (corners-ahead m on b)
+                (sought-settles is-right right leaving entering a (corners-ahead m on b)
                 (rw (u .entered, e) (and-comm (sees m p (previous-corner m a)) (not (sees m p a))))
                 ∙ (ap (settled right is-right) (sym is) ∙ u .right-is));
             visible-is = omega (arith, ap one-if e, ap (count-in (sees m p)) is, u .visible-is);
           }
 
       -- none, since the next corner is the first ..
-      pub passed-last : b ≡ owner (m .reference) → Underway leaving left′ right′ visible′ b 0
+      pub passed-last : b ≡ owner (m .reference) → SightAhead leaving left′ right′ visible′ b 0
       passed-last e = passed 0 more (rw to (last-ahead m ahead a more (sym to ∙ e)))
 
       -- .. or one less
-      pub passed-one : b ≢ owner (m .reference) → Underway leaving left′ right′ visible′ b (ahead - 1)
+      pub passed-one : b ≢ owner (m .reference) → SightAhead leaving left′ right′ visible′ b (ahead - 1)
       passed-one n = passed (ahead - 1) (omega arith) (rw to (more-ahead m ahead a more (λ e. n (to ∙ e))))
 
     -- none is ahead, and all is found
     pub at-end : {entering : Bool} {left right : Sought} {visible a ahead : ℕ} →
-        Underway entering left right visible a ahead → ahead ≤ 0 →
+        SightAhead entering left right visible a ahead → ahead ≤ 0 →
         record { left = left .corner; right = right .corner; visible = visible } ≡ seen m p
     unfolding ring count-in
     at-end {entering} {left} {right} {visible} {a} {ahead} u h =
         let none : ahead ≡ 0 = omega arith in
-        let w = subst (Underway entering left right visible a) none u in
+        let w = subst (SightAhead entering left right visible a) none u in
         let l = sym (settled-end left is-left) ∙ w .left-is in
         let r = sym (settled-end right is-right) ∙ w .right-is in
         let v : visible ≡ visible-edges m p = omega (arith, w .visible-is) in

@@ -20,13 +20,13 @@ pub record Near (ax ay bx by cx cy : ℤ) : Type 0 where
   pub cy-near : Bounded coordinate-limit cy
 
 -- "from -4,000,000,000,000 to 4,000,000,000,000"
-abbrev pub Within : Oriented → Type 0
-Within (Oriented.Value z) = natAbs z ≤ orientation-limit
-Within (Oriented.Refused r) = Unit {0}
+abbrev pub InLimit : Oriented → Type 0
+InLimit (Oriented.Value z) = natAbs z ≤ orientation-limit
+InLimit (Oriented.Refused r) = Unit {0}
 
 -- the answer is that of the definition; its number is 3 where a coordinate is out of range, else 0; and
 -- a value lies within the limit
-pub record Turned (a b c : Point) (r : Oriented) : Type 0 where
+pub record OrientedAnswer (a b c : Point) (r : Oriented) : Type 0 where
   pub answer : r ≡ oriented a b c
   pub number : oriented-answer r .number ≡ cond (in-range a && in-range b && in-range c) 0 3
-  pub within : Within r
+  pub within : InLimit r

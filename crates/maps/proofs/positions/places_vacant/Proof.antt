@@ -1,10 +1,10 @@
--- `maps::positions::places_clear` meets its contract: it is the conjunction of what the calls ensure.
+-- `maps::positions::places_vacant` meets its contract: it is the conjunction of what the calls ensure.
 -- Assumes nothing.
 use borrow.Author.Needs.{needs}
 use mathlib.Core.Path.{sym, _∙_}
-use Rattle.model.specs.Sound.{places-clear}
-use Rattle.maps.proofs.positions.places_clear.Statement.{statement}
-use Rattle.maps.proofs.positions.places_clear.Tie as tie
+use Rattle.model.specs.Sound.{places-vacant}
+use Rattle.maps.proofs.positions.places_vacant.Statement.{statement}
+use Rattle.maps.proofs.positions.places_vacant.Tie as tie
 
 is-zero-from-requires : tie.Need-is-zero-from-requires
 is-zero-from-requires c κs = search needs
@@ -13,15 +13,15 @@ is-zero-from-requires-2 : tie.Need-is-zero-from-requires-2
 is-zero-from-requires-2 c κs = search needs
 
 returns : tie.Need-returns
-unfolding places-clear
+unfolding places-vacant
 returns c =
     let first = c .before .before .before .before in
     c .is-zero-from2 .ensures ∙ sym (rw (sym (first .before .is-zero-from .ensures) ∙ first .if1 .taken))
 
 returns-2 : tie.Need-returns-2
-unfolding places-clear
+unfolding places-vacant
 returns-2 c = c .if1 .left ∙ sym (rw (sym (c .before .is-zero-from .ensures) ∙ c .if1 .left))
 
-pub places-clear-spec : {M : Type 1} → statement M
-places-clear-spec =
+pub places-vacant-spec : {M : Type 1} → statement M
+places-vacant-spec =
     tie.close (tie.spec is-zero-from-requires is-zero-from-requires-2 returns returns-2)

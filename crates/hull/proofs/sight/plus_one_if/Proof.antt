@@ -1,9 +1,9 @@
--- `hull::sight::counted` meets its contract. Assumes nothing.
+-- `hull::sight::plus_one_if` meets its contract. Assumes nothing.
 use borrow.Author.Needs.{needs}
 use native.Mathlib.Omega.{arith}
 use Rattle.finite.specs.Bounded.{one-if}
-use Rattle.hull.proofs.sight.counted.Statement.{statement}
-use Rattle.hull.proofs.sight.counted.Tie as tie
+use Rattle.hull.proofs.sight.plus_one_if.Statement.{statement}
+use Rattle.hull.proofs.sight.plus_one_if.Tie as tie
 
 add-result : tie.Need-add-result
 add-result c = search needs
@@ -16,5 +16,5 @@ returns-2 : tie.Need-returns-2
 unfolding one-if
 returns-2 c = rw (c .if1 .left) (omega arith)
 
-pub counted-spec : {M : Type 1} → statement M
-counted-spec = tie.close (tie.spec add-result returns returns-2)
+pub plus-one-if-spec : {M : Type 1} → statement M
+plus-one-if-spec = tie.close (tie.spec add-result returns returns-2)

@@ -43,13 +43,13 @@ pub record Spliceable (m : Map) (left right : ℕ) : Type 0 where
   pub links-below : (d : ℕ) → d < dart-limit → edge-link m d < dart-limit
 
 -- a sound map that has an outline, and a point in range
-pub record Outlined (m : Map) (p : Point) : Type 0 where
+pub record OutlineFor (m : Map) (p : Point) : Type 0 where
   pub is-sound : Sound m
   pub two : 2 ≤ m .count
   pub offered : T (in-range p)
 
 -- a sound map with room for one more point, and a point in range
-pub record Acceptable (m : Map) (p : Point) : Type 0 where
+pub record RoomFor (m : Map) (p : Point) : Type 0 where
   pub is-sound : Sound m
   pub room : m .count < point-limit
   pub offered : T (in-range p)

@@ -1,11 +1,11 @@
--- `maps::outlines::is_clear_edge` meets its contract: the loop tests every point.
+-- `maps::outlines::is_supporting_edge` meets its contract: the loop tests every point.
 -- Assumes nothing.
 use Prim.Native.Nat.{_-_}
 use native.Mathlib.Omega.{arith}
 use Rattle.maps.specs.Arrays.{aside-at}
-use Rattle.maps.proofs.Loops.{Passed, Turn, none-passed, one-passed, one-failed, all-passed, below}
-use Rattle.maps.proofs.outlines.is_clear_edge.Statement.{statement}
-use Rattle.maps.proofs.outlines.is_clear_edge.Tie as tie
+use Rattle.maps.proofs.Loops.{Passed, Iteration, none-passed, one-passed, one-failed, all-passed, below}
+use Rattle.maps.proofs.outlines.is_supporting_edge.Statement.{statement}
+use Rattle.maps.proofs.outlines.is_supporting_edge.Tie as tie
 
 abbrev Inv-loop : tie.InvT-loop
 Inv-loop xs ys n a b c₀ c = Passed (aside-at xs ys a b) 0 c
@@ -26,12 +26,12 @@ module _ (c : tie.After-is-end-or-left Inv-loop μ-loop) where
   abbrev start : tie.Start Inv-loop μ-loop
   start = head .before
 
-  turn : Turn (aside-at (start .args .xs .now) (start .args .ys .now) (start .args .a) (start .args .b)) 0
+  iteration : Iteration (aside-at (start .args .xs .now) (start .args .ys .now) (start .args .a) (start .args .b)) 0
       (head .loop .c) (c .is-end-or-left .result)
-  turn = record { passed = head .loop .inv; found = c .is-end-or-left .ensures }
+  iteration = record { passed = head .loop .inv; found = c .is-end-or-left .ensures }
 
 returns : tie.Need-returns Inv-loop μ-loop
-returns c = one-failed (turn (c .before)) (below (start (c .before) .args .n) _) (omega arith) (c .if1 .taken)
+returns c = one-failed (iteration (c .before)) (below (start (c .before) .args .n) _) (omega arith) (c .if1 .taken)
 
 add-c : tie.Need-add-c Inv-loop μ-loop
 add-c c = omega arith
@@ -40,13 +40,13 @@ loop-less : tie.Need-loop-less Inv-loop μ-loop
 loop-less c = omega arith
 
 loop-again : tie.Need-loop-again Inv-loop μ-loop
-loop-again c = one-passed (turn (c .before)) (c .if1 .left)
+loop-again c = one-passed (iteration (c .before)) (c .if1 .left)
 
 returns-2 : tie.Need-returns-2 Inv-loop μ-loop
 returns-2 c = all-passed (below (c .before .before .args .n) _) (c .before .loop .inv) (omega arith)
 
-pub is-clear-edge-spec : {M : Type 1} → statement M
-is-clear-edge-spec =
+pub is-supporting-edge-spec : {M : Type 1} → statement M
+is-supporting-edge-spec =
     tie.close
     (tie.spec
     Inv-loop

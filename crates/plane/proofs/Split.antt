@@ -1,7 +1,7 @@
--- The visible edges are one run of the outline, in the order of this page: an outline cut at its
--- right corner and turned, so that the hidden edges come first and the visible ones follow from the
+-- The visible edges are one split of the outline, in the order of this page: an outline cut at its
+-- right corner and rotated, so that the hidden edges come first and the visible ones follow from the
 -- left corner on; its lengths, members and count; that there is such a cut where just one corner is
--- left and just one right, and so where a point that is clear sees an edge.
+-- left and just one right, and so where a point that is general sees an edge.
 -- Assumes nothing.
 use mathlib.Core.Path.{_≡_, sym, ap, subst, _∙_}
 use mathlib.Core.Logic.{⊎-elim}
@@ -16,84 +16,84 @@ use Rattle.finite.specs.Lists.{elem, count-in, elem-head, elem-tail, elem-cases
 use Rattle.finite.specs.Cycles.{Chain, Cycle, chain-cut}
 use Rattle.finite.specs.CycleLaws.{elem-cut, elem-swap, distinct-apart, count-in-append, count-in-swap, count-in-all, count-in-none, chain-front, chain-carry}
 use Rattle.model.specs.declared.Point.{Point}
-use Rattle.plane.proofs.Convex.{Link, Convex, Clear, sees, convex-swap}
-use Rattle.plane.proofs.Corners.{Left-corner, Right-corner, left-not-right, left-corner-unique, right-corner-unique, left-corner-seen, right-corner-seen}
+use Rattle.plane.proofs.Convex.{Link, Convex, GeneralPosition, sees, convex-swap}
+use Rattle.plane.proofs.Corners.{LeftCorner, RightCorner, left-not-right, left-corner-unique, right-corner-unique, left-corner-seen, right-corner-seen}
 
--- s turned is `r ∷ middle`, where the test p fails, then `l ∷ inner`, where it passes
-pub record Run (next prev : ℕ → ℕ) (p : ℕ → Bool) (s : List ℕ) (l r : ℕ) : Type 0 where
+-- s rotated is `r ∷ middle`, where the test p fails, then `l ∷ inner`, where it passes
+pub record Split (next prev : ℕ → ℕ) (p : ℕ → Bool) (s : List ℕ) (l r : ℕ) : Type 0 where
   pub middle : List ℕ
   pub inner : List ℕ
   pub front : List ℕ
   pub back : List ℕ
   pub cut : s ≡ front ++ back
-  pub turned : back ++ front ≡ r ∷ middle ++ l ∷ inner
-  pub is-right : Right-corner prev p s r
-  pub is-left : Left-corner prev p s l
+  pub rotated : back ++ front ≡ r ∷ middle ++ l ∷ inner
+  pub is-right : RightCorner prev p s r
+  pub is-left : LeftCorner prev p s l
   pub hidden : (a : ℕ) → T (elem a (r ∷ middle)) → ¬ T (p a)
   pub seen : (a : ℕ) → T (elem a (l ∷ inner)) → T (p a)
   pub hidden-chain : Chain (Link next prev) (r ∷ middle ++ l ∷ [])
   pub seen-chain : Chain (Link next prev) (l ∷ inner ++ r ∷ [])
 
-module _ {next prev : ℕ → ℕ} {p : ℕ → Bool} {s : List ℕ} {l r : ℕ} (run : Run next prev p s l r) where
+module _ {next prev : ℕ → ℕ} {p : ℕ → Bool} {s : List ℕ} {l r : ℕ} (split : Split next prev p s l r) where
   -- from the right corner to the left: the corners that stay when a point arrives
-  abbrev pub kept : List ℕ
-  kept = r ∷ run .middle ++ l ∷ []
+  abbrev pub remaining : List ℕ
+  remaining = r ∷ split .middle ++ l ∷ []
 
-  pub kept-turned : run .back ++ run .front ≡ kept ++ run .inner
-  kept-turned =
-      run .turned ∙ ap (λ (t : List ℕ). r ∷ t) (sym (append-assoc (run .middle) (l ∷ []) (run .inner)))
+  pub remaining-rotated : split .back ++ split .front ≡ remaining ++ split .inner
+  remaining-rotated =
+      split .rotated ∙ ap (λ (t : List ℕ). r ∷ t) (sym (append-assoc (split .middle) (l ∷ []) (split .inner)))
 
-  pub run-member : (a : ℕ) → T (elem a (kept ++ run .inner)) → T (elem a s)
-  run-member a m =
-      rw (run .cut) (elem-swap a (run .back) (run .front) (rw kept-turned m))
+  pub split-member : (a : ℕ) → T (elem a (remaining ++ split .inner)) → T (elem a s)
+  split-member a m =
+      rw (split .cut) (elem-swap a (split .back) (split .front) (rw remaining-rotated m))
 
-  pub member-run : (a : ℕ) → T (elem a s) → T (elem a (kept ++ run .inner))
-  member-run a m =
-      subst (λ (t : List ℕ). T (elem a t)) kept-turned
-      (elem-swap a (run .front) (run .back) (rw (run .cut) at m))
+  pub member-split : (a : ℕ) → T (elem a s) → T (elem a (remaining ++ split .inner))
+  member-split a m =
+      subst (λ (t : List ℕ). T (elem a t)) remaining-rotated
+      (elem-swap a (split .front) (split .back) (rw (split .cut) at m))
 
-  pub run-length : length kept + length (run .inner) ≡ length s
-  run-length =
+  pub split-length : length remaining + length (split .inner) ≡ length s
+  split-length =
       omega (
         arith,
-        ap length (run .cut),
-        ap length kept-turned,
-        length-append (run .front) (run .back),
-        length-append (run .back) (run .front),
-        length-append kept (run .inner),
+        ap length (split .cut),
+        ap length remaining-rotated,
+        length-append (split .front) (split .back),
+        length-append (split .back) (split .front),
+        length-append remaining (split .inner),
       )
 
   -- as many visible edges as the left corner and the corners within
-  pub run-count : count-in p s ≡ suc (length (run .inner))
-  run-count =
+  pub split-count : count-in p s ≡ suc (length (split .inner))
+  split-count =
       omega (
         arith,
-        ap (count-in p) (run .cut),
-        count-in-swap p (run .front) (run .back),
-        ap (count-in p) (run .turned),
-        count-in-append p (r ∷ run .middle) (l ∷ run .inner),
-        count-in-none p (r ∷ run .middle) (run .hidden),
-        count-in-all p (l ∷ run .inner) (run .seen),
+        ap (count-in p) (split .cut),
+        count-in-swap p (split .front) (split .back),
+        ap (count-in p) (split .rotated),
+        count-in-append p (r ∷ split .middle) (l ∷ split .inner),
+        count-in-none p (r ∷ split .middle) (split .hidden),
+        count-in-all p (l ∷ split .inner) (split .seen),
       )
 
   -- with one corner more for the arrival: corners then and visible edges are two more than corners before
-  pub run-balance : suc (length kept) + count-in p s ≡ length s + 2
-  run-balance = omega (arith, run-length, run-count)
+  pub split-balance : suc (length remaining) + count-in p s ≡ length s + 2
+  split-balance = omega (arith, split-length, split-count)
 
--- ---- there is a run where just one corner is left and just one right
+-- ---- there is a split where just one corner is left and just one right
 
 module _ {n : ℕ} {P : ℕ → Point} {next prev : ℕ → ℕ} {s : List ℕ} (C : Convex n P next prev s)
-    (p : ℕ → Bool) (l r : ℕ) (L : Left-corner prev p s l) (R : Right-corner prev p s r)
-    (only-left : (a : ℕ) → Left-corner prev p s a → a ≡ l)
-    (only-right : (a : ℕ) → Right-corner prev p s a → a ≡ r) where
-  -- s = u ++ r ∷ v, turned to begin at r
+    (p : ℕ → Bool) (l r : ℕ) (L : LeftCorner prev p s l) (R : RightCorner prev p s r)
+    (only-left : (a : ℕ) → LeftCorner prev p s a → a ≡ l)
+    (only-right : (a : ℕ) → RightCorner prev p s a → a ≡ r) where
+  -- s = u ++ r ∷ v, rotated to begin at r
   module _ (u v middle inner : List ℕ) (cut : s ≡ u ++ r ∷ v)
-      (turned : r ∷ v ++ u ≡ r ∷ middle ++ l ∷ inner) where
+      (rotated : r ∷ v ++ u ≡ r ∷ middle ++ l ∷ inner) where
     whole : Convex n P next prev (r ∷ middle ++ l ∷ inner)
-    whole = subst (Convex n P next prev) turned (convex-swap u (r ∷ v) (subst (Convex n P next prev) cut C))
+    whole = subst (Convex n P next prev) rotated (convex-swap u (r ∷ v) (subst (Convex n P next prev) cut C))
 
     in-whole : (a : ℕ) → T (elem a (r ∷ middle ++ l ∷ inner)) → T (elem a s)
-    in-whole a m = rw cut (elem-swap a (r ∷ v) u (subst (λ (t : List ℕ). T (elem a t)) (sym turned) m))
+    in-whole a m = rw cut (elem-swap a (r ∷ v) u (subst (λ (t : List ℕ). T (elem a t)) (sym rotated) m))
 
     chains : Chain (Link next prev) (r ∷ middle ++ l ∷ []) × Chain (Link next prev) (l ∷ inner ++ r ∷ [])
     unfolding Cycle
@@ -107,7 +107,7 @@ module _ {n : ℕ} {P : ℕ → Point} {next prev : ℕ → ℕ} {s : List ℕ} 
     fails =
         chain-carry (Link next prev) (λ a. ¬ T (p a)) r middle
         (λ a b i j e h t.
-        distinct-apart (r ∷ middle) (l ∷ inner) (whole .once) b (elem-tail b r middle j)
+        distinct-apart (r ∷ middle) (l ∷ inner) (whole .all-distinct) b (elem-tail b r middle j)
         (subst (λ (x : ℕ). T (elem x (l ∷ inner)))
         (sym
         (only-left b
@@ -128,7 +128,7 @@ module _ {n : ℕ} {P : ℕ → Point} {next prev : ℕ → ℕ} {s : List ℕ} 
         ⊎-elim (λ (t : T (p b)). t)
         (λ (t : T (not (p b))).
         absurd
-        (distinct-apart (r ∷ middle) (l ∷ inner) (whole .once) r (elem-head r middle)
+        (distinct-apart (r ∷ middle) (l ∷ inner) (whole .all-distinct) r (elem-head r middle)
         (subst (λ (x : ℕ). T (elem x (l ∷ inner)))
         (only-right b
         (record {
@@ -141,15 +141,15 @@ module _ {n : ℕ} {P : ℕ → Point} {next prev : ℕ → ℕ} {s : List ℕ} 
         (chain-front (Link next prev) (l ∷ inner) (r ∷ []) (chains .1))
         (L .leaves)
 
-    run-turned : Run next prev p s l r
-    run-turned =
+    split-rotated : Split next prev p s l r
+    split-rotated =
         record {
           middle = middle;
           inner = inner;
           front = u;
           back = r ∷ v;
           cut = cut;
-          turned = turned;
+          rotated = rotated;
           is-right = R;
           is-left = L;
           hidden = fails;
@@ -158,31 +158,31 @@ module _ {n : ℕ} {P : ℕ → Point} {next prev : ℕ → ℕ} {s : List ℕ} 
           seen-chain = chains .1;
         }
 
-  pub run-between : Run next prev p s l r
-  run-between =
+  pub split-between : Split next prev p s l r
+  split-between =
       let f = elem-cut r s (R .member) in
       let g = elem-cut l (f .1 ++ f .0) (later (f .0) (f .1) (f .2)) in
-      run-turned (f .0) (f .1) (g .0) (g .1) (f .2) (ap (λ (t : List ℕ). r ∷ t) (g .2))
+      split-rotated (f .0) (f .1) (g .0) (g .1) (f .2) (ap (λ (t : List ℕ). r ∷ t) (g .2))
     where
       later : (u v : List ℕ) → s ≡ u ++ r ∷ v → T (elem l (v ++ u))
       later u v e =
           ⊎-elim (λ (k : l ≡ r). absurd (left-not-right L R k)) (λ m. m)
           (elem-cases l r (v ++ u) (elem-swap l u (r ∷ v) (rw e at (L .member))))
 
--- ---- the visible edges are one run
+-- ---- the visible edges are one split
 
 module _ {n : ℕ} {P : ℕ → Point} {next prev : ℕ → ℕ} {s : List ℕ} (C : Convex n P next prev s)
-    (q : Point) (clear : Clear n P q) where
-  pub visible-run : (l r : ℕ) →
-      Left-corner prev (sees P next q) s l → Right-corner prev (sees P next q) s r →
-      Run next prev (sees P next q) s l r
-  visible-run l r L R =
-      run-between C (sees P next q) l r L R (λ a A. left-corner-unique C q clear a l A L)
-      (λ a A. right-corner-unique C q clear a r A R)
+    (q : Point) (general : GeneralPosition n P q) where
+  pub visible-split : (l r : ℕ) →
+      LeftCorner prev (sees P next q) s l → RightCorner prev (sees P next q) s r →
+      Split next prev (sees P next q) s l r
+  visible-split l r L R =
+      split-between C (sees P next q) l r L R (λ a A. left-corner-unique C q general a l A L)
+      (λ a A. right-corner-unique C q general a r A R)
 
-  pub visible-run-seen : (y : ℕ) → T (elem y s) → T (sees P next q y) →
-      (l : ℕ) × (r : ℕ) × Run next prev (sees P next q) s l r
-  visible-run-seen y m t =
+  pub visible-split-seen : (y : ℕ) → T (elem y s) → T (sees P next q y) →
+      (l : ℕ) × (r : ℕ) × Split next prev (sees P next q) s l r
+  visible-split-seen y m t =
       let l = left-corner-seen C q y m t in
       let r = right-corner-seen C q y m t in
-      (l .0, r .0, visible-run (l .0) (r .0) (l .1) (r .1))
+      (l .0, r .0, visible-split (l .0) (r .0) (l .1) (r .1))

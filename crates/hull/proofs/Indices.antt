@@ -26,7 +26,7 @@ use Rattle.model.specs.Arrival.{cut, left-corner, right-corner}
 use Rattle.model.proofs.Sound.{present-below}
 use Rattle.maps.specs.Arrays.{point-at}
 use Rattle.maps.proofs.Outline.{outline-circuit}
-use Rattle.hull.specs.Asked.{Acceptable, Outlined, Ranged, Spliceable}
+use Rattle.hull.specs.Requires.{RoomFor, OutlineFor, Ranged, Spliceable}
 
 -- ---- edge links
 
@@ -70,10 +70,10 @@ module _ {m : Map} (s : Sound m) where
   pub place-ranged : (k : ℕ) → T (in-range (point m k))
   unfolding in-range coordinate-in-range
   place-ranged k =
-      ⊎-elim (s .points .ranged k) (λ l. subst (λ p. T (in-range p)) (sym (s .points .clear k l)) tt) (lt-or-ge k (m .count))
+      ⊎-elim (s .points .ranged k) (λ l. subst (λ p. T (in-range p)) (sym (s .points .vacant k l)) tt) (lt-or-ge k (m .count))
 
 -- so the arrays of a map with an outline may be read at every place
-pub ranged : {m : Map} {p : Point} → Outlined m p → Ranged (m .xs) (m .ys) p
+pub ranged : {m : Map} {p : Point} → OutlineFor m p → Ranged (m .xs) (m .ys) p
 unfolding point
 ranged o = record { places = place-ranged (o .is-sound); offered = o .offered }
 
@@ -100,7 +100,7 @@ first-below n test (a ∷ t) h below = go (test a) (first-below n test t h (λ x
     go false l = l
 
 -- an accepted point may be put between its left and its right corner
-pub spliceable : {m : Map} {p : Point} → Acceptable m p → 2 ≤ m .count →
+pub spliceable : {m : Map} {p : Point} → RoomFor m p → 2 ≤ m .count →
     Spliceable m (left-corner m p) (right-corner m p)
 unfolding left-corner right-corner
 spliceable {m} {p} o two =

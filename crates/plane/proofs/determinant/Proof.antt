@@ -1,12 +1,12 @@
--- `plane::turn` meets its contract: at each operation the number that the machine has is built from
+-- `plane::determinant` meets its contract: at each operation the number that the machine has is built from
 -- the bounds of the coordinates, and its range is a comparison of numerals. Assumes nothing.
 use lib.IntN.{ℤ, _-ℤ_, _*ℤ_}
 use mir.Syntax.{w64}
 use Prim.Native.Nat.{ℕ, _+_, _*_}
 use Rattle.integers.specs.Range.{Bounded, Number, read, sub, mul, back, fits}
 use Rattle.model.specs.Plane.{coordinate-limit, orientation}
-use Rattle.plane.proofs.turn.Statement.{statement}
-use Rattle.plane.proofs.turn.Tie as tie
+use Rattle.plane.proofs.determinant.Statement.{statement}
+use Rattle.plane.proofs.determinant.Tie as tie
 
 abbrev span : ℕ
 span = coordinate-limit + coordinate-limit
@@ -49,8 +49,8 @@ returns : tie.Need-returns
 unfolding orientation
 returns c = back w64 tt (sub (back w64 tt (left c)) (back w64 tt (right c))) .is
 
-pub turn-spec : {M : Type 1} → statement M
-turn-spec =
+pub determinant-spec : {M : Type 1} → statement M
+determinant-spec =
     tie.close
     (tie.spec
     sub-result

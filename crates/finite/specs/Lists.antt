@@ -1,7 +1,7 @@
 -- Tests over lists, in the order of this page: membership of a number; all, any, the count and the
 -- first of the members that pass a test; the sum; what stands before and after a number; a ring of
 -- numbers; the union of two lists without repetition; lists in which no member stands twice, and the
--- list of all that pass a test below a bound; then the laws that turn each test into a statement and
+-- list of all that pass a test below a bound; then the laws that carry each test to a statement and
 -- back, and those of membership and number of members in lists put together. The prover runs every
 -- one of them.
 -- Assumes nothing.

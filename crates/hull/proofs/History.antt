@@ -1,6 +1,6 @@
 -- Demand 3 as one theorem: after every list of offers from the empty map all of its claims hold
 -- (`always-balanced`). What every offer keeps is the record `Invariant`; from it follow the claims, by the
--- laws of sound maps. In the order of this page: what is kept; the start; one accepted offer; one offer;
+-- laws of sound maps. In the order of this page: the invariant; the start; one accepted offer; one offer;
 -- the list; the claims. Assumes nothing.
 use mathlib.Core.Path.{_≡_, refl, sym, ap, subst, _∙_}
 use mathlib.Core.Logic.{_≢_, ⊎-elim}
@@ -92,7 +92,7 @@ points-more {m} {p} a helpers edge reference =
     (table-same (m .count) (point new) (point m)
     (λ k h. point-old (a .is-sound) (a .room) p helpers edge reference k (omega arith))))
 
--- what an arrival has to show, for the run with its entry to keep what is kept
+-- what an arrival has to show, for the run with its entry to keep the invariant
 record Adds (m : Map) (p : Point) (o : Offered) : Type 0 where
   is-sound : Sound (o .map)
   count-grows : o .map .count ≡ suc (m .count)

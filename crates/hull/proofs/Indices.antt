@@ -24,7 +24,7 @@ use Rattle.model.specs.Outline.{outline}
 use Rattle.model.specs.Sound.{Sound}
 use Rattle.model.specs.Arrival.{cut, left-corner, right-corner}
 use Rattle.model.proofs.Sound.{present-below}
-use Rattle.maps.specs.Arrays.{point-at}
+use Rattle.model.specs.Maps.{point-at}
 use Rattle.maps.proofs.Outline.{outline-circuit}
 use Rattle.hull.specs.Requires.{RoomFor, OutlineFor, Ranged, Spliceable}
 

@@ -2,7 +2,6 @@ pub mod Outcomes
 pub mod Arrivals
 pub mod History
 pub mod Theorems
-pub mod Scans
 pub mod Indices
 pub mod Seeing
 pub mod Cases

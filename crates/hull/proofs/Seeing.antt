@@ -107,13 +107,14 @@ module _ (m : Map) (p : Point) where
     s = o .is-sound
 
     -- nothing is found at first, and all of the outline is ahead
-    pub at-first : {last : ℕ} {entering : Bool} → last ≡ previous-corner m (owner (m .reference)) →
+    pub at-first : {last ahead : ℕ} {entering : Bool} → ahead ≡ m .count → last ≡ previous-corner m (owner (m .reference)) →
         entering ≡ visible-at (m .xs) (m .ys) last (owner (m .reference)) p →
         SightAhead entering (record { corner = 0; found = false }) (record { corner = 0; found = false }) 0
-        (owner (m .reference)) (m .count)
+        (owner (m .reference)) ahead
     unfolding outline corners-from left-corner right-corner visible-edges
-    at-first {last} {entering} from e =
-        let start = owner (m .reference) in
+    at-first {last} {ahead} {entering} all from e =
+        rw all
+        (let start = owner (m .reference) in
         let first = outline-first s (o .two) in
         let edge : edge-link m (own last) ≡ helper start =
         rw from
@@ -125,7 +126,7 @@ module _ (m : Map) (p : Point) where
           left-is = rw (le-ltb (m .count) 2 (o .two));
           right-is = rw (le-ltb (m .count) 2 (o .two));
           visible-is = rw (le-ltb (m .count) 2 (o .two)) (omega arith);
-        }
+        })
 
     module _ {entering leaving : Bool} {left right left′ right′ : Sought} {visible visible′ a b ahead : ℕ}
         (u : SightAhead entering left right visible a ahead) (more : 0 < ahead)
@@ -160,8 +161,9 @@ module _ (m : Map) (p : Point) where
       passed-last e = passed 0 more (rw to (last-ahead m ahead a more (sym to ∙ e)))
 
       -- .. or one less
-      pub passed-one : b ≢ owner (m .reference) → SightAhead leaving left′ right′ visible′ b (ahead - 1)
-      passed-one n = passed (ahead - 1) (omega arith) (rw to (more-ahead m ahead a more (λ e. n (to ∙ e))))
+      pub passed-one : {on : ℕ} → on ≡ ahead - 1 → b ≢ owner (m .reference) → SightAhead leaving left′ right′ visible′ b on
+      passed-one one-less n =
+          rw one-less (passed (ahead - 1) (omega arith) (rw to (more-ahead m ahead a more (λ e. n (to ∙ e)))))
 
     -- none is ahead, and all is found
     pub at-end : {entering : Bool} {left right : Sought} {visible a ahead : ℕ} →

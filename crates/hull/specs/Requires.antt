@@ -13,7 +13,7 @@ use Rattle.model.specs.declared.Map.{Map}
 use Rattle.model.specs.Plane.{in-range, in-line, visible-from}
 use Rattle.model.specs.Maps.{point-limit, edge-link}
 use Rattle.model.specs.Sound.{Sound}
-use Rattle.maps.specs.Arrays.{point-at}
+use Rattle.model.specs.Maps.{point-at}
 
 -- places that hold points in range, as those of a sound map do past its last point too, and a point in range
 pub record Ranged (xs ys : List ℤ) (p : Point) : Type 0 where

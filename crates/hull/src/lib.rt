@@ -1,5 +1,5 @@
-// The arrival of a point in a map, and the outline that it leaves: why an offered point is turned down,
-// or how it arrives.
+// The arrival of a point in a map, and the outline that it leaves: why an offered point is refused, or
+// how it arrives.
 
 mod change;
 mod conditions;
@@ -27,7 +27,7 @@ ghost use Rattle.model.specs.Arrival.{arrive, arrived, later-point, offer};
 ghost use Rattle.hull.specs.Requires.{RoomFor};
 
 // The map after a point is offered to it, and what became of the point. A map that is not sound is
-// turned down; where the point is turned down, the map is as it was.
+// refused; where the point is refused, the map is as it was.
 pub fn offer(map: Map, p: Point) -> Offered
     ensures { λ r. ⌜ r ≡ offer map p ⌝ }
 {
@@ -59,7 +59,7 @@ pub fn offer_to_sound(map: Map, p: Point) -> Offered
     arrive(map, p)
 }
 
-// The map as it was, and why the point is turned down.
+// The map as it was, and why the point is refused.
 fn refused(map: Map, refusal: Refusal) -> Offered
     ensures { λ r. ⌜ r ≡ arrived (Arrival.Refused refusal) map ⌝ }
 {
@@ -69,7 +69,7 @@ fn refused(map: Map, refusal: Refusal) -> Offered
     }
 }
 
-// The arrival of a point that is not turned down.
+// The arrival of a point that is not refused.
 fn arrive(map: Map, p: Point) -> Offered
     requires { ⌜ RoomFor map p ⌝ }
     ensures { λ r. ⌜ r ≡ arrive map p ⌝ }

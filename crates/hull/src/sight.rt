@@ -44,9 +44,8 @@ pub fn seen_from(map: Map, p: Point) -> Seen
     };
     let mut visible = 0;
     let mut a = start;
-    // no more corners than this are still to be passed, a the first of them
-    let mut ahead = map.count;
-    while 0 < ahead {
+    let count = map.count;
+    for _ in 0..count {
         let b = next_corner(&map.edge, a);
         let leaving = is_visible(&map.xs, &map.ys, a, b, p);
         left = sought_at(left, entering, leaving, a);
@@ -55,9 +54,7 @@ pub fn seen_from(map: Map, p: Point) -> Seen
         entering = leaving;
         a = b;
         if b == start {
-            ahead = 0;
-        } else {
-            ahead -= 1;
+            break;
         }
     }
     Seen {
@@ -96,10 +93,10 @@ fn sought_at(sought: Sought, before: bool, after: bool, a: usize) -> Sought
     }
 }
 
-// The number of visible edges, with one edge more.
-fn plus_one_if(visible: usize, one_more: bool) -> usize
-    requires { ⌜ visible < point-limit ⌝ }
-    ensures { λ r. ⌜ r ≡ visible + one-if «one_more» ⌝ }
+// A number of edges, and one more if the test passes.
+fn plus_one_if(edges: usize, test: bool) -> usize
+    requires { ⌜ edges < point-limit ⌝ }
+    ensures { λ r. ⌜ r ≡ edges + one-if test ⌝ }
 {
-    if one_more { visible + 1 } else { visible }
+    if test { edges + 1 } else { edges }
 }

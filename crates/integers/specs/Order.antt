@@ -278,7 +278,7 @@ module _ (a b : ℤ) where
   pub eqZ-false : eqZ a b ≡ false → a ≢ b
   eqZ-false e = omega (arith, order)
 
-  -- each test is the negation of the other, turned round
+  -- each test is the negation of the other, with its sides swapped
   pub ltZ-not : ltZ a b ≡ not (leZ b a)
   ltZ-not = go (leZ b a) refl
     where

@@ -15,7 +15,7 @@ use Rattle.integers.specs.Ring.{difference-of-products, eq-of-difference
 use Rattle.integers.specs.Order.{order, +ℤ-splits, negℤ-splits, ≤-difference, <-difference}
 use Rattle.integers.specs.Order.{≤ℤ-antisym, <ℤ-weaken, ≡-≤ℤ, signs, ≤-or->, <-or-≥, ≤ℤ-total}
 
--- ---- negation turns a sign round
+-- ---- negation reverses a sign
 
 pub negℤ-pos : {a : ℤ} → a <ℤ pos 0 → pos 0 <ℤ negℤ a
 negℤ-pos {a} h = omega (arith, order, negℤ-splits a)

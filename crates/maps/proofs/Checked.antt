@@ -21,7 +21,7 @@ use Rattle.model.specs.Maps.{point, point-limit}
 use Rattle.model.specs.Sound.{arrays-whole, count-fits, points-in-range, places-vacant, links-undo}
 use Rattle.model.specs.Sound.{one-outline, reference-on-outline, others-left, no-outline, sound}
 use Rattle.maps.specs.Checks.{points-sound, links-sound, outline-sound}
-use Rattle.maps.proofs.Loops.{from-on}
+use Rattle.finite.specs.Loops.{from-on}
 
 -- arrays of the declared lengths
 pub record Whole (m : Map) : Type 0 where
@@ -49,9 +49,9 @@ module _ (m : Map) (t : T (points-sound m)) where
   count-within = leb→le (m .count) point-limit (search (and-left, and-right))
 
   -- coordinates that are vacant from place `count` on
-  clear-from : (s : List ℤ) → T (all-in (eqZ (pos 0)) (drop (m .count) s)) → (k : ℕ) → m .count ≤ k →
+  vacant-from : (s : List ℤ) → T (all-in (eqZ (pos 0)) (drop (m .count) s)) → (k : ℕ) → m .count ≤ k →
       getD s k (pos 0) ≡ pos 0
-  clear-from s c k h =
+  vacant-from s c k h =
       ⊎-elim
       (λ (l : k < length s).
       sym (eqZ-true _ _ (is-true _ (from-on s (m .count) (pos 0) (eqZ (pos 0)) .each c k h l))))
@@ -66,8 +66,8 @@ module _ (m : Map) (t : T (points-sound m)) where
       ⊎-elim
       (λ (l : k < m .count). all-at (m .count) _ ranged k l)
       (λ (l : m .count ≤ k).
-      let x = clear-from (m .xs) (search and-left) k l in
-      let y = clear-from (m .ys) (search and-right) k l in
+      let x = vacant-from (m .xs) (search and-left) k l in
+      let y = vacant-from (m .ys) (search and-right) k l in
       rw (x, y) tt)
       (lt-or-ge k (m .count))
 

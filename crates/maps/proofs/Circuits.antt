@@ -16,7 +16,8 @@ use Rattle.finite.specs.Bounded.{count}
 use Rattle.finite.specs.Counting.{count-small}
 use Rattle.finite.specs.Lists.{elem, distinct, length-distinct}
 use Rattle.finite.specs.Cycles.{Cycle, cycle-rotate}
-use Rattle.finite.specs.CycleLaws.{distinct-swap, elem-swap, cycle-change, cycle-after, cycle-before, cycle-holds, ring-of-cycle}
+use Rattle.finite.specs.ListLaws.{distinct-swap, elem-swap}
+use Rattle.finite.specs.CycleLaws.{cycle-change, cycle-after, cycle-before, cycle-holds, ring-of-cycle}
 use Rattle.orbits.specs.Reach.{Reach, here}
 use Rattle.orbits.specs.Classes.{is-closed}
 use Rattle.orbits.proofs.Reach.{reach-trans, reach-sym, by-first-link, by-second-link}

@@ -1,4 +1,3 @@
-pub mod Loops
 pub mod Checked
 pub mod Darts
 pub mod Links

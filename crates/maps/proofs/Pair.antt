@@ -13,6 +13,7 @@ use lib.Seq.{getD-set-same, getD-set-other}
 use Rattle.finite.specs.Tests.{same-or-not, of-true}
 use Rattle.finite.specs.Lists.{elem, distinct, elem-head, elem-tail, elem-cases, elem-one}
 use Rattle.finite.specs.Cycles.{Chain, Cycle}
+use Rattle.orbits.specs.Links.{link-of}
 use Rattle.model.specs.declared.Point.{Point}
 use Rattle.model.specs.declared.Map.{Map}
 use Rattle.model.specs.Plane.{in-range}
@@ -21,7 +22,7 @@ use Rattle.model.specs.Outline.{next-corner, outline}
 use Rattle.model.specs.Arrival.{join, with-point, pair}
 use Rattle.model.specs.Sound.{Sound, AllLeft}
 use Rattle.maps.proofs.Darts.{each-dart, present-owner, present-helper}
-use Rattle.maps.proofs.Edges.{link, length-join, join-first, join-second, join-other}
+use Rattle.maps.proofs.Edges.{length-join, join-first, join-second, join-other}
 use Rattle.maps.proofs.Circuits.{Circuit, circuit-outline}
 use Rattle.maps.proofs.Soundness.{sound-with-outline}
 use Rattle.maps.proofs.Points.{with-point-sound}
@@ -64,7 +65,7 @@ pair-owned {m} p s one j t =
     (same-or-not j 1)
 
 module _ {m : Map} (s : Sound m) (one : m .count ≡ 1) (p : Point) where
-  pair-link : (d : ℕ) → edge-link (pair m p) d ≡ link (join 2 1 (join 0 3 (m .edge))) d
+  pair-link : (d : ℕ) → edge-link (pair m p) d ≡ link-of (join 2 1 (join 0 3 (m .edge))) d
   unfolding pair with-point edge-link
   pair-link d = refl
 

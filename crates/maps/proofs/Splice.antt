@@ -12,7 +12,8 @@ use lib.ListN.{length}
 use Rattle.finite.specs.Tests.{decide, same-or-not}
 use Rattle.finite.specs.Lists.{elem, distinct, elem-head, elem-tail, elem-cases, elem-append-left, elem-append-right}
 use Rattle.finite.specs.Cycles.{Chain, Cycle, chain-cut, chain-join}
-use Rattle.finite.specs.CycleLaws.{distinct-head, distinct-cons, distinct-left, distinct-apart, chain-change, chain-next}
+use Rattle.finite.specs.ListLaws.{distinct-head, distinct-cons, distinct-left, distinct-apart}
+use Rattle.finite.specs.CycleLaws.{chain-change, chain-next}
 use Rattle.orbits.specs.Sets.{dart-limit}
 use Rattle.orbits.specs.Reach.{Reach}
 use Rattle.orbits.proofs.Reach.{reach-sym}
@@ -148,8 +149,8 @@ module _ {m m′ : Map} (s : Sound m) (room : m .count < point-limit) {l r : ℕ
       (λ none. absurd (none new-own-present)) (λ d f none. refl)
       (λ d o none. s .links .absent d (λ t. none (splice-present d t)))
 
-  splice-kept : (d : ℕ) → T (is-present m′ d) → T (is-present m′ (edge-link m′ d))
-  splice-kept =
+  splice-stays : (d : ℕ) → T (is-present m′ d) → T (is-present m′ (edge-link m′ d))
+  splice-stays =
       by-splice z (λ d e. T (is-present m′ d) → T (is-present m′ e)) (λ t. new-helper-present) (λ t. left-present)
       (λ t. new-own-present) (λ t. right-present) (λ d f t. t)
       (λ d o t.
@@ -189,7 +190,7 @@ module _ {m m′ : Map} (s : Sound m) (room : m .count < point-limit) {l r : ℕ
         fits = omega arith;
         owned = z .helped-owned;
         absent = splice-absent;
-        present = splice-kept;
+        present = splice-stays;
         undone = splice-undone;
         crossing = splice-crossing;
         leaving = splice-leaving;

@@ -1,5 +1,5 @@
 -- The map after an outside point: `spliced` puts the new point between its left and its right corner
--- (`spliced-splices`, with every edge link in terms of the old ones). Where the old outline runs from the
+-- (`spliced-splices`, with every edge link-of in terms of the old ones). Where the old outline runs from the
 -- right corner r to the left corner l and on over the corners that are lost, the new outline is the new
 -- point and r .. l, and the map is sound if all points lie left of that outline.
 -- Assumes nothing.
@@ -15,6 +15,7 @@ use lib.Seq.{getD-set-same, getD-set-other}
 use Rattle.finite.specs.Tests.{same-or-not, of-true}
 use Rattle.finite.specs.Lists.{elem, elem-head, elem-cases, elem-one, elem-append, elem-append-left, elem-append-right}
 use Rattle.orbits.specs.Sets.{dart-limit}
+use Rattle.orbits.specs.Links.{link-of}
 use Rattle.model.specs.declared.Point.{Point}
 use Rattle.model.specs.declared.Map.{Map}
 use Rattle.model.specs.Plane.{in-range, left-of}
@@ -23,7 +24,7 @@ use Rattle.model.specs.Outline.{next-corner, outline}
 use Rattle.model.specs.Arrival.{cut, join, with-point, spliced}
 use Rattle.model.specs.Sound.{Sound, SoundLinks, AllLeft}
 use Rattle.maps.proofs.Darts.{owner-own, is-own-own, own-differs, own-present, helper-present, present-owner}
-use Rattle.maps.proofs.Edges.{link, length-cut, cut-same, cut-other, length-join, join-first, join-second, join-other}
+use Rattle.maps.proofs.Edges.{length-cut, cut-same, cut-other, length-join, join-first, join-second, join-other}
 use Rattle.maps.proofs.Circuits.{Circuit, circuit-outline}
 use Rattle.maps.proofs.Outline.{outline-circuit, outline-next, circuit-on-outline}
 use Rattle.maps.proofs.Soundness.{sound-with-outline}
@@ -41,12 +42,12 @@ abbrev left-joined : Map → ℕ → ℕ → List ℕ
 left-joined m l r = join (own l) (helper (m .count)) (cut-edges m l r)
 
 spliced-link : (m : Map) (p : Point) (l r d : ℕ) →
-    edge-link (spliced m p l r) d ≡ link (join (own (m .count)) (helper r) (left-joined m l r)) d
+    edge-link (spliced m p l r) d ≡ link-of (join (own (m .count)) (helper r) (left-joined m l r)) d
 unfolding spliced with-point edge-link
 spliced-link m p l r d = refl
 
 module _ {m : Map} (s : Sound m) (l r : ℕ) where
-  link-is : (d : ℕ) → link (m .edge) d ≡ edge-link m d
+  link-is : (d : ℕ) → link-of (m .edge) d ≡ edge-link m d
   unfolding edge-link
   link-is d = refl
 
@@ -57,30 +58,30 @@ module _ {m : Map} (s : Sound m) (l r : ℕ) where
   left-length = length-join (own l) (helper (m .count)) (cut-edges m l r) ∙ cut-length
 
   -- a dart that was linked with own l, or with helper r, is its partner
-  partner-is : (d x : ℕ) → edge-link m d ≡ x → d ≡ link (m .edge) x
+  partner-is : (d x : ℕ) → edge-link m d ≡ x → d ≡ link-of (m .edge) x
   partner-is d x e = sym (s .links .undone d) ∙ (ap (edge-link m) e ∙ sym (link-is x))
 
-  was-linked : (d x : ℕ) → d ≡ link (m .edge) x → edge-link m d ≡ x
+  was-linked : (d x : ℕ) → d ≡ link-of (m .edge) x → edge-link m d ≡ x
   was-linked d x e = ap (edge-link m) (e ∙ link-is x) ∙ s .links .undone x
 
   -- the partner of own l is fixed
-  cut-left : (d : ℕ) → edge-link m d ≡ own l → link (cut-edges m l r) d ≡ d
+  cut-left : (d : ℕ) → edge-link m d ≡ own l → link-of (cut-edges m l r) d ≡ d
   cut-left d e =
       let first = cut-same (own l) d (m .edge) (partner-is d (own l) e) in
       ⊎-elim (λ i. cut-same (helper r) d (cut (own l) (m .edge)) i)
       (λ i. cut-other (helper r) d (cut (own l) (m .edge)) i ∙ first)
-      (same-or-not d (link (cut (own l) (m .edge)) (helper r)))
+      (same-or-not d (link-of (cut (own l) (m .edge)) (helper r)))
 
   -- where helper r leads once own l has lost its partner: to itself, or as before
-  right-cases : (link (cut (own l) (m .edge)) (helper r) ≡ helper r)
-      ⊎ (link (cut (own l) (m .edge)) (helper r) ≡ link (m .edge) (helper r))
+  right-cases : (link-of (cut (own l) (m .edge)) (helper r) ≡ helper r)
+      ⊎ (link-of (cut (own l) (m .edge)) (helper r) ≡ link-of (m .edge) (helper r))
   right-cases =
       ⊎-elim (λ e. inl (cut-same (own l) (helper r) (m .edge) e))
       (λ n. inr (cut-other (own l) (helper r) (m .edge) n))
-      (same-or-not (helper r) (link (m .edge) (own l)))
+      (same-or-not (helper r) (link-of (m .edge) (own l)))
 
   -- so is that of helper r, but own l itself
-  cut-right : (d : ℕ) → d ≢ own l → edge-link m d ≡ helper r → link (cut-edges m l r) d ≡ d
+  cut-right : (d : ℕ) → d ≢ own l → edge-link m d ≡ helper r → link-of (cut-edges m l r) d ≡ d
   cut-right d other e =
       cut-same (helper r) d (cut (own l) (m .edge))
       (partner-is d (helper r) e ∙
@@ -89,7 +90,7 @@ module _ {m : Map} (s : Sound m) (l r : ℕ) where
 
   -- all else is linked as before
   cut-elsewhere : (d : ℕ) → d ≢ helper r → edge-link m d ≢ own l → edge-link m d ≢ helper r →
-      link (cut-edges m l r) d ≡ edge-link m d
+      link-of (cut-edges m l r) d ≡ edge-link m d
   cut-elsewhere d n i j =
       cut-other (helper r) d (cut (own l) (m .edge))
       (λ e.
@@ -117,7 +118,7 @@ module _ {m : Map} (s : Sound m) (room : m .count < point-limit) (p : Point) (l 
       (λ (n : j ≢ m .count). omega (arith, s .links .owned j (rw (spliced-helper-old j n) at t)))
       (same-or-not j (m .count))
 
-  -- ---- how the new edge link differs from the old one
+  -- ---- how the new edge link-of differs from the old one
 
   module _ (left-helped : T (has-helper m l)) (right-helped : T (has-helper m r)) where
     left-old : l < m .count
@@ -128,11 +129,11 @@ module _ {m : Map} (s : Sound m) (room : m .count < point-limit) (p : Point) (l 
 
     -- the new point's own dart and helper r are not among the darts joined first, nor the other way round
     unjoined : (d : ℕ) → d ≢ own (m .count) → d ≢ helper r →
-        edge-link (spliced m p l r) d ≡ link (left-joined m l r) d
+        edge-link (spliced m p l r) d ≡ link-of (left-joined m l r) d
     unjoined d i j = spliced-link m p l r d ∙ join-other (own (m .count)) (helper r) (left-joined m l r) d i j
 
     uncut : (d : ℕ) → d ≢ own l → d ≢ helper r → d ≢ own (m .count) → d ≢ helper (m .count) →
-        edge-link (spliced m p l r) d ≡ link (cut-edges m l r) d
+        edge-link (spliced m p l r) d ≡ link-of (cut-edges m l r) d
     uncut d i j k n = unjoined d k j ∙ join-other (own l) (helper (m .count)) (cut-edges m l r) d i n
 
     -- a dart that was linked with own l or helper r is none of the new ones
@@ -262,7 +263,7 @@ module _ {m : Map} (s : Sound m) (two : 2 ≤ m .count) (room : m .count < point
   spliced-left stay from-left to-right a k h b not-start not-end =
       ⊎-elim at-new
       (λ o.
-      ⊎-elim at-kept (λ (i : T (elem a (l ∷ []))). at-left (elem-one a l i)) (elem-append a (r ∷ between) (l ∷ []) o))
+      ⊎-elim at-remaining (λ (i : T (elem a (l ∷ []))). at-left (elem-one a l i)) (elem-append a (r ∷ between) (l ∷ []) o))
       (elem-cases a (m .count) (arc r between l) h)
     where
       next : ℕ → ℕ
@@ -288,8 +289,8 @@ module _ {m : Map} (s : Sound m) (two : 2 ≤ m .count) (room : m .count < point
           rw (to, e, spliced-point-old l left-below, spliced-point-new, spliced-point-old k below)
           (from-left k below (λ i. not-start (i ∙ sym e)))
 
-      at-kept : T (elem a (r ∷ between)) → Left
-      at-kept i =
+      at-remaining : T (elem a (r ∷ between)) → Left
+      at-remaining i =
           let on =
           circuit-on-outline s two (r ∷ between ++ l ∷ lost) c a (elem-append-left a (r ∷ between) (l ∷ lost) i) in
           let here = outline-circuit s two .below a on in

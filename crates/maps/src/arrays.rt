@@ -7,7 +7,8 @@ use orbits::DART_LIMIT;
 ghost use mathlib.Core.Path.{_≡_};
 ghost use Rattle.finite.specs.Bounded.{table};
 ghost use Rattle.orbits.specs.Sets.{dart-limit};
-ghost use Rattle.maps.specs.Arrays.{other-at, present-at};
+ghost use Rattle.orbits.specs.Links.{test-of};
+ghost use Rattle.model.specs.Maps.{point-link-by, present-by};
 
 // Links that leave every dart where it is.
 pub fn fixed_links() -> [usize; DART_LIMIT]
@@ -22,7 +23,7 @@ pub fn fixed_links() -> [usize; DART_LIMIT]
 
 // The point links that follow from the helpers.
 pub fn point_links(helpers: &[bool]) -> [usize; DART_LIMIT]
-    ensures { λ r. ⌜ r ≡ table dart-limit (other-at (now (helpers .entry))) ⌝ }
+    ensures { λ r. ⌜ r ≡ table dart-limit (point-link-by (test-of (now (helpers .entry)))) ⌝ }
 {
     let mut links = [0usize; DART_LIMIT];
     for d in 0..DART_LIMIT {
@@ -33,7 +34,7 @@ pub fn point_links(helpers: &[bool]) -> [usize; DART_LIMIT]
 
 // Which darts are present in a map of so many points.
 pub fn present_darts(helpers: &[bool], count: usize) -> [bool; DART_LIMIT]
-    ensures { λ r. ⌜ r ≡ table dart-limit (present-at (now (helpers .entry)) count) ⌝ }
+    ensures { λ r. ⌜ r ≡ table dart-limit (present-by (test-of (now (helpers .entry))) count) ⌝ }
 {
     let mut present = [false; DART_LIMIT];
     for d in 0..DART_LIMIT {

@@ -1,11 +1,11 @@
 // The tests of a sound map that are about its darts and their links, each with what it asks of one
 // dart or one point.
 
-use super::reading::edge_link;
 use super::reading::has_helper;
 use super::reading::is_present;
 use model::Map;
 use orbits::DART_LIMIT;
+use orbits::link_of;
 ghost use mathlib.Core.Path.{_≡_};
 ghost use mathlib.Core.Bool.{not, _&&_, _||_};
 ghost use Prim.Native.Nat.{_%_, _≤_};
@@ -15,7 +15,8 @@ ghost use Rattle.finite.specs.Tests.{_⇒_};
 ghost use Rattle.finite.specs.Lists.{all-in};
 ghost use Rattle.model.specs.Maps.{own, owner, point-limit};
 ghost use Rattle.model.specs.Sound.{absent-fixed, edges-cross, helpers-owned, links-undo, lone-fixed};
-ghost use Rattle.maps.specs.Arrays.{edge-at, helper-at, present-at};
+ghost use Rattle.orbits.specs.Links.{link-of, test-of};
+ghost use Rattle.model.specs.Maps.{present-by};
 ghost use Rattle.maps.specs.Checks.{links-sound};
 
 // All of these tests.
@@ -60,9 +61,9 @@ fn absent_fixed(m: Map) -> bool
 }
 
 fn is_present_or_fixed<'a>(helpers: &'a [bool], edge: &'a [usize], count: usize, d: usize) -> bool
-    ensures { λ r. ⌜ r ≡ (present-at (now (helpers .entry)) count d || eqb (edge-at (now (edge .entry)) d) d) ⌝ }
+    ensures { λ r. ⌜ r ≡ (present-by (test-of (now (helpers .entry))) count d || eqb (link-of (now (edge .entry)) d) d) ⌝ }
 {
-    is_present(helpers, count, d) || edge_link(edge, d) == d
+    is_present(helpers, count, d) || link_of(edge, d) == d
 }
 
 // Links of present darts are present darts, and the edge link taken twice comes back.
@@ -81,13 +82,13 @@ fn links_undo(m: Map) -> bool
 
 fn link_undoes<'a>(helpers: &'a [bool], edge: &'a [usize], count: usize, d: usize) -> bool
     ensures { λ r. ⌜ r ≡
-        (present-at (now (helpers .entry)) count d
-        ⇒ (present-at (now (helpers .entry)) count (edge-at (now (edge .entry)) d)
-        && eqb (edge-at (now (edge .entry)) (edge-at (now (edge .entry)) d)) d)) ⌝ }
+        (present-by (test-of (now (helpers .entry))) count d
+        ⇒ (present-by (test-of (now (helpers .entry))) count (link-of (now (edge .entry)) d)
+        && eqb (link-of (now (edge .entry)) (link-of (now (edge .entry)) d)) d)) ⌝ }
 {
     if is_present(helpers, count, d) {
-        let e = edge_link(edge, d);
-        is_present(helpers, count, e) && edge_link(edge, e) == d
+        let e = link_of(edge, d);
+        is_present(helpers, count, e) && link_of(edge, e) == d
     } else {
         true
     }
@@ -110,14 +111,14 @@ fn edges_cross(m: Map) -> bool
 
 fn edge_crosses<'a>(helpers: &'a [bool], edge: &'a [usize], count: usize, d: usize) -> bool
     ensures { λ r. ⌜ r ≡
-        (present-at (now (helpers .entry)) count d && not (eqb (edge-at (now (edge .entry)) d) d)
-        ⇒ not (eqb (d % 2) (edge-at (now (edge .entry)) d % 2))
-        && not (eqb (owner d) (owner (edge-at (now (edge .entry)) d)))) ⌝ }
+        (present-by (test-of (now (helpers .entry))) count d && not (eqb (link-of (now (edge .entry)) d) d)
+        ⇒ not (eqb (d % 2) (link-of (now (edge .entry)) d % 2))
+        && not (eqb (owner d) (owner (link-of (now (edge .entry)) d)))) ⌝ }
 {
     if !is_present(helpers, count, d) {
         return true;
     }
-    let e = edge_link(edge, d);
+    let e = link_of(edge, d);
     if e == d {
         return true;
     }
@@ -141,11 +142,11 @@ fn lone_fixed(m: Map) -> bool
 fn is_paired_or_fixed<'a>(helpers: &'a [bool], edge: &'a [usize], k: usize) -> bool
     requires { ⌜ k ≤ point-limit ⌝ }
     ensures { λ r. ⌜ r ≡
-        (not (helper-at (now (helpers .entry)) k) ⇒ eqb (edge-at (now (edge .entry)) (own k)) (own k)) ⌝ }
+        (not (test-of (now (helpers .entry)) k) ⇒ eqb (link-of (now (edge .entry)) (own k)) (own k)) ⌝ }
 {
     if has_helper(helpers, k) {
         true
     } else {
-        edge_link(edge, 2 * k) == 2 * k
+        link_of(edge, 2 * k) == 2 * k
     }
 }

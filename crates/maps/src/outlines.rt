@@ -3,7 +3,6 @@
 use super::arrays::point_links;
 use super::arrays::present_darts;
 use super::linkage::is_bare_from;
-use super::reading::edge_link;
 use super::reading::is_present;
 use super::reading::next_corner;
 use super::reading::point_at;
@@ -11,6 +10,7 @@ use model::Map;
 use model::NO_DART;
 use orbits::DART_LIMIT;
 use orbits::DartSet;
+use orbits::link_of;
 use orbits::part;
 use orbits::part_counts;
 use plane::is_left_of;
@@ -22,7 +22,8 @@ ghost use Rattle.orbits.specs.Sets.{dart-limit};
 ghost use Rattle.model.specs.Plane.{in-range};
 ghost use Rattle.model.specs.Maps.{point, point-limit};
 ghost use Rattle.model.specs.Sound.{links-undo, no-outline, one-outline, others-left, reference-on-outline};
-ghost use Rattle.maps.specs.Arrays.{aside-at, moved-at, point-at};
+ghost use Rattle.maps.specs.Checks.{aside-at, moved-at};
+ghost use Rattle.model.specs.Maps.{point-at};
 ghost use Rattle.maps.specs.Checks.{outline-sound};
 
 // All of these tests: the last sentences go by the number of points.
@@ -147,7 +148,7 @@ fn is_outside_or_moved<'a>(darts: DartSet, edge: &'a [usize], point: &'a [usize]
     ensures { λ r. ⌜ r ≡ moved-at darts (now (edge .entry)) (now (point .entry)) e ⌝ }
 {
     if darts.contains(e) {
-        edge_link(edge, e) != e && edge_link(point, e) != e
+        link_of(edge, e) != e && link_of(point, e) != e
     } else {
         true
     }

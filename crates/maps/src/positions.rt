@@ -13,7 +13,7 @@ ghost use lib.ListN.{drop};
 ghost use Rattle.integers.specs.Order.{eqZ};
 ghost use Rattle.finite.specs.Lists.{all-in};
 ghost use Rattle.model.specs.Sound.{count-fits, places-vacant, points-differ, points-in-range};
-ghost use Rattle.maps.specs.Arrays.{first-at, new-at};
+ghost use Rattle.maps.specs.Checks.{first-at, new-at};
 ghost use Rattle.maps.specs.Checks.{points-sound};
 
 // All of these tests.
@@ -23,14 +23,14 @@ pub fn points_sound(m: Map) -> bool
     count_fits(m) && points_in_range(m) && points_differ(m) && places_vacant(m)
 }
 
-// Points are at most 512,
+// Points are at most 512.
 fn count_fits(m: Map) -> bool
     ensures { λ r. ⌜ r ≡ count-fits m ⌝ }
 {
     m.count <= POINT_LIMIT
 }
 
-// in range,
+// Every point is in range.
 fn points_in_range(m: Map) -> bool
     ensures { λ r. ⌜ r ≡ points-in-range m ⌝ }
 {
@@ -43,7 +43,7 @@ fn points_in_range(m: Map) -> bool
     true
 }
 
-// and no two are equal.
+// No two points are equal.
 fn points_differ(m: Map) -> bool
     ensures { λ r. ⌜ r ≡ points-differ m ⌝ }
 {

@@ -2,21 +2,24 @@
 // no dart of the map has no helper, is absent, is left where it is, and lies at 0, 0.
 
 use model::Point;
+use orbits::link_of;
 ghost use mathlib.Core.Path.{_≡_};
 ghost use lib.IntN.{pos};
 ghost use lib.ListN.{getD};
-ghost use Rattle.maps.specs.Arrays.{edge-at, helper-at, next-at, other-at, point-at, present-at, previous-at};
+ghost use Rattle.orbits.specs.Links.{link-of, test-of};
+ghost use Rattle.model.specs.Outline.{next-by, previous-by};
+ghost use Rattle.model.specs.Maps.{point-at, point-link-by, present-by};
 
 // Whether point k has a helper dart.
 pub fn has_helper(helpers: &[bool], k: usize) -> bool
-    ensures { λ r. ⌜ r ≡ helper-at (now (helpers .entry)) k ⌝ }
+    ensures { λ r. ⌜ r ≡ test-of (now (helpers .entry)) k ⌝ }
 {
     if k < helpers.len() { helpers[k] } else { false }
 }
 
 // Whether dart d is present in a map of so many points.
 pub fn is_present(helpers: &[bool], count: usize, d: usize) -> bool
-    ensures { λ r. ⌜ r ≡ present-at (now (helpers .entry)) count d ⌝ }
+    ensures { λ r. ⌜ r ≡ present-by (test-of (now (helpers .entry))) count d ⌝ }
 {
     if d / 2 < count {
         d % 2 == 0 || has_helper(helpers, d / 2)
@@ -25,16 +28,9 @@ pub fn is_present(helpers: &[bool], count: usize, d: usize) -> bool
     }
 }
 
-// The edge link of dart d.
-pub fn edge_link(edge: &[usize], d: usize) -> usize
-    ensures { λ r. ⌜ r ≡ edge-at (now (edge .entry)) d ⌝ }
-{
-    if d < edge.len() { edge[d] } else { d }
-}
-
 // The point link of dart d.
 pub fn point_link(helpers: &[bool], d: usize) -> usize
-    ensures { λ r. ⌜ r ≡ other-at (now (helpers .entry)) d ⌝ }
+    ensures { λ r. ⌜ r ≡ point-link-by (test-of (now (helpers .entry))) d ⌝ }
 {
     if has_helper(helpers, d / 2) {
         if d % 2 == 0 { d + 1 } else { d - 1 }
@@ -45,10 +41,10 @@ pub fn point_link(helpers: &[bool], d: usize) -> usize
 
 // The corner after corner a.
 pub fn next_corner(edge: &[usize], a: usize) -> usize
-    ensures { λ r. ⌜ r ≡ next-at (now (edge .entry)) a ⌝ }
+    ensures { λ r. ⌜ r ≡ next-by (link-of (now (edge .entry))) a ⌝ }
 {
     if a < edge.len() {
-        edge_link(edge, 2 * a) / 2
+        link_of(edge, 2 * a) / 2
     } else {
         a
     }
@@ -56,10 +52,10 @@ pub fn next_corner(edge: &[usize], a: usize) -> usize
 
 // The corner before corner a.
 pub fn previous_corner(edge: &[usize], a: usize) -> usize
-    ensures { λ r. ⌜ r ≡ previous-at (now (edge .entry)) a ⌝ }
+    ensures { λ r. ⌜ r ≡ previous-by (link-of (now (edge .entry))) a ⌝ }
 {
     if a < edge.len() {
-        edge_link(edge, 2 * a + 1) / 2
+        link_of(edge, 2 * a + 1) / 2
     } else {
         a
     }

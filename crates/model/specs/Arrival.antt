@@ -12,20 +12,12 @@ use Rattle.model.specs.declared.Refusal.{Refusal}
 use Rattle.model.specs.declared.Point.{Point}
 use Rattle.model.specs.declared.Map.{Map}
 use Rattle.model.specs.declared.Arrival.{Arrival}
-use Rattle.model.specs.declared.Oriented.{Oriented}
 use Rattle.model.specs.declared.Offered.{Offered}
 use Rattle.model.specs.Refusals.{Rule, _when_, unless}
-use Rattle.model.specs.Plane.{in-range, same-point, in-line, orientation}
+use Rattle.model.specs.Plane.{in-range, same-point, in-line}
 use Rattle.model.specs.Maps.{point-limit, own, helper, point}
 use Rattle.model.specs.Outline.{previous-corner, outline, sees, visible-edges}
 use Rattle.model.specs.Reading.{unsound}
-
--- the orientation of three points, or number 3
-unfoldable pub oriented : Point → Point → Point → Oriented
-oriented a b c =
-    unless Oriented.Refused
-    ((Refusal.OutOfRange when not (in-range a && in-range b && in-range c)) ∷ [])
-    (Oriented.Value (orientation a b c))
 
 -- the edge links with d's partner fixed, and with a and b each other's partner
 unfoldable pub cut : ℕ → List ℕ → List ℕ

@@ -1,14 +1,17 @@
--- Maps, in the order of this page: the limits; the darts of a point; the points, the present
--- darts and the two links of a map; the empty map.
+-- Maps, in the order of this page: the limits; the darts of a point; points, present darts and point
+-- links by coordinates and helpers alone, for code that is lent a map's arrays; the points, the helpers,
+-- the present darts and the two links of a map; the empty map.
 -- Document 01, "What the engine holds" and "A sound map". A dart that the document calls own is 2k
 -- and a helper 2k + 1, for the point k that owns them. Assumes nothing.
 use mathlib.Core.Bool.{Bool, false, cond, _&&_, _||_}
+use mathlib.Core.List.{List}
 use Prim.Native.Nat.{ℕ, _+_, _*_, _/_, _%_}
 use lib.Dec.{ltb, eqb}
-use lib.IntN.{pos}
+use lib.IntN.{ℤ, pos}
 use lib.ListN.{getD, replicate}
 use Rattle.finite.specs.Bounded.{table}
 use Rattle.orbits.specs.Sets.{dart-limit}
+use Rattle.orbits.specs.Links.{link-of, test-of}
 use Rattle.model.specs.declared.Point.{Point}
 use Rattle.model.specs.declared.Map.{Map}
 
@@ -38,24 +41,33 @@ is-own d = eqb (d % 2) 0
 unfoldable pub other-dart : ℕ → ℕ
 other-dart d = cond (is-own d) (helper (owner d)) (own (owner d))
 
--- the point numbered k
-unfoldable pub point : Map → ℕ → Point
-point m k = record { x = getD (m .xs) k (pos 0); y = getD (m .ys) k (pos 0) }
-
-unfoldable pub has-helper : Map → ℕ → Bool
-has-helper m k = getD (m .helpers) k false
+-- the point numbered k, by its coordinates
+abbrev pub point-at : List ℤ → List ℤ → ℕ → Point
+point-at xs ys k = record { x = getD xs k (pos 0); y = getD ys k (pos 0) }
 
 -- "Dart 2k is present for every point k. A helper is present or not. No other dart is present."
-unfoldable pub is-present : Map → ℕ → Bool
-is-present m d = ltb (owner d) (m .count) && (is-own d || has-helper m (owner d))
-
--- the edge link; a number that is no dart is left where it is
-unfoldable pub edge-link : Map → ℕ → ℕ
-edge-link m d = getD (m .edge) d d
+abbrev pub present-by : (ℕ → Bool) → ℕ → ℕ → Bool
+present-by helped count d = ltb (owner d) count && (is-own d || helped (owner d))
 
 -- "The point link joins 2k and 2k + 1 where the helper is present; else it fixes 2k."
+abbrev pub point-link-by : (ℕ → Bool) → ℕ → ℕ
+point-link-by helped d = cond (helped (owner d)) (other-dart d) d
+
+-- the same of a map; both links leave a number that is no dart where it is
+unfoldable pub point : Map → ℕ → Point
+point m = point-at (m .xs) (m .ys)
+
+unfoldable pub has-helper : Map → ℕ → Bool
+has-helper m = test-of (m .helpers)
+
+unfoldable pub is-present : Map → ℕ → Bool
+is-present m = present-by (has-helper m) (m .count)
+
+unfoldable pub edge-link : Map → ℕ → ℕ
+edge-link m = link-of (m .edge)
+
 unfoldable pub point-link : Map → ℕ → ℕ
-point-link m d = cond (has-helper m (owner d)) (other-dart d) d
+point-link m = point-link-by (has-helper m)
 
 -- "edge link, then point link"
 unfoldable pub face-link : Map → ℕ → ℕ

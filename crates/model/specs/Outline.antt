@@ -15,12 +15,18 @@ use Rattle.model.specs.declared.Map.{Map}
 use Rattle.model.specs.Plane.{visible-from, lower}
 use Rattle.model.specs.Maps.{own, helper, owner, point, edge-link}
 
--- the end of the edge that leaves a corner, and the start of the edge that enters it
+-- the end of the edge that leaves a corner, and the start of the edge that enters it, by the edge link
+abbrev pub next-by : (ℕ → ℕ) → ℕ → ℕ
+next-by edge a = owner (edge (own a))
+
+abbrev pub previous-by : (ℕ → ℕ) → ℕ → ℕ
+previous-by edge a = owner (edge (helper a))
+
 unfoldable pub next-corner : Map → ℕ → ℕ
-next-corner m a = owner (edge-link m (own a))
+next-corner m = next-by (edge-link m)
 
 unfoldable pub previous-corner : Map → ℕ → ℕ
-previous-corner m a = owner (edge-link m (helper a))
+previous-corner m = previous-by (edge-link m)
 
 -- a, the corner after it, and so on round to the corner before it
 unfoldable pub corners-from : Map → ℕ → List ℕ

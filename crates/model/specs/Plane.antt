@@ -1,13 +1,18 @@
 -- Points of the plane, in the order of this page: the coordinate limit and the range; equal
--- points; orientation and its three cases; strictly between two points; lower than a point.
+-- points; orientation, its three cases and the answer of the call; strictly between two points;
+-- lower than a point.
 -- Document 01, "Orientation and arrival" and the coordinates of "What the engine holds". The
 -- numbers are whole numbers without a bound: a `Point` of antt holds two of ℤ. Assumes nothing.
 use mathlib.Core.Bool.{Bool, not, _&&_, _||_}
+use mathlib.Core.List.{[], _∷_}
 use Prim.Native.Nat.{ℕ, _*_}
 use lib.IntN.{ℤ, pos, negℤ, _+ℤ_, _-ℤ_, _*ℤ_}
 use lib.Signed.{ltZ, leZ}
 use Rattle.integers.specs.Order.{eqZ}
+use Rattle.model.specs.declared.Refusal.{Refusal}
 use Rattle.model.specs.declared.Point.{Point}
+use Rattle.model.specs.declared.Oriented.{Oriented}
+use Rattle.model.specs.Refusals.{_when_, unless}
 
 -- "from -1,000,000 to 1,000,000"
 abbrev pub coordinate-limit : ℕ
@@ -49,6 +54,13 @@ visible-from a b c = ltZ (orientation a b c) (pos 0)
 -- "zero is in line": neither of the two
 unfoldable pub in-line : Point → Point → Point → Bool
 in-line a b c = not (left-of a b c) && not (visible-from a b c)
+
+-- the orientation of three points, or number 3
+unfoldable pub oriented : Point → Point → Point → Oriented
+oriented a b c =
+    unless Oriented.Refused
+    ((Refusal.OutOfRange when not (in-range a && in-range b && in-range c)) ∷ [])
+    (Oriented.Value (orientation a b c))
 
 -- p lies in line with a and b and strictly between them: a and b lie on opposite sides of p
 unfoldable pub strictly-between : Point → Point → Point → Bool

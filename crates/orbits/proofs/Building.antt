@@ -3,7 +3,7 @@
 -- stays such when a moved dart is released (involutions).
 -- Assumes nothing.
 --
--- If f moves a, then f after an transposition of f a and a leaves f a where it is, and else moves only
+-- If f moves a, then f after a transposition of f a and a leaves f a where it is, and else moves only
 -- what f moves; and f is that after the same transposition.
 use mathlib.Core.Path.{_≡_, sym, _∙_, ap, subst}
 use mathlib.Core.Logic.{_⊎_, inl, inr, ⊎-elim, _≢_}

@@ -17,14 +17,15 @@ use Rattle.finite.specs.Tests.{and-left, and-right, and-both, of-true, decide, 
 use Rattle.finite.specs.Bounded.{one-if, sum, count, lt-or-ge}
 use Rattle.finite.specs.Counting.{count-small}
 use Rattle.orbits.specs.Reach.{Reach, by-one, by-two}
-use Rattle.orbits.specs.Classes.{is-least, classes, is-closed, closed-walks}
+use Rattle.finite.specs.Loops.{Tests}
+use Rattle.orbits.specs.Classes.{is-least, classes, is-fixed, is-closed, closed-walks}
 use Rattle.orbits.specs.Sets.{dart-limit}
 use Rattle.orbits.specs.Links.{Dart, Permutes, link-of, test-of, Permuted, part-counts}
-use Rattle.orbits.specs.Queue.{Queue, Closed, Ready, Visited, Movable, BothMove, AllMove}
+use Rattle.orbits.specs.Queue.{Queue, Closed, Ready, Visited, Movable, both-move-at}
 use Rattle.orbits.specs.declared.PartCounts.{PartCounts}
 use Rattle.orbits.proofs.Reach.{Symmetric, reach-trans, reach-sym, double-to-single, single-to-double}
 use Rattle.orbits.proofs.Permutations.{orbit-keeps, part-keeps, part-symmetric}
-use Rattle.orbits.proofs.Classes.{least-iff-first, same-classes, closed-iff}
+use Rattle.orbits.proofs.Classes.{least-iff-first, same-classes, both-move, closed-iff}
 use Rattle.orbits.proofs.Queue.{queue-small, grown-seen, grown-cases}
 use Rattle.orbits.proofs.Parts.{none-seen, queue-none, closed-none, closed-reach, part-within}
 
@@ -219,19 +220,23 @@ module _ {f g : List ℕ} {n : ℕ} {present : ℕ → Bool} (p : Permuted n pre
             (λ t. and-both (present a && shut) _ (and-both (present a) shut a-present t) a-least)
 
         -- so its part is closed just where both links move the new darts
-        closed-is : (r : Bool) → T r ↔ AllMove (link-of f) (link-of g) order₁ end end₁ →
+        closed-is : (r : Bool) → Tests r (both-move-at (link-of f) (link-of g) order₁) end end₁ →
             is-closed (link-of f) (link-of g) n a ≡ r
         closed-is r moves =
             same-test (is-closed (link-of f) (link-of g) n a) r
-            (λ t. moves .1
-            (λ i h m. closed-iff (symmetric .keeps) a-dart .0 t (getD order₁ i 0) (v .grown .added i h m)))
+            (λ t. moves .whole
+            (λ i h m.
+            both-move (link-of f) (link-of g) (getD order₁ i 0) .1
+            (closed-iff (symmetric .keeps) a-dart .0 t (getD order₁ i 0) (v .grown .added i h m))))
             (λ t. closed-iff (symmetric .keeps) a-dart .1
             (λ e s.
             let at = reached-new e s in
-            subst (BothMove (link-of f) (link-of g)) (at .3) (moves .0 t (at .0) (at .1) (at .2))))
+            both-move (link-of f) (link-of g) e .0
+            (subst (λ (d : ℕ). T (not (is-fixed (link-of f) d) && not (is-fixed (link-of g) d))) (at .3)
+            (moves .each t (at .0) (at .1) (at .2)))))
 
         -- past it, with its part counted
-        pub counting-part : (r : Bool) → T r ↔ AllMove (link-of f) (link-of g) order₁ end end₁ →
+        pub counting-part : (r : Bool) → Tests r (both-move-at (link-of f) (link-of g) order₁) end end₁ →
             Counting f g n present order₁ seen₁ end₁ (parts + 1) (closed + boolByte r) (a + 1)
         counting-part r moves =
             record {

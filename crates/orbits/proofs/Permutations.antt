@@ -92,7 +92,7 @@ module _ {n : ℕ} {present : ℕ → Bool} where
         twice = λ {d} k. transposition-twice x y d;
       }
 
--- f after an transposition of x and y
+-- f after a transposition of x and y
 abbrev pub transposed : ℕ → ℕ → (ℕ → ℕ) → ℕ → ℕ
 transposed x y f d = f (transposition x y d)
 

@@ -20,7 +20,7 @@ use Rattle.orbits.specs.Reach.{Reach, here, by-two}
 use Rattle.orbits.specs.Classes.{is-fixed}
 use Rattle.orbits.specs.Sets.{dart-limit, set-of, no-darts, with-dart}
 use Rattle.orbits.specs.Links.{link-of, test-of, Followable}
-use Rattle.orbits.specs.Queue.{Queue, Grown, LinksSeen, Ready, Visited, Put, queued, AllMove}
+use Rattle.orbits.specs.Queue.{Queue, Grown, LinksSeen, Ready, Visited, Put, queued}
 use Rattle.orbits.proofs.Links.{link-read}
 use Rattle.orbits.proofs.Sets.{no-darts-set, with-set-of}
 use Rattle.orbits.proofs.Reach.{reach-trans, by-first-link, by-second-link}
@@ -275,20 +275,3 @@ pub queued-more : (order : List ℕ) (i : ℕ) →
 unfolding queued any
 queued-more order i =
     with-set-of (queued order i) (getD order i 0) ∙ ap (λ (k : ℕ). set-of (queued order k)) (sym (add-one i))
-
--- ---- darts that both links move
-
-pub fixed-is : (f : ℕ → ℕ) (d : ℕ) → is-fixed f d ≡ true → f d ≡ d
-unfolding is-fixed
-fixed-is f d e = eqb-true (f d) d e
-
-pub all-move-more : (f g : ℕ → ℕ) (order : List ℕ) (from i : ℕ) → AllMove f g order from i →
-    is-fixed f (getD order i 0) ≡ false → is-fixed g (getD order i 0) ≡ false → AllMove f g order from (i + 1)
-unfolding is-fixed
-all-move-more f g order from i m s t k l h =
-    ⊎-elim
-    (λ (b : k < i). m k l b)
-    (λ (b : i ≤ k).
-    let e : k ≡ i = omega arith in
-    rw e (eqb-false (f (getD order i 0)) (getD order i 0) s, eqb-false (g (getD order i 0)) (getD order i 0) t))
-    (lt-or-ge k i)

@@ -16,7 +16,8 @@ use Rattle.finite.specs.Bounded.{count}
 use Rattle.finite.specs.Counting.{least-passing}
 use Rattle.finite.specs.Lists.{elem, distinct, ring, elem-head, elem-cases}
 use Rattle.finite.specs.Cycles.{Chain, Cycle}
-use Rattle.finite.specs.CycleLaws.{distinct-cons, cycle-holds, ring-of-cycle}
+use Rattle.finite.specs.ListLaws.{distinct-cons}
+use Rattle.finite.specs.CycleLaws.{cycle-holds, ring-of-cycle}
 use Rattle.orbits.specs.Reach.{Reach, here, by-one}
 use Rattle.orbits.proofs.Reach.{Dart, reach-dart, reach-trans, by-one-link}
 use Rattle.orbits.proofs.Permutations.{Permutes, iterate, iterate-after, comes-back, orbit-keeps}

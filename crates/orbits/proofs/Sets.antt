@@ -89,12 +89,12 @@ unfolding with-bit has
 with-by-mask s d n h e size =
     (λ i. record { words = set (s .words) (d / 64) (word i); size = size i }) ∙ sym (with-new s d h e)
   where
-    clear : getD (s .words) (d / 64) 0 / 2 ^ (d % 64) % 2 ≢ 1
-    clear = eqb-false (getD (s .words) (d / 64) 0 / 2 ^ (d % 64) % 2) 1 (rw (lt-ltb d dart-limit h) at e)
+    unset : getD (s .words) (d / 64) 0 / 2 ^ (d % 64) % 2 ≢ 1
+    unset = eqb-false (getD (s .words) (d / 64) 0 / 2 ^ (d % 64) % 2) 1 (rw (lt-ltb d dart-limit h) at e)
 
     word : bitOr (getD (s .words) (d / 64) 0) ((1 * 2 ^ (d % 64)) % 2 ^ 64) ≡
         getD (s .words) (d / 64) 0 + 2 ^ (d % 64)
-    word = rw (mask-is (d % 64) (omega arith)) (or-bit (getD (s .words) (d / 64) 0) (d % 64) clear)
+    word = rw (mask-is (d % 64) (omega arith)) (or-bit (getD (s .words) (d / 64) 0) (d % 64) unset)
 
 -- ---- the set of the darts that pass a test
 

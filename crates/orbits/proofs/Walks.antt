@@ -31,7 +31,7 @@ use Rattle.orbits.proofs.Classes.{closed-iff}
 use Rattle.orbits.proofs.Permutations.{Permutes, Involutes, involution-permutes, part-keeps, part-holds}
 
 -- In the part of a, g fixes only what f fixes, so a walk comes by an edge step to no dart that g
--- fixes. Without this it may turn there and come home: if f transpositions 0 and 1 and g fixes both, the
+-- fixes. Without this it may go back there and come home: if f swaps 0 and 1 and g fixes both, the
 -- walk from 0 makes four moves, to 1, 1, 0 and 0.
 abbrev pub OpenEnds : (ℕ → ℕ) → (ℕ → ℕ) → ℕ → Type 0
 OpenEnds f g a = (d : ℕ) → Reach (by-two f g) a d → g d ≡ d → f d ≡ d

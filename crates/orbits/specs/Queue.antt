@@ -5,14 +5,14 @@
 -- dart is put twice, and what is reached from a dart is found in as many steps as it has darts.
 -- Assumes nothing.
 use mathlib.Core.Path.{_≡_}
-use mathlib.Core.Logic.{_≢_}
-use mathlib.Core.Bool.{Bool}
+use mathlib.Core.Bool.{Bool, not, _&&_}
 use mathlib.Core.List.{List}
 use Prim.Native.Nat.{ℕ, _≤_, _<_}
 use lib.Dec.{T, eqb}
 use lib.ListN.{length, getD}
 use Rattle.finite.specs.Bounded.{any, count}
 use Rattle.orbits.specs.Reach.{Reach, by-two}
+use Rattle.orbits.specs.Classes.{is-fixed}
 use Rattle.orbits.specs.Sets.{dart-limit}
 use Rattle.orbits.specs.Links.{link-of, test-of, Followable}
 
@@ -70,9 +70,6 @@ pub record Movable (f g order : List ℕ) (from to : ℕ) : Type 0 where
   pub room : to ≤ dart-limit
   pub below : (i : ℕ) → from ≤ i → i < to → getD order i 0 < dart-limit
 
--- both links move a dart; they move each dart there
-abbrev pub BothMove : (ℕ → ℕ) → (ℕ → ℕ) → ℕ → Type 0
-BothMove f g d = (f d ≢ d) × (g d ≢ d)
-
-abbrev pub AllMove : (ℕ → ℕ) → (ℕ → ℕ) → List ℕ → ℕ → ℕ → Type 0
-AllMove f g order from to = (i : ℕ) → from ≤ i → i < to → BothMove f g (getD order i 0)
+-- both links move the dart at place i
+abbrev pub both-move-at : (ℕ → ℕ) → (ℕ → ℕ) → List ℕ → ℕ → Bool
+both-move-at f g order i = not (is-fixed f (getD order i 0)) && not (is-fixed g (getD order i 0))

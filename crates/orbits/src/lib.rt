@@ -41,7 +41,8 @@ impl DartSet {
         word & 1u64 << (d % 64) != 0
     }
 
-    // The set with one dart more: the same set where d is a member, or no dart.
+    // The set with one dart more: the same set where d is a member, or no dart. The size of a set that
+    // no call made may be any number: one that is no number of darts stays, so that nothing wraps.
     pub fn with_dart(self, d: usize) -> Self
         ensures { λ r. ⌜ r ≡ with-dart self d ⌝ }
     {
@@ -82,12 +83,11 @@ pub struct PartCounts {
     pub closed: usize,
 }
 
-// Where the link f leads from d; a number that is no dart stays.
-pub fn follow(f: &[usize; DART_LIMIT], d: usize) -> usize
-    requires { ⌜ length (now f) ≡ dart-limit ⌝ }
-    ensures { λ r. ⌜ r ≡ link-of (now (f .entry)) d ⌝ }
+// Where the link that a list holds leads from d; a number past the list stays.
+pub fn link_of(links: &[usize], d: usize) -> usize
+    ensures { λ r. ⌜ r ≡ link-of (now (links .entry)) d ⌝ }
 {
-    if d < DART_LIMIT { f[d] } else { d }
+    if d < links.len() { links[d] } else { d }
 }
 
 // The link "f, then g".
@@ -98,7 +98,7 @@ pub fn composed(f: &[usize; DART_LIMIT], g: &[usize; DART_LIMIT]) -> [usize; DAR
     let mut both = [0usize; DART_LIMIT];
     let mut d = 0;
     while d < DART_LIMIT {
-        both[d] = follow(g, follow(f, d));
+        both[d] = link_of(g, link_of(f, d));
         d += 1;
     }
     both

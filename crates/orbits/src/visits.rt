@@ -3,14 +3,13 @@ use crate::DART_LIMIT;
 use crate::DartSet;
 ghost use mathlib.Core.Path.{_≡_};
 ghost use mathlib.Core.Bool.{_&&_, not};
-ghost use mathlib.Core.Logic.{_↔_};
 ghost use Prim.Native.Nat.{_<_, _≤_};
-ghost use lib.Dec.{T};
 ghost use lib.ListN.{length};
+ghost use Rattle.finite.specs.Loops.{Tests};
 ghost use Rattle.orbits.specs.Classes.{is-fixed};
 ghost use Rattle.orbits.specs.Sets.{dart-limit, set-of};
 ghost use Rattle.orbits.specs.Links.{link-of, test-of};
-ghost use Rattle.orbits.specs.Queue.{Queue, Put, Ready, Visited, queued, Movable, AllMove};
+ghost use Rattle.orbits.specs.Queue.{Queue, Put, Ready, Visited, queued, Movable, both-move-at};
 
 // Puts d at the end of the queue, if it is not there, and gives the new end.
 pub(crate) fn put(
@@ -76,6 +75,15 @@ fn fixes(f: &[usize; DART_LIMIT], a: usize) -> bool
     f[a] == a
 }
 
+// Whether f and g both move dart a.
+fn both_move(f: &[usize; DART_LIMIT], g: &[usize; DART_LIMIT], a: usize) -> bool
+    requires { ⌜ (length (now f) ≡ dart-limit) × (length (now g) ≡ dart-limit) × (a < dart-limit) ⌝ }
+    ensures { λ r. ⌜ r ≡
+        (not (is-fixed (link-of (now (f .entry))) a) && not (is-fixed (link-of (now (g .entry))) a)) ⌝ }
+{
+    !fixes(f, a) && !fixes(g, a)
+}
+
 // Whether f and g both move each dart of the queue from place `from` up to place `to`.
 pub(crate) fn all_move(
     f: &[usize; DART_LIMIT],
@@ -85,16 +93,12 @@ pub(crate) fn all_move(
     to: usize,
 ) -> bool
     requires { ⌜ Movable (now f) (now g) (now order) from to ⌝ }
-    ensures { λ r. ⌜ T r ↔
-        AllMove (link-of (now (f .entry))) (link-of (now (g .entry))) (now (order .entry)) from to ⌝ }
+    ensures { λ r. ⌜ Tests r
+        (both-move-at (link-of (now (f .entry))) (link-of (now (g .entry))) (now (order .entry))) from to ⌝ }
 {
     let mut i = from;
     while i < to {
-        let a = order[i];
-        if fixes(f, a) {
-            return false;
-        }
-        if fixes(g, a) {
+        if !both_move(f, g, order[i]) {
             return false;
         }
         i += 1;

@@ -20,7 +20,8 @@ use Rattle.finite.specs.Bounded.{any, any-by, lt-or-ge}
 use Rattle.finite.specs.Counting.{count-small}
 use Rattle.finite.specs.Lists.{elem, distinct, ring, length-distinct, all-in, elem-head, elem-tail, all-elem, some-fails}
 use Rattle.finite.specs.Cycles.{Chain, Cycle}
-use Rattle.finite.specs.CycleLaws.{elem-cut, elem-swap, distinct-apart, distinct-swap, cycle-swap, cycle-change, cycle-after, cycle-before, cycle-map, chain-last, ring-of-cycle}
+use Rattle.finite.specs.ListLaws.{elem-cut, elem-swap, distinct-apart, distinct-swap}
+use Rattle.finite.specs.CycleLaws.{cycle-swap, cycle-change, cycle-after, cycle-before, cycle-map, chain-last, ring-of-cycle}
 use Rattle.model.specs.declared.Point.{Point}
 use Rattle.model.specs.Plane.{orientation, left-of, visible-from, in-line}
 use Rattle.plane.proofs.Orientation.{orientation-cyclic, orientation-swap, orientation-twice, left-positive, visible-negative, in-line-zero, zero-in-line}
@@ -172,7 +173,7 @@ general-both n P q general i j h k d =
 
 -- ---- not all edges are visible from a point
 
--- Seen from a corner no edge turns right, so the fan is not negative; seen from a point from which
+-- Seen from a corner no edge bends right, so the fan is not negative; seen from a point from which
 -- all edges are visible it would be. It is one fan.
 module _ {n : ℕ} {P : ℕ → Point} {next prev : ℕ → ℕ} {s : List ℕ} (C : Convex n P next prev s) where
   not-right : (c a : ℕ) → c < n → T (elem a s) → pos 0 ≤ℤ orientation (P c) (P a) (P (next a))

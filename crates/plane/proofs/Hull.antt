@@ -24,7 +24,7 @@ pub record Supports (n : ℕ) (P : ℕ → Point) (a b : ℕ) : Type 0 where
   pub differ : a ≢ b
   pub left : (c : ℕ) → c < n → c ≢ a → c ≢ b → T (left-of (P a) (P b) (P c))
 
--- If neither a nor b is a corner, all corners lie left of a to b, and the outline turns left round a:
+-- If neither a nor b is a corner, all corners lie left of a to b, and the outline bends left round a:
 -- so [a x y] is positive from each corner x to the next, y, and by transitivity from x round to x.
 no-corner : {n : ℕ} {P : ℕ → Point} {next prev : ℕ → ℕ} (s : List ℕ) → Convex n P next prev s →
     (a b : ℕ) → Supports n P a b → ¬ T (elem a s) → ¬ T (elem b s) → ⊥

@@ -15,7 +15,7 @@ use Rattle.model.specs.declared.Point.{Point}
 use Rattle.model.specs.Plane.{orientation, left-of, visible-from, in-line}
 use Rattle.plane.proofs.Orientation.{orientation-cyclic, orientation-swap, orientation-split, orientation-exchange, left-positive, positive-left, visible-negative, negative-visible, zero-in-line}
 
--- to exchange the last two points turns the sign
+-- to swap the last two points reverses the sign
 pub orientation-opposite : (p q r : Point) → orientation p q r ≡ negℤ (orientation p r q)
 orientation-opposite p q r =
     orientation-cyclic p q r ∙ orientation-swap q r p ∙ ap negℤ (sym (orientation-cyclic p r q))
@@ -114,7 +114,7 @@ module _ (t q v c u : Point) (vc : T (left-of t v c)) (cu : T (left-of t c u)) (
       (sum-negative (orientation t q v) (orientation t c u) (orientation t q u) (orientation t v c)
       (left-negative t v q a) (left-positive t c u cu) (left-negative t u q b) (left-positive t v c vc))))
 
--- ---- visible is left of the edge turned round, and not visible, not in line, is left
+-- ---- visible is left of the reversed edge, and not visible, not in line, is left
 
 pub visible-left : (a b c : Point) → T (visible-from a b c) → T (left-of b a c)
 visible-left a b c t =

@@ -14,7 +14,8 @@ use lib.ListN.{length, length-append}
 use Rattle.finite.specs.Tests.{decide}
 use Rattle.finite.specs.Lists.{elem, count-in, elem-head, elem-tail, elem-cases, elem-append-left, elem-append-right}
 use Rattle.finite.specs.Cycles.{Chain, Cycle, chain-cut}
-use Rattle.finite.specs.CycleLaws.{elem-cut, elem-swap, distinct-apart, count-in-append, count-in-swap, count-in-all, count-in-none, chain-front, chain-carry}
+use Rattle.finite.specs.ListLaws.{elem-cut, elem-swap, distinct-apart, count-in-append, count-in-swap, count-in-all, count-in-none}
+use Rattle.finite.specs.CycleLaws.{chain-front, chain-carry}
 use Rattle.model.specs.declared.Point.{Point}
 use Rattle.plane.proofs.Convex.{Link, Convex, GeneralPosition, sees, convex-swap}
 use Rattle.plane.proofs.Corners.{LeftCorner, RightCorner, left-not-right, left-corner-unique, right-corner-unique, left-corner-seen, right-corner-seen}

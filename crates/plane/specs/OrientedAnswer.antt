@@ -8,7 +8,7 @@ use Rattle.model.specs.declared.Point.{Point}
 use Rattle.model.specs.declared.Oriented.{Oriented}
 use Rattle.model.specs.Plane.{coordinate-limit, in-range, orientation-limit}
 use Rattle.model.specs.Answers.{oriented-answer}
-use Rattle.model.specs.Arrival.{oriented}
+use Rattle.model.specs.Plane.{oriented}
 
 -- three points whose coordinates are in range
 pub record Near (ax ay bx by cx cy : ℤ) : Type 0 where

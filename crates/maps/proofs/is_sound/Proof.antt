@@ -7,7 +7,7 @@ use mathlib.Core.Bool.{_&&_}
 use Rattle.finite.specs.Tests.{of-true, and-left, and-right}
 use Rattle.maps.specs.Checks.{points-sound, links-sound}
 use Rattle.maps.proofs.Checked.{Whole, sound-grouped, count-within, places-in-range, links-undone}
-use Rattle.maps.proofs.Loops.{both-asked, one-asked}
+use Rattle.finite.specs.Loops.{both-asked, one-asked}
 use Rattle.maps.proofs.is_sound.Statement.{statement}
 use Rattle.maps.proofs.is_sound.Tie as tie
 

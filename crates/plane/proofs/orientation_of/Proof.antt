@@ -15,7 +15,7 @@ use Rattle.model.specs.declared.Refusal.{Refusal}
 use Rattle.model.specs.Refusals.{number, unless}
 use Rattle.model.specs.Answers.{oriented-answer}
 use Rattle.model.specs.Plane.{in-range, orientation, orientation-limit}
-use Rattle.model.specs.Arrival.{oriented}
+use Rattle.model.specs.Plane.{oriented}
 use Rattle.plane.proofs.Bounds.{points-near, orientation-bounded}
 use Rattle.plane.proofs.orientation_of.Statement.{statement}
 use Rattle.plane.proofs.orientation_of.Tie as tie

@@ -1,14 +1,15 @@
 -- `hull::conditions::is_in_line` meets its contract: it looks through the points, and for each through
 -- those before it. Assumes nothing.
 use borrow.Author.Needs.{needs}
-use mathlib.Core.Bool.{Bool}
+use mathlib.Core.Path.{ap}
+use mathlib.Core.Bool.{Bool, not}
 use Prim.Native.Nat.{ℕ, _-_}
 use Rattle.model.specs.declared.Point.{Point}
 use Rattle.model.specs.declared.Map.{Map}
 use Rattle.model.specs.Maps.{point}
 use Rattle.model.specs.Arrival.{is-in-line}
 use Rattle.hull.specs.Requires.{in-line-with}
-use Rattle.hull.proofs.Scans.{NoneBelow, none-at-first, none-more, one-found, none-found}
+use Rattle.finite.specs.Loops.{Passed, Iteration, none-passed, one-passed, one-failed, all-passed, none-below, some-found, none-found, not-twice}
 use Rattle.hull.proofs.conditions.is_in_line.Statement.{statement}
 use Rattle.hull.proofs.conditions.is_in_line.Tie as tie
 
@@ -16,17 +17,23 @@ abbrev here : Map → Point → ℕ → Bool
 here m p j = in-line-with (m .xs) (m .ys) j p
 
 abbrev Inv-loop : tie.InvT-loop
-Inv-loop p map count j₀ j = NoneBelow (here map p) (map .count) j
+Inv-loop p map count j₀ j = Passed (λ k. not (here map p k)) 0 j
 
 abbrev μ-loop : tie.MeasureT-loop
 μ-loop p map count j₀ j = map .count - j
 
--- the iteration of the loop
-abbrev iteration : tie.After-is-in-line-with Inv-loop μ-loop → tie.In-loop Inv-loop μ-loop
-iteration c = c .before .before .before .before .before .before
+-- where an iteration begins, and what it tests
+abbrev in-loop : tie.After-is-in-line-with Inv-loop μ-loop → tie.In-loop Inv-loop μ-loop
+in-loop c = c .before .before .before .before .before .before
+
+iteration : (c : tie.After-is-in-line-with Inv-loop μ-loop) →
+    let s = in-loop c .before .before .args in
+    Iteration (λ k. not (here (s .t1) (s .p) k)) 0 (in-loop c .before .loop .j) (not (c .is-in-line-with .result))
+iteration c =
+    record { passed = in-loop c .before .loop .inv; found = ap not (c .is-in-line-with .ensures) }
 
 loop-holds : tie.Need-loop-holds Inv-loop μ-loop
-loop-holds c = none-at-first _ _
+loop-holds c = none-passed _ 0
 
 is-in-line-with-requires : tie.Need-is-in-line-with-requires Inv-loop μ-loop
 is-in-line-with-requires c κs = search needs
@@ -34,7 +41,9 @@ is-in-line-with-requires c κs = search needs
 returns : tie.Need-returns Inv-loop μ-loop
 unfolding is-in-line point
 returns c =
-    one-found _ _ (iteration (c .before) .loop-test .taken) (c .before .is-in-line-with .ensures) (c .if1 .taken)
+    some-found
+    (one-failed (iteration (c .before)) (none-below _ _) (in-loop (c .before) .loop-test .taken)
+    (not-twice (c .if1 .taken)))
 
 add-j : tie.Need-add-j Inv-loop μ-loop
 add-j c = search needs
@@ -43,13 +52,11 @@ loop-less : tie.Need-loop-less Inv-loop μ-loop
 loop-less c = search needs
 
 loop-again : tie.Need-loop-again Inv-loop μ-loop
-loop-again c =
-    let t = iteration (c .before) in
-    none-more _ _ (t .loop-test .taken) (c .before .is-in-line-with .ensures) (t .before .loop .inv) (c .if1 .left)
+loop-again c = one-passed (iteration (c .before)) (not-twice (c .if1 .left))
 
 returns-2 : tie.Need-returns-2 Inv-loop μ-loop
 unfolding is-in-line point
-returns-2 c = none-found _ _ (c .before .loop .inv) (c .loop-test .left)
+returns-2 c = none-found (all-passed (none-below _ _) (c .before .loop .inv) (c .loop-test .left))
 
 pub is-in-line-spec : {M : Type 1} → statement M
 is-in-line-spec =

@@ -1,17 +1,17 @@
 -- `hull::conditions::is_in_line_with` meets its contract: it looks through the points before point j.
 -- Assumes nothing.
 use borrow.Author.Needs.{needs}
-use mathlib.Core.Path.{_≡_, _∙_, ap₂}
-use mathlib.Core.Bool.{Bool}
+use mathlib.Core.Path.{_≡_, _∙_, ap, ap₂}
+use mathlib.Core.Bool.{Bool, not}
 use mathlib.Core.List.{List}
 use Prim.Native.Nat.{ℕ, _-_}
 use denote.Ref.{now}
 use lib.IntN.{ℤ}
 use Rattle.model.specs.declared.Point.{Point}
 use Rattle.model.specs.Plane.{in-line}
-use Rattle.maps.specs.Arrays.{point-at}
+use Rattle.model.specs.Maps.{point-at}
 use Rattle.hull.proofs.Indices.{three-ranged}
-use Rattle.hull.proofs.Scans.{NoneBelow, none-at-first, none-more, one-found, none-found}
+use Rattle.finite.specs.Loops.{Passed, Iteration, none-passed, one-passed, one-failed, all-passed, none-below, some-found, none-found, not-twice}
 use Rattle.hull.proofs.conditions.is_in_line_with.Statement.{statement}
 use Rattle.hull.proofs.conditions.is_in_line_with.Tie as tie
 
@@ -19,23 +19,23 @@ abbrev here : List ℤ → List ℤ → ℕ → Point → ℕ → Bool
 here xs ys j p i = in-line (point-at xs ys i) (point-at xs ys j) p
 
 abbrev Inv-loop : tie.InvT-loop
-Inv-loop xs ys j p b i₀ i = NoneBelow (here xs ys j p) j i
+Inv-loop xs ys j p b i₀ i = Passed (λ k. not (here xs ys j p k)) 0 i
 
 abbrev μ-loop : tie.MeasureT-loop
 μ-loop xs ys j p b i₀ i = j - i
 
--- the iteration of the loop, and where the function starts
-abbrev iteration : tie.After-are-in-line Inv-loop μ-loop → tie.In-loop Inv-loop μ-loop
-iteration c = c .before .before
+-- where an iteration begins, and where the function starts
+abbrev in-loop : tie.After-are-in-line Inv-loop μ-loop → tie.In-loop Inv-loop μ-loop
+in-loop c = c .before .before
 
 abbrev start : tie.After-are-in-line Inv-loop μ-loop → tie.Start Inv-loop μ-loop
-start c = iteration c .before .before .before
+start c = in-loop c .before .before .before
 
 point-at-requires : tie.Need-point-at-requires Inv-loop μ-loop
 point-at-requires c κs = search needs
 
 loop-holds : tie.Need-loop-holds Inv-loop μ-loop
-loop-holds c = none-at-first _ _
+loop-holds c = none-passed _ 0
 
 point-at-requires-2 : tie.Need-point-at-requires-2 Inv-loop μ-loop
 point-at-requires-2 c κs = search needs
@@ -46,18 +46,25 @@ are-in-line-requires c κs =
     three-ranged (s .pre) (c .before .before .loop .i) (s .args .j) (c .point-at2 .ensures)
     (c .before .before .before .point-at .ensures)
 
--- the test of a iteration is that of the definition
-tested : (c : tie.After-are-in-line Inv-loop μ-loop) →
+-- the test of an iteration is that of the definition
+iteration : (c : tie.After-are-in-line Inv-loop μ-loop) →
     let s = start c .args in
-    c .are-in-line .result ≡ here (now (s .xs)) (now (s .ys)) (s .j) (s .p) (iteration c .before .loop .i)
-tested c =
+    Iteration (λ k. not (here (now (s .xs)) (now (s .ys)) (s .j) (s .p) k)) 0 (in-loop c .before .loop .i)
+    (not (c .are-in-line .result))
+iteration c =
     let p = start c .args .p in
-    let b-is = iteration c .before .before .point-at .ensures in
-    c .are-in-line .ensures ∙ ap₂ (λ a b. in-line a b p) (c .before .point-at2 .ensures) b-is
+    let b-is = in-loop c .before .before .point-at .ensures in
+    record {
+      passed = in-loop c .before .loop .inv;
+      found =
+          ap not (c .are-in-line .ensures ∙ ap₂ (λ a b. in-line a b p) (c .before .point-at2 .ensures) b-is);
+    }
 
 returns : tie.Need-returns Inv-loop μ-loop
 returns c =
-    one-found _ _ (iteration (c .before) .loop-test .taken) (tested (c .before)) (c .if1 .taken)
+    some-found
+    (one-failed (iteration (c .before)) (none-below _ _) (in-loop (c .before) .loop-test .taken)
+    (not-twice (c .if1 .taken)))
 
 add-i : tie.Need-add-i Inv-loop μ-loop
 add-i c = search needs
@@ -66,12 +73,10 @@ loop-less : tie.Need-loop-less Inv-loop μ-loop
 loop-less c = search needs
 
 loop-again : tie.Need-loop-again Inv-loop μ-loop
-loop-again c =
-    let t = iteration (c .before) in
-    none-more _ _ (t .loop-test .taken) (tested (c .before)) (t .before .loop .inv) (c .if1 .left)
+loop-again c = one-passed (iteration (c .before)) (not-twice (c .if1 .left))
 
 returns-2 : tie.Need-returns-2 Inv-loop μ-loop
-returns-2 c = none-found _ _ (c .before .loop .inv) (c .loop-test .left)
+returns-2 c = none-found (all-passed (none-below _ _) (c .before .loop .inv) (c .loop-test .left))
 
 pub is-in-line-with-spec : {M : Type 1} → statement M
 is-in-line-with-spec =

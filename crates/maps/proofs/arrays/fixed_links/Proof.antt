@@ -5,7 +5,7 @@ use Prim.Native.Nat.{ℕ, _-_}
 use native.Mathlib.Omega.{arith}
 use lib.ListN.{length-replicate}
 use Rattle.orbits.specs.Sets.{dart-limit}
-use Rattle.maps.proofs.Loops.{Filled, none-filled, one-filled, all-filled}
+use Rattle.finite.specs.Loops.{Filled, none-filled, one-filled, all-filled}
 use Rattle.maps.proofs.arrays.fixed_links.Statement.{statement}
 use Rattle.maps.proofs.arrays.fixed_links.Tie as tie
 

@@ -6,13 +6,14 @@ use Prim.Native.Nat.{_-_}
 use native.Mathlib.Omega.{arith}
 use lib.ListN.{length-replicate}
 use Rattle.orbits.specs.Sets.{dart-limit}
-use Rattle.maps.specs.Arrays.{other-at}
-use Rattle.maps.proofs.Loops.{Filled, none-filled, one-filled, all-filled}
+use Rattle.orbits.specs.Links.{test-of}
+use Rattle.model.specs.Maps.{point-link-by}
+use Rattle.finite.specs.Loops.{Filled, none-filled, one-filled, all-filled}
 use Rattle.maps.proofs.arrays.point_links.Statement.{statement}
 use Rattle.maps.proofs.arrays.point_links.Tie as tie
 
 abbrev Inv-loop : tie.InvT-loop
-Inv-loop helpers links₀ d₀ links d = Filled (other-at helpers) 0 dart-limit d links
+Inv-loop helpers links₀ d₀ links d = Filled (point-link-by (test-of helpers)) 0 dart-limit d links
 
 abbrev μ-loop : tie.MeasureT-loop
 μ-loop helpers links₀ d₀ links d = dart-limit - d

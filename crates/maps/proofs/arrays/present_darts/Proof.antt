@@ -6,13 +6,14 @@ use Prim.Native.Nat.{_-_}
 use native.Mathlib.Omega.{arith}
 use lib.ListN.{length-replicate}
 use Rattle.orbits.specs.Sets.{dart-limit}
-use Rattle.maps.specs.Arrays.{present-at}
-use Rattle.maps.proofs.Loops.{Filled, none-filled, one-filled, all-filled}
+use Rattle.orbits.specs.Links.{test-of}
+use Rattle.model.specs.Maps.{present-by}
+use Rattle.finite.specs.Loops.{Filled, none-filled, one-filled, all-filled}
 use Rattle.maps.proofs.arrays.present_darts.Statement.{statement}
 use Rattle.maps.proofs.arrays.present_darts.Tie as tie
 
 abbrev Inv-loop : tie.InvT-loop
-Inv-loop helpers count present₀ d₀ present d = Filled (present-at helpers count) false dart-limit d present
+Inv-loop helpers count present₀ d₀ present d = Filled (present-by (test-of helpers) count) false dart-limit d present
 
 abbrev μ-loop : tie.MeasureT-loop
 μ-loop helpers count present₀ d₀ present d = dart-limit - d

@@ -11,7 +11,7 @@ use Rattle.model.specs.Sound.{absent-fixed}
 use Prim.Native.Nat.{ℕ, _-_}
 use native.Mathlib.Omega.{arith}
 use Rattle.model.specs.declared.Map.{Map}
-use Rattle.maps.proofs.Loops.{Tests, Passed, Iteration, none-passed, one-passed, one-failed, all-passed, places}
+use Rattle.finite.specs.Loops.{Tests, Passed, Iteration, none-passed, one-passed, one-failed, all-passed, places}
 use Rattle.maps.proofs.linkage.absent_fixed.Statement.{statement}
 use Rattle.maps.proofs.linkage.absent_fixed.Tie as tie
 

@@ -12,14 +12,14 @@ is-present-requires c κs = search needs
 returns : tie.Need-returns
 returns c = rw (sym (c .before .is-present .ensures) ∙ not-true _ (c .if1 .taken))
 
-edge-link-requires : tie.Need-edge-link-requires
-edge-link-requires c κs = search needs
+link-of-requires : tie.Need-link-of-requires
+link-of-requires c κs = search needs
 
 returns-2 : tie.Need-returns-2
 returns-2 c =
     let first = c .before in
     rw (
-      ← first .edge-link .ensures,
+      ← first .link-of .ensures,
       sym (first .before .before .is-present .ensures) ∙ not-false _ (first .before .if1 .left),
       eq-eqb _ _ (c .if2 .taken),
     )
@@ -28,7 +28,7 @@ returns-3 : tie.Need-returns-3
 returns-3 c =
     let first = c .before .before in
     rw (
-      ← first .edge-link .ensures,
+      ← first .link-of .ensures,
       sym (first .before .before .is-present .ensures) ∙ not-false _ (first .before .if1 .left),
       ne-eqb _ _ (c .before .if2 .left),
       ne-eqb _ _ (c .if3 .taken),
@@ -38,7 +38,7 @@ returns-4 : tie.Need-returns-4
 returns-4 c =
     let first = c .before .before in
     rw (
-      ← first .edge-link .ensures,
+      ← first .link-of .ensures,
       sym (first .before .before .is-present .ensures) ∙ not-false _ (first .before .if1 .left),
       ne-eqb _ _ (c .before .if2 .left),
       eq-eqb _ _ (c .if3 .left),
@@ -47,4 +47,4 @@ returns-4 c =
 pub edge-crosses-spec : {M : Type 1} → statement M
 edge-crosses-spec =
     tie.close
-    (tie.spec is-present-requires returns edge-link-requires returns-2 returns-3 returns-4)
+    (tie.spec is-present-requires returns link-of-requires returns-2 returns-3 returns-4)

@@ -10,7 +10,7 @@ use Rattle.model.specs.Sound.{edges-cross}
 use Prim.Native.Nat.{ℕ, _-_, _%_}
 use native.Mathlib.Omega.{arith}
 use Rattle.model.specs.declared.Map.{Map}
-use Rattle.maps.proofs.Loops.{Tests, Passed, Iteration, none-passed, one-passed, one-failed, all-passed, below}
+use Rattle.finite.specs.Loops.{Tests, Passed, Iteration, none-passed, one-passed, one-failed, all-passed, below}
 use Rattle.maps.proofs.linkage.edges_cross.Statement.{statement}
 use Rattle.maps.proofs.linkage.edges_cross.Tie as tie
 

@@ -7,14 +7,14 @@ use mathlib.Core.List.{List}
 use Prim.Native.Nat.{ℕ, _-_}
 use native.Mathlib.Omega.{arith}
 use lib.ListN.{length}
-use Rattle.maps.specs.Arrays.{helper-at}
-use Rattle.maps.proofs.Loops.{Passed, Iteration, none-passed, one-passed, one-failed, all-passed}
-use Rattle.maps.proofs.Loops.{from-on, not-twice}
+use Rattle.orbits.specs.Links.{test-of}
+use Rattle.finite.specs.Loops.{Passed, Iteration, none-passed, one-passed, one-failed, all-passed}
+use Rattle.finite.specs.Loops.{from-on, not-twice}
 use Rattle.maps.proofs.linkage.is_bare_from.Statement.{statement}
 use Rattle.maps.proofs.linkage.is_bare_from.Tie as tie
 
 abbrev here : List Bool → ℕ → Bool
-here helpers k = not (helper-at helpers k)
+here helpers k = not (test-of helpers k)
 
 abbrev Inv-loop : tie.InvT-loop
 Inv-loop helpers n k₀ k-end k = Passed (here helpers) n k

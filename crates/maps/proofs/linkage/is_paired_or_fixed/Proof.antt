@@ -8,11 +8,11 @@ use Rattle.maps.proofs.linkage.is_paired_or_fixed.Tie as tie
 has-helper-requires : tie.Need-has-helper-requires
 has-helper-requires c κs = search needs
 
-mul-edge-link : tie.Need-mul-edge-link
-mul-edge-link c = search needs
+mul-link-of : tie.Need-mul-link-of
+mul-link-of c = search needs
 
-edge-link-requires : tie.Need-edge-link-requires
-edge-link-requires c κs = search needs
+link-of-requires : tie.Need-link-of-requires
+link-of-requires c κs = search needs
 
 mul-result : tie.Need-mul-result
 mul-result c = search needs
@@ -21,9 +21,9 @@ returns : tie.Need-returns
 returns c = rw (sym (c .before .has-helper .ensures) ∙ c .if1 .taken)
 
 returns-2 : tie.Need-returns-2
-returns-2 c = rw (sym (c .before .before .has-helper .ensures) ∙ c .before .if1 .left, ← c .edge-link .ensures)
+returns-2 c = rw (sym (c .before .before .has-helper .ensures) ∙ c .before .if1 .left, ← c .link-of .ensures)
 
 pub is-paired-or-fixed-spec : {M : Type 1} → statement M
 is-paired-or-fixed-spec =
     tie.close
-    (tie.spec has-helper-requires mul-edge-link edge-link-requires mul-result returns returns-2)
+    (tie.spec has-helper-requires mul-link-of link-of-requires mul-result returns returns-2)

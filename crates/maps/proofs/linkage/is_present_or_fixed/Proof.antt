@@ -8,15 +8,15 @@ use Rattle.maps.proofs.linkage.is_present_or_fixed.Tie as tie
 is-present-requires : tie.Need-is-present-requires
 is-present-requires c κs = search needs
 
-edge-link-requires : tie.Need-edge-link-requires
-edge-link-requires c κs = search needs
+link-of-requires : tie.Need-link-of-requires
+link-of-requires c κs = search needs
 
 returns : tie.Need-returns
 returns c = rw (sym (c .before .is-present .ensures) ∙ c .if1 .taken) (c .if1 .taken)
 
 returns-2 : tie.Need-returns-2
-returns-2 c = rw (sym (c .before .before .is-present .ensures) ∙ c .before .if1 .left, ← c .edge-link .ensures)
+returns-2 c = rw (sym (c .before .before .is-present .ensures) ∙ c .before .if1 .left, ← c .link-of .ensures)
 
 pub is-present-or-fixed-spec : {M : Type 1} → statement M
 is-present-or-fixed-spec =
-    tie.close (tie.spec is-present-requires edge-link-requires returns returns-2)
+    tie.close (tie.spec is-present-requires link-of-requires returns returns-2)

@@ -8,30 +8,30 @@ use Rattle.maps.proofs.linkage.link_undoes.Tie as tie
 is-present-requires : tie.Need-is-present-requires
 is-present-requires c κs = search needs
 
-edge-link-requires : tie.Need-edge-link-requires
-edge-link-requires c κs = search needs
+link-of-requires : tie.Need-link-of-requires
+link-of-requires c κs = search needs
 
 is-present-requires-2 : tie.Need-is-present-requires-2
 is-present-requires-2 c κs = search needs
 
-edge-link-requires-2 : tie.Need-edge-link-requires-2
-edge-link-requires-2 c κs = search needs
+link-of-requires-2 : tie.Need-link-of-requires-2
+link-of-requires-2 c κs = search needs
 
 returns : tie.Need-returns
 returns c =
     let first = c .before .before .before in
     rw (
-      ← first .edge-link .ensures,
+      ← first .link-of .ensures,
       sym (first .before .before .is-present .ensures) ∙ first .before .if1 .taken,
       sym (c .before .before .is-present2 .ensures) ∙ c .before .if2 .taken,
-      ← c .edge-link2 .ensures,
+      ← c .link-of2 .ensures,
     )
 
 returns-2 : tie.Need-returns-2
 returns-2 c =
     let first = c .before .before in
     rw (
-      ← first .edge-link .ensures,
+      ← first .link-of .ensures,
       sym (first .before .before .is-present .ensures) ∙ first .before .if1 .taken,
       sym (c .before .is-present2 .ensures) ∙ c .if2 .left,
     ) (c .if2 .left)
@@ -44,9 +44,9 @@ link-undoes-spec =
     tie.close
     (tie.spec
     is-present-requires
-    edge-link-requires
+    link-of-requires
     is-present-requires-2
-    edge-link-requires-2
+    link-of-requires-2
     returns
     returns-2
     returns-3)

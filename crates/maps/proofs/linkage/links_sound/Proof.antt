@@ -5,7 +5,7 @@ use mathlib.Core.Path.{_≡_, _∙_}
 use mathlib.Core.Logic.{⊎-elim}
 use mathlib.Core.Bool.{_&&_}
 use Rattle.model.specs.Sound.{absent-fixed, edges-cross, helpers-owned, links-undo}
-use Rattle.maps.proofs.Loops.{both-asked, one-asked}
+use Rattle.finite.specs.Loops.{both-asked, one-asked}
 use Rattle.maps.proofs.linkage.links_sound.Statement.{statement}
 use Rattle.maps.proofs.linkage.links_sound.Tie as tie
 

@@ -4,8 +4,8 @@ use borrow.Author.Needs.{needs}
 use Prim.Native.Nat.{_-_}
 use native.Mathlib.Omega.{arith}
 use Rattle.orbits.specs.Sets.{dart-limit}
-use Rattle.maps.specs.Arrays.{moved-at}
-use Rattle.maps.proofs.Loops.{Passed, Iteration, none-passed, one-passed, one-failed, all-passed, below}
+use Rattle.maps.specs.Checks.{moved-at}
+use Rattle.finite.specs.Loops.{Passed, Iteration, none-passed, one-passed, one-failed, all-passed, below}
 use Rattle.maps.proofs.outlines.all_moved.Statement.{statement}
 use Rattle.maps.proofs.outlines.all_moved.Tie as tie
 

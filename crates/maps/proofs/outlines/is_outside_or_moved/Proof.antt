@@ -9,20 +9,20 @@ use Rattle.maps.proofs.outlines.is_outside_or_moved.Tie as tie
 contains-requires : tie.Need-contains-requires
 contains-requires c κs = search needs
 
-edge-link-requires : tie.Need-edge-link-requires
-edge-link-requires c κs = search needs
+link-of-requires : tie.Need-link-of-requires
+link-of-requires c κs = search needs
 
-edge-link-requires-2 : tie.Need-edge-link-requires-2
-edge-link-requires-2 c κs = search needs
+link-of-requires-2 : tie.Need-link-of-requires-2
+link-of-requires-2 c κs = search needs
 
 returns : tie.Need-returns
 returns c =
     let first = c .before .before in
     rw (
       sym (first .before .before .contains .ensures) ∙ first .before .if1 .taken,
-      ← first .edge-link .ensures,
+      ← first .link-of .ensures,
       ne-eqb _ _ (c .before .if2 .taken),
-      ← c .edge-link2 .ensures,
+      ← c .link-of2 .ensures,
     )
 
 returns-2 : tie.Need-returns-2
@@ -30,7 +30,7 @@ returns-2 c =
     let first = c .before in
     rw (
       sym (first .before .before .contains .ensures) ∙ first .before .if1 .taken,
-      ← first .edge-link .ensures,
+      ← first .link-of .ensures,
       eq-eqb _ _ (c .if2 .left),
     )
 
@@ -42,8 +42,8 @@ is-outside-or-moved-spec =
     tie.close
     (tie.spec
     contains-requires
-    edge-link-requires
-    edge-link-requires-2
+    link-of-requires
+    link-of-requires-2
     returns
     returns-2
     returns-3)

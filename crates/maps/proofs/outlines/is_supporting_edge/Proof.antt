@@ -2,8 +2,8 @@
 -- Assumes nothing.
 use Prim.Native.Nat.{_-_}
 use native.Mathlib.Omega.{arith}
-use Rattle.maps.specs.Arrays.{aside-at}
-use Rattle.maps.proofs.Loops.{Passed, Iteration, none-passed, one-passed, one-failed, all-passed, below}
+use Rattle.maps.specs.Checks.{aside-at}
+use Rattle.finite.specs.Loops.{Passed, Iteration, none-passed, one-passed, one-failed, all-passed, below}
 use Rattle.maps.proofs.outlines.is_supporting_edge.Statement.{statement}
 use Rattle.maps.proofs.outlines.is_supporting_edge.Tie as tie
 

@@ -15,8 +15,8 @@ use Rattle.model.specs.Plane.{left-of}
 use Rattle.model.specs.Maps.{owner, point, edge-link}
 use Rattle.model.specs.Outline.{next-corner, corners-from, outline}
 use Rattle.model.specs.Sound.{others-left}
-use Rattle.maps.specs.Arrays.{aside-at}
-use Rattle.maps.proofs.Loops.{Round, Corner, round-begun, corner-failed, came-round, corner-passed, all-round}
+use Rattle.maps.specs.Checks.{aside-at}
+use Rattle.finite.specs.Loops.{Round, Corner, round-begun, corner-failed, came-round, corner-passed, all-round}
 use Rattle.maps.proofs.outlines.others_left.Statement.{statement}
 use Rattle.maps.proofs.outlines.others_left.Tie as tie
 

@@ -6,7 +6,7 @@ use mathlib.Core.Logic.{⊎-elim}
 use mathlib.Core.Bool.{_&&_}
 use Rattle.model.specs.Sound.{one-outline, reference-on-outline}
 use Rattle.maps.proofs.Checked.{outline-of-few, outline-of-many}
-use Rattle.maps.proofs.Loops.{both-asked, one-asked}
+use Rattle.finite.specs.Loops.{both-asked, one-asked}
 use Rattle.maps.proofs.outlines.outline_sound.Statement.{statement}
 use Rattle.maps.proofs.outlines.outline_sound.Tie as tie
 

@@ -18,7 +18,7 @@ use Rattle.model.specs.declared.Map.{Map}
 use Rattle.model.specs.Maps.{point-limit, is-own, has-helper, is-present, edge-link, point-link, dart-bound}
 use Rattle.model.specs.Sound.{reference-on-outline}
 use Rattle.model.proofs.Sound.{present-below}
-use Rattle.maps.specs.Arrays.{moved-at}
+use Rattle.maps.specs.Checks.{moved-at}
 use Rattle.maps.proofs.Tables.{moved, point-table, undone-keeps, part-stays, closed-by-set}
 use Rattle.maps.proofs.outlines.reference_on_outline.Statement.{statement}
 use Rattle.maps.proofs.outlines.reference_on_outline.Tie as tie

@@ -2,7 +2,7 @@
 -- Assumes nothing.
 use borrow.Author.Needs.{needs}
 use mathlib.Core.Path.{_∙_, ap}
-use Rattle.maps.specs.Arrays.{new-at}
+use Rattle.maps.specs.Checks.{new-at}
 use Rattle.maps.proofs.positions.is_first.Statement.{statement}
 use Rattle.maps.proofs.positions.is_first.Tie as tie
 

@@ -9,9 +9,9 @@ use native.Mathlib.Omega.{arith}
 use lib.IntN.{ℤ}
 use Rattle.model.specs.declared.Point.{Point}
 use Rattle.model.specs.Plane.{same-point}
-use Rattle.maps.specs.Arrays.{point-at}
-use Rattle.maps.proofs.Loops.{Passed, Iteration, none-passed, one-passed, one-failed, all-passed}
-use Rattle.maps.proofs.Loops.{below, not-twice}
+use Rattle.model.specs.Maps.{point-at}
+use Rattle.finite.specs.Loops.{Passed, Iteration, none-passed, one-passed, one-failed, all-passed}
+use Rattle.finite.specs.Loops.{below, not-twice}
 use Rattle.maps.proofs.positions.is_new.Statement.{statement}
 use Rattle.maps.proofs.positions.is_new.Tie as tie
 

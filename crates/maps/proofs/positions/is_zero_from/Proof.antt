@@ -14,7 +14,7 @@ use lib.IntN.{ℤ, pos}
 use lib.ListN.{length, getD}
 use Rattle.integers.specs.Order.{eqZ}
 use Rattle.integers.specs.Range.{eqb-read, literal-fits}
-use Rattle.maps.proofs.Loops.{Passed, Iteration, none-passed, one-passed, one-failed, all-passed, from-on}
+use Rattle.finite.specs.Loops.{Passed, Iteration, none-passed, one-passed, one-failed, all-passed, from-on}
 use Rattle.maps.proofs.positions.is_zero_from.Statement.{statement}
 use Rattle.maps.proofs.positions.is_zero_from.Tie as tie
 

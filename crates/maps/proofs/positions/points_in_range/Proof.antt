@@ -9,7 +9,7 @@ use Rattle.model.specs.Sound.{points-in-range}
 use Prim.Native.Nat.{ℕ, _-_}
 use native.Mathlib.Omega.{arith}
 use Rattle.model.specs.declared.Map.{Map}
-use Rattle.maps.proofs.Loops.{Tests, Passed, Iteration, none-passed, one-passed, one-failed, all-passed, below}
+use Rattle.finite.specs.Loops.{Tests, Passed, Iteration, none-passed, one-passed, one-failed, all-passed, below}
 use Rattle.maps.proofs.positions.points_in_range.Statement.{statement}
 use Rattle.maps.proofs.positions.points_in_range.Tie as tie
 

@@ -5,7 +5,7 @@ use mathlib.Core.Path.{_≡_, _∙_}
 use mathlib.Core.Logic.{⊎-elim}
 use mathlib.Core.Bool.{_&&_}
 use Rattle.model.specs.Sound.{count-fits, points-differ, points-in-range}
-use Rattle.maps.proofs.Loops.{both-asked, one-asked}
+use Rattle.finite.specs.Loops.{both-asked, one-asked}
 use Rattle.maps.proofs.positions.points_sound.Statement.{statement}
 use Rattle.maps.proofs.positions.points_sound.Tie as tie
 

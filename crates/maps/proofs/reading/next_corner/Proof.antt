@@ -9,11 +9,11 @@ use Rattle.model.specs.Maps.{own, owner}
 use Rattle.maps.proofs.reading.next_corner.Statement.{statement}
 use Rattle.maps.proofs.reading.next_corner.Tie as tie
 
-mul-edge-link : tie.Need-mul-edge-link
-mul-edge-link c = search needs
+mul-link-of : tie.Need-mul-link-of
+mul-link-of c = search needs
 
-edge-link-requires : tie.Need-edge-link-requires
-edge-link-requires c κs = search needs
+link-of-requires : tie.Need-link-of-requires
+link-of-requires c κs = search needs
 
 returns : tie.Need-returns
 returns c = search needs
@@ -25,4 +25,4 @@ returns-2 c = let a = c .before .before .args .a in
     sym (ap (λ (d : ℕ). owner d) past ∙ omega arith)
 
 pub next-corner-spec : {M : Type 1} → statement M
-next-corner-spec = tie.close (tie.spec mul-edge-link edge-link-requires returns returns-2)
+next-corner-spec = tie.close (tie.spec mul-link-of link-of-requires returns returns-2)

@@ -9,14 +9,14 @@ use Rattle.model.specs.Maps.{helper, owner}
 use Rattle.maps.proofs.reading.previous_corner.Statement.{statement}
 use Rattle.maps.proofs.reading.previous_corner.Tie as tie
 
-mul-edge-link : tie.Need-mul-edge-link
-mul-edge-link c = search needs
+mul-link-of : tie.Need-mul-link-of
+mul-link-of c = search needs
 
-add-edge-link : tie.Need-add-edge-link
-add-edge-link c = search needs
+add-link-of : tie.Need-add-link-of
+add-link-of c = search needs
 
-edge-link-requires : tie.Need-edge-link-requires
-edge-link-requires c κs = search needs
+link-of-requires : tie.Need-link-of-requires
+link-of-requires c κs = search needs
 
 returns : tie.Need-returns
 returns c = search needs
@@ -29,4 +29,4 @@ returns-2 c = let a = c .before .before .args .a in
 
 pub previous-corner-spec : {M : Type 1} → statement M
 previous-corner-spec =
-    tie.close (tie.spec mul-edge-link add-edge-link edge-link-requires returns returns-2)
+    tie.close (tie.spec mul-link-of add-link-of link-of-requires returns returns-2)

@@ -79,18 +79,18 @@ put-requires-3 c κs =
     let p = c .before .before .before in
     (p .put2 .ensures .grown .queue, search (links-below (p .before .before .before .before .before)))
 
-abbrev turn : tie.After-put3 Inv-loop μ-loop → tie.In-loop Inv-loop μ-loop
-turn c = c .before .before .before .before .before .before .before .before .before
+abbrev iteration : tie.After-put3 Inv-loop μ-loop → tie.In-loop Inv-loop μ-loop
+iteration c = c .before .before .before .before .before .before .before .before .before
 
 add-head : tie.Need-add-head Inv-loop μ-loop
-add-head c = omega (arith, left (turn c))
+add-head c = omega (arith, left (iteration c))
 
 loop-less : tie.Need-loop-less Inv-loop μ-loop
-loop-less c = omega (arith, left (turn c))
+loop-less c = omega (arith, left (iteration c))
 
 loop-again : tie.Need-loop-again Inv-loop μ-loop
 loop-again c entry v =
-    let t = turn c in
+    let t = iteration c in
     visit-step (start (t .before) .pre .within) (t .before .loop .inv entry v) (t .loop-test .taken)
     (c .before .before .before .before .put2 .ensures) (c .put3 .ensures)
 

@@ -1,9 +1,11 @@
 -- Loops that test one number after another and answer false at the first that fails:
 --     for k in first..stop { if !here(k) { return false; } } true
--- In this order: what such a loop tests; its invariant, `Passed`, with the laws of its start, of a
+-- In this order: what such a loop tests; its invariant, `Passed`, with the laws of its start, of one
 -- iteration, of an early return and of its end; what tests every number below a bound, every element
--- from a place on, and every place of a list. Then the same laws for loops that fill an array, and
--- for loops round the corners of a ring. Assumes nothing.
+-- from a place on, and every place of a list. A loop that answers true at the first number that passes,
+--     for k in 0..n { if here(k) { return true; } } false
+-- tests that none passes, and its answer is the negation. Then the same laws for loops that fill an
+-- array, and for loops round the corners of a ring. Assumes nothing.
 use mathlib.Core.Path.{_≡_, sym, ap, subst, _∙_}
 use mathlib.Core.Logic.{_≢_, ⊎-elim}
 use mathlib.Core.Bool.{Bool, true, false, not, cond, _&&_}
@@ -13,13 +15,13 @@ use native.Mathlib.Nat.{zero-add, sub-zero}
 use native.Mathlib.Numerals.{add-one}
 use native.Mathlib.Omega.{arith}
 use borrow.Author.Tests.{not-true, not-false, eq-eqb, ne-eqb}
-use lib.Dec.{T, eqb}
+use lib.Dec.{T, T-not, not-T, eqb}
 use lib.ListN.{length, getD, set, drop, length-drop, length-set}
 use lib.Seq.{getD-drop, getD-set-same, getD-set-other, ext-getD}
-use Rattle.finite.specs.Tests.{is-true, is-false, of-true}
-use Rattle.finite.specs.Bounded.{all, table, all-at, all-by, below-suc, length-table, getD-table}
+use Rattle.finite.specs.Tests.{of-true, same-test}
+use Rattle.finite.specs.Bounded.{all, any, table, all-at, all-by, any-at, any-by, below-suc, length-table, getD-table}
 use Rattle.finite.specs.Lists.{all-in, all-places, ring, getD-any}
 use Rattle.finite.specs.Lists.{all-in-at, all-in-by, all-places-at, all-places-by}
 
 -- what `if !r { return false; }` tells, where the code found r for the test t
 pub passes : {r t : Bool} → r ≡ t → not r ≡ false → t ≡ true
@@ -44,6 +46,10 @@ pub record Tests (answer : Bool) (here : ℕ → Bool) (first stop : ℕ) : Type
   pub each : T answer → (k : ℕ) → first ≤ k → k < stop → T (here k)
   pub whole : ((k : ℕ) → first ≤ k → k < stop → T (here k)) → T answer
 
+-- there is one such answer
+pub tests-same : {a b : Bool} {here : ℕ → Bool} {first stop : ℕ} → Tests a here first stop → Tests b here first stop → a ≡ b
+tests-same {a} {b} s t = same-test a b (λ h. t .whole (s .each h)) (λ h. s .whole (t .each h))
+
 -- the loop has come to k
 pub record Passed (here : ℕ → Bool) (first k : ℕ) : Type 0 where
   pub from : first ≤ k
@@ -52,7 +58,7 @@ pub record Passed (here : ℕ → Bool) (first k : ℕ) : Type 0 where
 pub none-passed : (here : ℕ → Bool) (first : ℕ) → Passed here first first
 none-passed here first = record { from = omega arith; so-far = λ j h l. absurd (omega arith) }
 
--- a iteration at k, in which the code found r for the test there
+-- an iteration at k, in which the code found r for the test there
 pub record Iteration (here : ℕ → Bool) (first k : ℕ) (r : Bool) : Type 0 where
   pub passed : Passed here first k
   pub found : r ≡ here k
@@ -69,19 +75,45 @@ module _ {here : ℕ → Bool} {first k : ℕ} {r : Bool} (t : Iteration here fi
             (below-suc k j (subst (λ (i : ℕ). j < i) (add-one k) l));
       }
 
+  -- the answer is false where the test fails ..
+  pub failed-tests : {stop : ℕ} → k < stop → not r ≡ true → Tests false here first stop
+  failed-tests l n =
+      record { each = λ a. absurd a; whole = λ f. subst T (fails (t .found) n) (f k (t .passed .from) l) }
+
   pub one-failed : {answer : Bool} {stop : ℕ} → Tests answer here first stop → k < stop → not r ≡ true →
       false ≡ answer
-  one-failed {answer} all-of l n =
-      sym (is-false answer (λ a. subst T (fails (t .found) n) (all-of .each a k (t .passed .from) l)))
+  one-failed all-of l n = tests-same (failed-tests l n) all-of
+
+-- .. and true at the end
+pub passed-tests : {here : ℕ → Bool} {first stop k : ℕ} → Passed here first k → stop ≤ k → Tests true here first stop
+passed-tests p l = record { each = λ a j h b. p .so-far j h (omega arith); whole = λ f. tt }
 
 pub all-passed : {answer : Bool} {here : ℕ → Bool} {first stop k : ℕ} → Tests answer here first stop →
     Passed here first k → stop ≤ k → true ≡ answer
-all-passed {answer} all-of p l = sym (is-true answer (all-of .whole (λ j h b. p .so-far j h (omega arith))))
+all-passed all-of p l = tests-same (passed-tests p l) all-of
 
 -- ---- what is tested
 
 pub below : (n : ℕ) (p : ℕ → Bool) → Tests (all n p) p 0 n
 below n p = record { each = λ t k h l. all-at n p t k l; whole = λ f. all-by n p (λ k l. f k (omega arith) l) }
+
+-- that none below n passes
+pub none-below : (n : ℕ) (p : ℕ → Bool) → Tests (not (any n p)) (λ k. not (p k)) 0 n
+none-below n p =
+    record {
+      each = λ t k h l. not-T (p k) (λ q. T-not (any n p) t (any-by n p k l q));
+      whole =
+          λ f.
+          not-T (any n p)
+          (λ a. let s = any-at n p a in T-not (p (s .0)) (f (s .0) (omega arith) (s .1)) (s .2));
+    }
+
+-- what the negation answers
+pub some-found : {b : Bool} → false ≡ not b → true ≡ b
+some-found {b} e = sym (not-false b (sym e))
+
+pub none-found : {b : Bool} → true ≡ not b → false ≡ b
+none-found {b} e = sym (not-true b (sym e))
 
 module _ {A : Type 0} (s : List A) (n : ℕ) (d : A) where
   pub from-on : (p : A → Bool) → Tests (all-in p (drop n s)) (λ k. p (getD s k d)) n (length s)
@@ -154,7 +186,7 @@ pub round-begun : {p : ℕ → Bool} {f : ℕ → ℕ} {start n a : ℕ} {answer
     all-in p (ring f start n a) ≡ answer → Round p f start n 0 a answer
 round-begun e = record { rest = rw sub-zero e }
 
--- a iteration at corner a, in which the code found r for the test there, and b for the next corner
+-- an iteration at corner a, in which the code found r for the test there, and b for the next corner
 pub record Corner (p : ℕ → Bool) (f : ℕ → ℕ) (start n k a : ℕ) (answer r : Bool) (b : ℕ) : Type 0 where
   pub round : Round p f start n k a answer
   pub within : k < n

@@ -1,0 +1,24 @@
+-- `link_of` answers `link-of`: past the list a number is left where it is. Assumes nothing.
+use borrow.Author.Needs.{needs}
+use mathlib.Core.Path.{sym}
+use lib.ListN.{List·getD-eq-default}
+use Rattle.finite.specs.Lists.{getD-any}
+use Rattle.orbits.proofs.link_of.Statement.{statement}
+use Rattle.orbits.proofs.link_of.Tie as tie
+
+mul-result : tie.Need-mul-result
+mul-result c = search needs
+
+shared-slice-read-result : tie.Need-shared-slice-read-result
+shared-slice-read-result c = search needs
+
+returns : tie.Need-returns
+returns c =
+    let s = c .before .before in
+    getD-any (s .args .links .now) (s .args .d) 0 (s .args .d) (c .before .if1 .taken)
+
+returns-2 : tie.Need-returns-2
+returns-2 c = sym (List·getD-eq-default (c .before .args .links .now) (c .before .args .d) (c .if1 .left))
+
+pub link-of-spec : {M : Type 1} → statement M
+link-of-spec = tie.close (tie.spec mul-result shared-slice-read-result returns returns-2)

@@ -1,3 +1,18 @@
+-- The theory of sound maps, and what the functions of this crate cite. Nothing is assumed.
+--     Checked      the three groups of tests are the definition
+--     Darts        own darts and helpers, present darts, the point link
+--     Links        both links are involutions of the present darts; the counts balance
+--     Tables       link arrays for `orbits`, made from a map
+--     Circuits     lists of points round which edges lead
+--     Outline      the outline is the one circuit that is a closed walk
+--     Soundness    what makes a map sound, with an outline and without
+--     Points       a map with one point more: its points
+--     Alone        a point that arrives alone: first, inside
+--     Splice       a circuit after a splice, over any two maps that differ so
+--     Edges        what `cut` and `join` change
+--     Spliced      an outside arrival is a splice, and leaves a sound map
+--     Pair         the second point
+--     Empty        the empty map is sound
 pub mod Checked
 pub mod Darts
 pub mod Links

@@ -17,13 +17,13 @@ Inv-loop f g n present order₀ seen₀ end₀ parts₀ closed₀ a₀ order see
 abbrev μ-loop : tie.MeasureT-loop
 μ-loop f g n present order₀ seen₀ end₀ parts₀ closed₀ a₀ order seen end parts closed a = n - a
 
--- in an iteration with an unseen dart
-abbrev iteration : tie.Then1 Inv-loop μ-loop → tie.In-loop Inv-loop μ-loop
-iteration t = t .before .before .before
+-- in an in-loop with an unseen dart
+abbrev in-loop : tie.Then1 Inv-loop μ-loop → tie.In-loop Inv-loop μ-loop
+in-loop t = t .before .before .before
 
 is-unseen : (t : tie.Then1 Inv-loop μ-loop) →
-    test-of (iteration t .before .before .args .present .now) (iteration t .before .loop .a) &&
-    not (test-of (iteration t .before .loop .seen) (iteration t .before .loop .a)) ≡ true
+    test-of (in-loop t .before .before .args .present .now) (in-loop t .before .loop .a) &&
+    not (test-of (in-loop t .before .loop .seen) (in-loop t .before .loop .a)) ≡ true
 is-unseen t = sym (t .before .is-unseen .ensures) ∙ t .if1 .taken
 
 loop-holds : tie.Need-loop-holds Inv-loop μ-loop
@@ -35,17 +35,17 @@ is-unseen-requires c κs = omega (arith, c .before .before .before .pre .within)
 visit-requires : tie.Need-visit-requires Inv-loop μ-loop
 visit-requires c κs =
     let t = c .before .before in
-    counting-ready (iteration t .before .before .pre) (iteration t .before .loop .inv) (iteration t .loop-test .taken) (is-unseen t)
+    counting-ready (in-loop t .before .before .pre) (in-loop t .before .loop .inv) (in-loop t .loop-test .taken) (is-unseen t)
 
 add-parts : tie.Need-add-parts Inv-loop μ-loop
 add-parts c =
-    let l = iteration (c .before .before .before) .before in
+    let l = in-loop (c .before .before .before) .before in
     omega (arith, counting-small (l .loop .inv) .0, l .loop .inv .within, l .before .pre .within)
 
 all-move-requires : tie.Need-all-move-requires Inv-loop μ-loop
 all-move-requires c κs =
     let t = c .before .before .before .before in
-    counting-movable (iteration t .before .before .pre) (iteration t .before .loop .inv) (iteration t .loop-test .taken) (is-unseen t)
+    counting-movable (in-loop t .before .before .pre) (in-loop t .before .loop .inv) (in-loop t .loop-test .taken) (is-unseen t)
     (c .before .visit .ensures)
 
 cast-closed : tie.Need-cast-closed Inv-loop μ-loop
@@ -53,7 +53,7 @@ cast-closed c = tt
 
 add-closed : tie.Need-add-closed Inv-loop μ-loop
 add-closed c =
-    let l = iteration (c .before .before .before .before .before) .before in
+    let l = in-loop (c .before .before .before .before .before) .before in
     omega (
       arith,
       counting-small (l .loop .inv) .1,

@@ -28,8 +28,8 @@ abbrev μ-loop : tie.MeasureT-loop
 abbrev in-loop : tie.After-are-in-line Inv-loop μ-loop → tie.In-loop Inv-loop μ-loop
 in-loop c = c .before .before
 
-abbrev start : tie.After-are-in-line Inv-loop μ-loop → tie.Start Inv-loop μ-loop
-start c = in-loop c .before .before .before
+abbrev at-start : tie.After-are-in-line Inv-loop μ-loop → tie.Start Inv-loop μ-loop
+at-start c = in-loop c .before .before .before
 
 point-at-requires : tie.Need-point-at-requires Inv-loop μ-loop
 point-at-requires c κs = search needs
@@ -48,11 +48,11 @@ are-in-line-requires c κs =
 
 -- the test of an iteration is that of the definition
 iteration : (c : tie.After-are-in-line Inv-loop μ-loop) →
-    let s = start c .args in
+    let s = at-start c .args in
     Iteration (λ k. not (here (now (s .xs)) (now (s .ys)) (s .j) (s .p) k)) 0 (in-loop c .before .loop .i)
     (not (c .are-in-line .result))
 iteration c =
-    let p = start c .args .p in
+    let p = at-start c .args .p in
     let b-is = in-loop c .before .before .point-at .ensures in
     record {
       passed = in-loop c .before .loop .inv;

@@ -35,15 +35,15 @@ is-present-or-fixed-requires : tie.Need-is-present-or-fixed-requires Inv-loop μ
 is-present-or-fixed-requires c κs = search needs
 
 module _ (c : tie.After-is-present-or-fixed Inv-loop μ-loop) where
-  abbrev head : tie.At-loop Inv-loop μ-loop
-  head = c .before .before .before .before .before .before .before
+  abbrev at-loop : tie.At-loop Inv-loop μ-loop
+  at-loop = c .before .before .before .before .before .before .before
 
   abbrev map : Map
-  map = head .before .args .t1
+  map = at-loop .before .args .t1
 
-  iteration : Iteration (here map) 0 (head .loop .d) (c .is-present-or-fixed .result)
+  iteration : Iteration (here map) 0 (at-loop .loop .d) (c .is-present-or-fixed .result)
   unfolding is-present edge-link has-helper
-  iteration = record { passed = head .loop .inv; found = c .is-present-or-fixed .ensures }
+  iteration = record { passed = at-loop .loop .inv; found = c .is-present-or-fixed .ensures }
 
 returns : tie.Need-returns Inv-loop μ-loop
 returns c = one-failed (iteration (c .before)) (tests (map (c .before))) (omega arith) (c .if1 .taken)

@@ -39,15 +39,15 @@ edge-crosses-requires : tie.Need-edge-crosses-requires Inv-loop μ-loop
 edge-crosses-requires c κs = search needs
 
 module _ (c : tie.After-edge-crosses Inv-loop μ-loop) where
-  abbrev head : tie.At-loop Inv-loop μ-loop
-  head = c .before .before .before .before .before .before .before
+  abbrev at-loop : tie.At-loop Inv-loop μ-loop
+  at-loop = c .before .before .before .before .before .before .before
 
   abbrev map : Map
-  map = head .before .args .t1
+  map = at-loop .before .args .t1
 
-  iteration : Iteration (here map) 0 (head .loop .d) (c .edge-crosses .result)
+  iteration : Iteration (here map) 0 (at-loop .loop .d) (c .edge-crosses .result)
   unfolding is-present edge-link has-helper is-fixed
-  iteration = record { passed = head .loop .inv; found = c .edge-crosses .ensures }
+  iteration = record { passed = at-loop .loop .inv; found = c .edge-crosses .ensures }
 
 returns : tie.Need-returns Inv-loop μ-loop
 returns c = one-failed (iteration (c .before)) (tests (map (c .before))) (omega arith) (c .if1 .taken)

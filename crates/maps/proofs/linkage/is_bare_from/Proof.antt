@@ -29,14 +29,14 @@ has-helper-requires : tie.Need-has-helper-requires Inv-loop μ-loop
 has-helper-requires c κs = search needs
 
 module _ (c : tie.After-has-helper Inv-loop μ-loop) where
-  abbrev head : tie.At-loop Inv-loop μ-loop
-  head = c .before .before
+  abbrev at-loop : tie.At-loop Inv-loop μ-loop
+  at-loop = c .before .before
 
-  abbrev start : tie.Start Inv-loop μ-loop
-  start = head .before .before
+  abbrev at-start : tie.Start Inv-loop μ-loop
+  at-start = at-loop .before .before
 
-  iteration : Iteration (here (start .args .helpers .now)) (start .args .n) (head .loop .k) (not (c .has-helper .result))
-  iteration = record { passed = head .loop .inv; found = ap not (c .has-helper .ensures) }
+  iteration : Iteration (here (at-start .args .helpers .now)) (at-start .args .n) (at-loop .loop .k) (not (c .has-helper .result))
+  iteration = record { passed = at-loop .loop .inv; found = ap not (c .has-helper .ensures) }
 
 returns : tie.Need-returns Inv-loop μ-loop
 returns c = one-failed (iteration (c .before)) (from-on _ _ false not) (omega arith) (not-twice (c .if1 .taken))

@@ -32,15 +32,15 @@ is-paired-or-fixed-requires : tie.Need-is-paired-or-fixed-requires Inv-loop μ-l
 is-paired-or-fixed-requires c κs = omega arith
 
 module _ (c : tie.After-is-paired-or-fixed Inv-loop μ-loop) where
-  abbrev head : tie.At-loop Inv-loop μ-loop
-  head = c .before .before .before .before .before .before .before
+  abbrev at-loop : tie.At-loop Inv-loop μ-loop
+  at-loop = c .before .before .before .before .before .before .before
 
   abbrev map : Map
-  map = head .before .args .t1
+  map = at-loop .before .args .t1
 
-  iteration : Iteration (here map) 0 (head .loop .k) (c .is-paired-or-fixed .result)
+  iteration : Iteration (here map) 0 (at-loop .loop .k) (c .is-paired-or-fixed .result)
   unfolding edge-link has-helper is-fixed
-  iteration = record { passed = head .loop .inv; found = c .is-paired-or-fixed .ensures }
+  iteration = record { passed = at-loop .loop .inv; found = c .is-paired-or-fixed .ensures }
 
 returns : tie.Need-returns Inv-loop μ-loop
 returns c = one-failed (iteration (c .before)) (tests (map (c .before))) (omega arith) (c .if1 .taken)

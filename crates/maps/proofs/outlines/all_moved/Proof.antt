@@ -22,15 +22,15 @@ is-outside-or-moved-requires : tie.Need-is-outside-or-moved-requires Inv-loop μ
 is-outside-or-moved-requires c κs = search needs
 
 module _ (c : tie.After-is-outside-or-moved Inv-loop μ-loop) where
-  abbrev head : tie.At-loop Inv-loop μ-loop
-  head = c .before .before
+  abbrev at-loop : tie.At-loop Inv-loop μ-loop
+  at-loop = c .before .before
 
-  abbrev start : tie.Start Inv-loop μ-loop
-  start = head .before .before .before
+  abbrev at-start : tie.Start Inv-loop μ-loop
+  at-start = at-loop .before .before .before
 
-  iteration : Iteration (moved-at (start .args .darts) (start .args .edge .now) (start .args .point .now)) 0
-      (head .loop .e) (c .is-outside-or-moved .result)
-  iteration = record { passed = head .loop .inv; found = c .is-outside-or-moved .ensures }
+  iteration : Iteration (moved-at (at-start .args .darts) (at-start .args .edge .now) (at-start .args .point .now)) 0
+      (at-loop .loop .e) (c .is-outside-or-moved .result)
+  iteration = record { passed = at-loop .loop .inv; found = c .is-outside-or-moved .ensures }
 
 returns : tie.Need-returns Inv-loop μ-loop
 returns c = one-failed (iteration (c .before)) (below dart-limit _) (omega arith) (c .if1 .taken)

@@ -20,18 +20,18 @@ is-end-or-left-requires : tie.Need-is-end-or-left-requires Inv-loop μ-loop
 is-end-or-left-requires c κs = c .before .before .pre
 
 module _ (c : tie.After-is-end-or-left Inv-loop μ-loop) where
-  abbrev head : tie.At-loop Inv-loop μ-loop
-  head = c .before .before
+  abbrev at-loop : tie.At-loop Inv-loop μ-loop
+  at-loop = c .before .before
 
-  abbrev start : tie.Start Inv-loop μ-loop
-  start = head .before
+  abbrev at-start : tie.Start Inv-loop μ-loop
+  at-start = at-loop .before
 
-  iteration : Iteration (aside-at (start .args .xs .now) (start .args .ys .now) (start .args .a) (start .args .b)) 0
-      (head .loop .c) (c .is-end-or-left .result)
-  iteration = record { passed = head .loop .inv; found = c .is-end-or-left .ensures }
+  iteration : Iteration (aside-at (at-start .args .xs .now) (at-start .args .ys .now) (at-start .args .a) (at-start .args .b)) 0
+      (at-loop .loop .c) (c .is-end-or-left .result)
+  iteration = record { passed = at-loop .loop .inv; found = c .is-end-or-left .ensures }
 
 returns : tie.Need-returns Inv-loop μ-loop
-returns c = one-failed (iteration (c .before)) (below (start (c .before) .args .n) _) (omega arith) (c .if1 .taken)
+returns c = one-failed (iteration (c .before)) (below (at-start (c .before) .args .n) _) (omega arith) (c .if1 .taken)
 
 add-c : tie.Need-add-c Inv-loop μ-loop
 add-c c = omega arith

@@ -28,23 +28,23 @@ present-darts-requires c κs = search needs
 mul-part-counts : tie.Need-mul-part-counts
 mul-part-counts c = search needs
 
--- where the arrays are filled
+-- where the arrays are at-point-links
 module _ (c : tie.After-present) where
-  abbrev filled : tie.After-point-links
-  filled = c .before .before .before .before .before .before .before
+  abbrev at-point-links : tie.After-point-links
+  at-point-links = c .before .before .before .before .before .before .before
 
-  abbrev start : tie.Start
-  start = filled .before .before .before .before .before
+  abbrev at-start : tie.Start
+  at-start = at-point-links .before .before .before .before .before
 
   abbrev map : Map
-  map = start .args .t1
+  map = at-start .args .t1
 
   whole : length (map .helpers) ≡ point-limit
   whole = search needs
 
-  points-are : filled .point-links .result ≡ table dart-limit (point-link map)
+  points-are : at-point-links .point-links .result ≡ table dart-limit (point-link map)
   unfolding point-link has-helper
-  points-are = filled .point-links .ensures
+  points-are = at-point-links .point-links .ensures
 
   presence-is : c .before .before .before .present-darts .result ≡ table dart-limit (is-present map)
   unfolding is-present has-helper
@@ -55,8 +55,8 @@ part-counts-requires c κs =
     let m = map c in
     let edge-whole : length (m .edge) ≡ dart-limit = search needs in
     let permuted =
-    tables-permuted m (whole c) edge-whole (start c .pre .0) (undone-involutes m (start c .pre .1)) in
-    subst (λ (p : List Bool). Permuted (dart-bound m) (test-of p) (m .edge) (filled c .point-links .result))
+    tables-permuted m (whole c) edge-whole (at-start c .pre .0) (undone-involutes m (at-start c .pre .1)) in
+    subst (λ (p : List Bool). Permuted (dart-bound m) (test-of p) (m .edge) (at-point-links c .point-links .result))
     (sym (presence-is c))
     (subst (λ (g : List ℕ). Permuted (dart-bound m) (test-of (table dart-limit (is-present m))) (m .edge) g)
     (sym (points-are c)) permuted)
@@ -67,7 +67,7 @@ returns c =
     let d = c .before .before in
     let m = map d in
     let points = ap link-of (points-are d) ∙ point-table m (whole d) in
-    let presence = ap test-of (presence-is d) ∙ present-table m (start d .pre .0) in
+    let presence = ap test-of (presence-is d) ∙ present-table m (at-start d .pre .0) in
     let counted = ap (λ (k : PartCounts). k .closed) (c .before .part-counts .ensures) in
     ap (λ (k : ℕ). eqb k 1) (counted ∙ (λ i. closed-walks (edge-link m) (points i) (dart-bound m) (presence i)))
 

@@ -57,29 +57,29 @@ is-supporting-edge-requires c κs =
 
 -- where the two calls of a iteration have been made
 module _ (c : tie.After-is-supporting-edge Inv-loop μ-loop) where
-  abbrev next : tie.After-next-corner Inv-loop μ-loop
-  next = c .before .before .before .before .before .before
+  abbrev at-next-corner : tie.After-next-corner Inv-loop μ-loop
+  at-next-corner = c .before .before .before .before .before .before
 
-  abbrev head : tie.At-loop Inv-loop μ-loop
-  head = next .before .before .before .before .before
+  abbrev at-loop : tie.At-loop Inv-loop μ-loop
+  at-loop = at-next-corner .before .before .before .before .before
 
   abbrev map : Map
-  map = head .before .before .args .t1
+  map = at-loop .before .before .args .t1
 
-  led : next .next-corner .result ≡ next-corner map (head .loop .a)
+  led : at-next-corner .next-corner .result ≡ next-corner map (at-loop .loop .a)
   unfolding next-corner edge-link
-  led = next .next-corner .ensures
+  led = at-next-corner .next-corner .ensures
 
-  corner : Corner (here map) (next-corner map) (owner (map .reference)) (map .count) (head .loop .counter)
-      (head .loop .a) (others-left map) (c .is-supporting-edge .result) (next .next-corner .result)
+  corner : Corner (here map) (next-corner map) (owner (map .reference)) (map .count) (at-loop .loop .counter)
+      (at-loop .loop .a) (others-left map) (c .is-supporting-edge .result) (at-next-corner .next-corner .result)
   unfolding point
   corner =
       record {
-        round = head .loop .inv;
+        round = at-loop .loop .inv;
         within = omega arith;
         found =
             c .is-supporting-edge .ensures
-            ∙ ap (λ (b : ℕ). all (map .count) (aside-at (map .xs) (map .ys) (head .loop .a) b)) led;
+            ∙ ap (λ (b : ℕ). all (map .count) (aside-at (map .xs) (map .ys) (at-loop .loop .a) b)) led;
         led = led;
       }
 

@@ -61,34 +61,34 @@ point-links-requires c κs = search needs
 
 -- where the point links are filled, past the two tests of the reference
 module _ (c : tie.After-point-links) where
-  abbrev tested : tie.Else2
-  tested = c .before .before .before .before .before
+  abbrev at-else : tie.Else2
+  at-else = c .before .before .before .before .before
 
-  abbrev start : tie.Start
-  start = tested .before .before .before .before .before .before
+  abbrev at-start : tie.Start
+  at-start = at-else .before .before .before .before .before .before
 
   abbrev map : Map
-  map = start .args .t1
+  map = at-start .args .t1
 
   own-dart : is-own (map .reference) ≡ true
-  own-dart = asked-own (tested .before .before .before .before .before)
+  own-dart = asked-own (at-else .before .before .before .before .before)
 
   present-dart : is-present map (map .reference) ≡ true
-  present-dart = sym (asked-present (tested .before)) ∙ not-false _ (tested .if2 .left)
+  present-dart = sym (asked-present (at-else .before)) ∙ not-false _ (at-else .if2 .left)
 
   there : Dart (dart-bound map) (is-present map) (map .reference)
   there =
       let p = of-true _ present-dart in record { below = present-below map (map .reference) p; is-present = p }
 
   within : dart-bound map ≤ dart-limit
-  within = omega (arith, start .pre .0)
+  within = omega (arith, at-start .pre .0)
 
   points-are : c .point-links .result ≡ table dart-limit (point-link map)
   unfolding point-link has-helper
   points-are = c .point-links .ensures
 
   leads : link-of (c .point-links .result) ≡ point-link map
-  leads = ap link-of points-are ∙ point-table map (helpers-whole start)
+  leads = ap link-of points-are ∙ point-table map (helpers-whole at-start)
 
 part-requires : tie.Need-part-requires
 unfolding edge-link
@@ -96,11 +96,11 @@ part-requires c κs =
     let d = c .before .before in
     let m = map d in
     record {
-      first-whole = edge-whole (start d);
+      first-whole = edge-whole (at-start d);
       second-whole = ap length (points-are d) ∙ length-table dart-limit (point-link m);
       below =
           subst (λ (g : ℕ → ℕ). StaysBelow dart-limit (by-two (edge-link m) g) (m .reference)) (sym (leads d))
-          (part-stays (undone-keeps m (start d .pre .1)) (within d) (there d));
+          (part-stays (undone-keeps m (at-start d .pre .1)) (within d) (there d));
     }
 
 slice-aggregate-all-moved : tie.Need-slice-aggregate-all-moved
@@ -122,7 +122,7 @@ returns-3 c =
     c .all-moved .ensures
     ∙ ap (λ (s : DartSet). all dart-limit (moved-at s (m .edge) (d .point-links .result))) (found .part .ensures)
     ∙ (λ i. all dart-limit (moved (edge-link m) (leads d i) (m .reference)))
-    ∙ closed-by-set (undone-keeps m (start d .pre .1)) (within d) (there d) in
+    ∙ closed-by-set (undone-keeps m (at-start d .pre .1)) (within d) (there d) in
     rw (own-dart d, present-dart d) closed
 
 pub reference-on-outline-spec : {M : Type 1} → statement M

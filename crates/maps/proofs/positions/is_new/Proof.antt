@@ -34,25 +34,25 @@ is-same-requires : tie.Need-is-same-requires Inv-loop μ-loop
 is-same-requires c κs = search needs
 
 module _ (c : tie.After-is-same Inv-loop μ-loop) where
-  abbrev head : tie.At-loop Inv-loop μ-loop
-  head = c .before .before .before
+  abbrev at-loop : tie.At-loop Inv-loop μ-loop
+  at-loop = c .before .before .before
 
-  abbrev start : tie.Start Inv-loop μ-loop
-  start = head .before
+  abbrev at-start : tie.Start Inv-loop μ-loop
+  at-start = at-loop .before
 
-  iteration : Iteration (here (start .args .xs .now) (start .args .ys .now) (start .args .p)) 0 (head .loop .j)
+  iteration : Iteration (here (at-start .args .xs .now) (at-start .args .ys .now) (at-start .args .p)) 0 (at-loop .loop .j)
       (not (c .is-same .result))
   iteration =
       record {
-        passed = head .loop .inv;
+        passed = at-loop .loop .inv;
         found =
             ap not
-            (c .is-same .ensures ∙ ap (λ (q : Point). same-point q (start .args .p)) (c .before .point-at .ensures));
+            (c .is-same .ensures ∙ ap (λ (q : Point). same-point q (at-start .args .p)) (c .before .point-at .ensures));
       }
 
 returns : tie.Need-returns Inv-loop μ-loop
 returns c =
-    one-failed (iteration (c .before)) (below (start (c .before) .args .n) _) (omega arith) (not-twice (c .if1 .taken))
+    one-failed (iteration (c .before)) (below (at-start (c .before) .args .n) _) (omega arith) (not-twice (c .if1 .taken))
 
 add-j : tie.Need-add-j Inv-loop μ-loop
 add-j c = omega arith

@@ -34,17 +34,17 @@ coordinate-requires : tie.Need-coordinate-requires Inv-loop μ-loop
 coordinate-requires c κs = search needs
 
 module _ (c : tie.After-coordinate Inv-loop μ-loop) where
-  abbrev head : tie.At-loop Inv-loop μ-loop
-  head = c .before .before
+  abbrev at-loop : tie.At-loop Inv-loop μ-loop
+  at-loop = c .before .before
 
-  abbrev start : tie.Start Inv-loop μ-loop
-  start = head .before
+  abbrev at-start : tie.Start Inv-loop μ-loop
+  at-start = at-loop .before
 
-  iteration : Iteration (here (start .args .coordinates .now)) (start .args .n) (head .loop .k)
+  iteration : Iteration (here (at-start .args .coordinates .now)) (at-start .args .n) (at-loop .loop .k)
       (eqb 0 (ofZ w64 (c .coordinate .result)))
   iteration =
       record {
-        passed = head .loop .inv;
+        passed = at-loop .loop .inv;
         found =
             eqb-read {w = w64} {x = pos 0} {y = c .coordinate .result} (literal-fits (pos 0) tt)
             (record { sfits = c .coordinate .ok })

@@ -33,15 +33,15 @@ is-first-requires : tie.Need-is-first-requires Inv-loop μ-loop
 is-first-requires c κs = search needs
 
 module _ (c : tie.After-is-first Inv-loop μ-loop) where
-  abbrev head : tie.At-loop Inv-loop μ-loop
-  head = c .before .before .before .before .before .before .before
+  abbrev at-loop : tie.At-loop Inv-loop μ-loop
+  at-loop = c .before .before .before .before .before .before .before
 
   abbrev map : Map
-  map = head .before .args .t1
+  map = at-loop .before .args .t1
 
-  iteration : Iteration (here map) 0 (head .loop .k) (c .is-first .result)
+  iteration : Iteration (here map) 0 (at-loop .loop .k) (c .is-first .result)
   unfolding point
-  iteration = record { passed = head .loop .inv; found = c .is-first .ensures }
+  iteration = record { passed = at-loop .loop .inv; found = c .is-first .ensures }
 
 returns : tie.Need-returns Inv-loop μ-loop
 returns c = one-failed (iteration (c .before)) (tests (map (c .before))) (omega arith) (c .if1 .taken)

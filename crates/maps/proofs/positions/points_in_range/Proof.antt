@@ -36,17 +36,17 @@ in-range-requires : tie.Need-in-range-requires Inv-loop μ-loop
 in-range-requires c κs = search needs
 
 module _ (c : tie.After-in-range Inv-loop μ-loop) where
-  abbrev head : tie.At-loop Inv-loop μ-loop
-  head = c .before .before .before .before .before .before .before .before
+  abbrev at-loop : tie.At-loop Inv-loop μ-loop
+  at-loop = c .before .before .before .before .before .before .before .before
 
   abbrev map : Map
-  map = head .before .args .t1
+  map = at-loop .before .args .t1
 
-  iteration : Iteration (here map) 0 (head .loop .k) (c .in-range .result)
+  iteration : Iteration (here map) 0 (at-loop .loop .k) (c .in-range .result)
   unfolding point
   iteration =
       record {
-        passed = head .loop .inv;
+        passed = at-loop .loop .inv;
         found = c .in-range .ensures ∙ ap in-range (c .before .point-at .ensures);
       }
 

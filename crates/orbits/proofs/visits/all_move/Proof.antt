@@ -33,11 +33,11 @@ module _ (c : tie.After-both-move Inv-loop μ-loop) where
   abbrev at-loop : tie.At-loop Inv-loop μ-loop
   at-loop = c .before .before .before
 
-  abbrev start : tie.Start Inv-loop μ-loop
-  start = at-loop .before
+  abbrev at-start : tie.Start Inv-loop μ-loop
+  at-start = at-loop .before
 
-  iteration : Iteration (both-move-at (link-of (start .args .f .now)) (link-of (start .args .g .now)) (start .args .order .now))
-      (start .args .from) (at-loop .loop .i) (c .both-move .result)
+  iteration : Iteration (both-move-at (link-of (at-start .args .f .now)) (link-of (at-start .args .g .now)) (at-start .args .order .now))
+      (at-start .args .from) (at-loop .loop .i) (c .both-move .result)
   iteration = record { passed = at-loop .loop .inv; found = c .both-move .ensures }
 
 returns : tie.Need-returns Inv-loop μ-loop

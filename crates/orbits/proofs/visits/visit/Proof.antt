@@ -18,30 +18,30 @@ Inv-loop f g d order₀ seen₀ end head₀ last₀ order seen head last =
 abbrev μ-loop : tie.MeasureT-loop
 μ-loop f g d order₀ seen₀ end head₀ last₀ order seen head last = dart-limit - head
 
-abbrev start : tie.At-loop Inv-loop μ-loop → tie.Start Inv-loop μ-loop
-start l = l .before .before .before .before
+abbrev at-start : tie.At-loop Inv-loop μ-loop → tie.Start Inv-loop μ-loop
+at-start l = l .before .before .before .before
 
 -- where the visit is at the head of the loop
 abbrev Now : tie.At-loop Inv-loop μ-loop → Type 0
 Now l =
-    Visiting (start l .args .f .now) (start l .args .g .now) (start l .args .d) (start l .args .order .now)
-    (start l .args .end) (l .loop .order) (l .loop .seen) (l .loop .last) (l .loop .head)
+    Visiting (at-start l .args .f .now) (at-start l .args .g .now) (at-start l .args .d) (at-start l .args .order .now)
+    (at-start l .args .end) (l .loop .order) (l .loop .seen) (l .loop .last) (l .loop .head)
 
 visiting : (l : tie.At-loop Inv-loop μ-loop) → Now l
-visiting l = l .loop .inv (start l .args .order .now) (visit-begins (start l .pre) (l .before .put .ensures))
+visiting l = l .loop .inv (at-start l .args .order .now) (visit-begins (at-start l .pre) (l .before .put .ensures))
 
 left : (c : tie.In-loop Inv-loop μ-loop) → c .before .loop .head < dart-limit
 left c = omega (arith, c .loop-test .taken, queue-small (visiting (c .before) .grown .queue))
 
 -- the dart at `head`, and both its links
 at-head : (c : tie.In-loop Inv-loop μ-loop) → getD (c .before .loop .order) (c .before .loop .head) 0 < dart-limit
-at-head c = head-below (start (c .before) .pre .within) (visiting (c .before)) (c .loop-test .taken)
+at-head c = head-below (at-start (c .before) .pre .within) (visiting (c .before)) (c .loop-test .taken)
 
 links-below : (c : tie.In-loop Inv-loop μ-loop) →
     let a = getD (c .before .loop .order) (c .before .loop .head) 0 in
-    (getD (start (c .before) .args .f .now) a 0 < dart-limit) × (getD (start (c .before) .args .g .now) a 0 < dart-limit)
+    (getD (at-start (c .before) .args .f .now) a 0 < dart-limit) × (getD (at-start (c .before) .args .g .now) a 0 < dart-limit)
 links-below c =
-    let w = start (c .before) .pre .within in
+    let w = at-start (c .before) .pre .within in
     let v = visiting (c .before) in (first-below w v (c .loop-test .taken), second-below w v (c .loop-test .taken))
 
 put-requires : tie.Need-put-requires Inv-loop μ-loop
@@ -79,19 +79,19 @@ put-requires-3 c κs =
     let p = c .before .before .before in
     (p .put2 .ensures .grown .queue, search (links-below (p .before .before .before .before .before)))
 
-abbrev iteration : tie.After-put3 Inv-loop μ-loop → tie.In-loop Inv-loop μ-loop
-iteration c = c .before .before .before .before .before .before .before .before .before
+abbrev in-loop : tie.After-put3 Inv-loop μ-loop → tie.In-loop Inv-loop μ-loop
+in-loop c = c .before .before .before .before .before .before .before .before .before
 
 add-head : tie.Need-add-head Inv-loop μ-loop
-add-head c = omega (arith, left (iteration c))
+add-head c = omega (arith, left (in-loop c))
 
 loop-less : tie.Need-loop-less Inv-loop μ-loop
-loop-less c = omega (arith, left (iteration c))
+loop-less c = omega (arith, left (in-loop c))
 
 loop-again : tie.Need-loop-again Inv-loop μ-loop
 loop-again c entry v =
-    let t = iteration c in
-    visit-step (start (t .before) .pre .within) (t .before .loop .inv entry v) (t .loop-test .taken)
+    let t = in-loop c in
+    visit-step (at-start (t .before) .pre .within) (t .before .loop .inv entry v) (t .loop-test .taken)
     (c .before .before .before .before .put2 .ensures) (c .put3 .ensures)
 
 returns : tie.Need-returns Inv-loop μ-loop

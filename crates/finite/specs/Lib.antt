@@ -15,3 +15,4 @@ pub mod Cycles
 pub mod ListLaws
 pub mod CycleLaws
 pub mod Loops
+pub mod Reversal

@@ -27,3 +27,5 @@ pub mod Edges
 pub mod Spliced
 pub mod Pair
 pub mod Empty
+pub mod Orbits
+pub mod Walks

@@ -12,6 +12,7 @@ mod linkage;
 mod outlines;
 pub mod positions;
 pub mod reading;
+pub mod traversal;
 
 // Whether a map is sound, whatever its fields hold: any link, any reference, any count.
 pub fn is_sound(m: Map) -> bool

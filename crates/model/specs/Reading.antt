@@ -5,6 +5,7 @@ use mathlib.Core.Bool.{not}
 use mathlib.Core.List.{List, [], _∷_}
 use Prim.Native.Nat.{ℕ}
 use Rattle.finite.specs.Bounded.{count}
+use Rattle.orbits.specs.declared.DartSet.{DartSet}
 use Rattle.orbits.specs.Reach.{by-one, by-two, reaches}
 use Rattle.orbits.specs.Classes.{classes}
 use Rattle.orbits.specs.Walks.{walk}
@@ -59,12 +60,15 @@ unfoldable pub counted : Map → Counted
 counted m = unless Counted.Refused (unsound m ∷ []) (Counted.Numbers (counts m))
 
 -- the darts of an orbit as a set
+abbrev pub orbit-set : Map → Kind → ℕ → DartSet
+orbit-set m kind d = set-of (reaches (links-of m kind) (dart-bound m) d)
+
 unfoldable pub orbit-of : Map → Kind → ℕ → Orbit
 orbit-of m kind d =
     unless
     (λ r. record { outcome = Outcome.Refused r; darts = no-darts })
     (unsound m ∷ absent m d ∷ [])
-    (record { outcome = Outcome.Served; darts = set-of (reaches (links-of m kind) (dart-bound m) d) })
+    (record { outcome = Outcome.Served; darts = orbit-set m kind d })
 
 unfoldable pub walked : Map → ℕ → Walked
 walked m d =

@@ -3,6 +3,7 @@
 use orbits::DART_LIMIT;
 use orbits::DartSet;
 use orbits::Walk;
+use orbits::Walker;
 
 // The most points that a map has.
 pub const POINT_LIMIT: usize = 512;
@@ -106,11 +107,7 @@ pub enum Walked {
     Refused(Refusal),
 }
 
-// A walker stands at a dart.
-pub struct Walker {
-    pub dart: usize,
-}
-
+// The walker that was moved.
 pub enum Moved {
     At(Walker),
     Refused(Refusal),

@@ -81,7 +81,7 @@ counting-ends {f} {g} {n} {present} {a = a} c l =
       closed = (c .closed-counted ∙ ap (λ (k : ℕ). count k (first-closed f g n present)) e) i;
     }
 
-count-next : (a : ℕ) (p : ℕ → Bool) → count (a + 1) p ≡ count a p + one-if (p a)
+pub count-next : (a : ℕ) (p : ℕ → Bool) → count (a + 1) p ≡ count a p + one-if (p a)
 unfolding count sum
 count-next a p = ap (λ (k : ℕ). count k p) (add-one a)
 
@@ -89,7 +89,7 @@ pub byte-small : (b : Bool) → boolByte b ≤ 1
 byte-small true = omega arith
 byte-small false = omega arith
 
-one-if-byte : (b : Bool) → boolByte b ≡ one-if b
+pub one-if-byte : (b : Bool) → boolByte b ≡ one-if b
 unfolding one-if
 one-if-byte true = refl
 one-if-byte false = refl

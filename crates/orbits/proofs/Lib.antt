@@ -22,6 +22,7 @@ pub mod Building
 pub mod Genus
 pub mod Balance
 pub mod Walks
+pub mod Moves
 pub mod Rings
 pub mod ClosedWalks
 pub mod Links

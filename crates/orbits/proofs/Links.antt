@@ -12,7 +12,7 @@ use Rattle.finite.specs.Bounded.{lt-or-ge}
 use Rattle.finite.specs.Lists.{getD-any}
 use Rattle.finite.specs.Loops.{Filled}
 use Rattle.orbits.specs.Sets.{dart-limit}
-use Rattle.orbits.specs.Links.{link-of, _then_, Composed, Permutes, Permutation}
+use Rattle.orbits.specs.Links.{link-of, _then_, Composed, Permutes, Permutation, Permuted}
 use Rattle.orbits.proofs.Permutations.{compose-permutes}
 
 module _ (s : List ℕ) (whole : length s ≡ dart-limit) where
@@ -47,3 +47,16 @@ composed-permutes {n} {present} c p q =
       whole = c .whole;
       permutes = subst⁻¹ (Permutes n present) (c .leads) (compose-permutes (p .permutes) (q .permutes));
     }
+
+-- one of two such lists, or both one after the other, taken twice
+pub permuted-first : {n : ℕ} {present : ℕ → Bool} {f g : List ℕ} → Permuted n present f g → Permuted n present f f
+permuted-first p = record { within = p .within; first = p .first; second = p .first }
+
+pub permuted-second : {n : ℕ} {present : ℕ → Bool} {f g : List ℕ} → Permuted n present f g → Permuted n present g g
+permuted-second p = record { within = p .within; first = p .second; second = p .second }
+
+pub permuted-composed : {n : ℕ} {present : ℕ → Bool} {f g h : List ℕ} → Permuted n present f g → Composed f g h →
+    Permuted n present h h
+permuted-composed p c =
+    let both = composed-permutes c (p .first) (p .second) in
+    record { within = p .within; first = both; second = both }

@@ -44,19 +44,19 @@ open-ends-by i j fixed h d r =
 -- ---- steps
 
 module _ (f g : ℕ → ℕ) (start : ℕ) where
-  edge-fixed : (k d m : ℕ) → f d ≡ d → edge-step f g start (suc k) d m ≡ ends Loose d m
+  pub edge-fixed : (k d m : ℕ) → f d ≡ d → edge-step f g start (suc k) d m ≡ ends Loose d m
   unfolding edge-step is-fixed
   edge-fixed k d m e = rw (eq-eqb (f d) d e)
 
-  edge-moved : (k d m : ℕ) → f d ≢ d → edge-step f g start (suc k) d m ≡ point-step f g start k (f d) (suc m)
+  pub edge-moved : (k d m : ℕ) → f d ≢ d → edge-step f g start (suc k) d m ≡ point-step f g start k (f d) (suc m)
   unfolding edge-step is-fixed
   edge-moved k d m e = rw (ne-eqb (f d) d e)
 
-  point-home : (k d m : ℕ) → g d ≡ start → point-step f g start (suc k) d m ≡ ends Home (g d) (suc m)
+  pub point-home : (k d m : ℕ) → g d ≡ start → point-step f g start (suc k) d m ≡ ends Home (g d) (suc m)
   unfolding point-step
   point-home k d m e = rw (eq-eqb (g d) start e)
 
-  point-on : (k d m : ℕ) → g d ≢ start → point-step f g start (suc k) d m ≡ edge-step f g start k (g d) (suc m)
+  pub point-on : (k d m : ℕ) → g d ≢ start → point-step f g start (suc k) d m ≡ edge-step f g start k (g d) (suc m)
   unfolding point-step
   point-on k d m e = rw (ne-eqb (g d) start e)
 

@@ -1,5 +1,6 @@
 // Orbits, connected parts and walks of darts, with the links as parameters, and the set of darts
 // that an orbit is given as.
+pub mod steps;
 mod visits;
 
 ghost use mathlib.Core.Path.{_≡_};
@@ -7,6 +8,7 @@ ghost use lib.ListN.{length};
 ghost use Rattle.orbits.specs.Reach.{by-one, by-two, reaches, StaysBelow};
 ghost use Rattle.orbits.specs.Classes.{classes};
 ghost use Rattle.orbits.specs.Sets.{dart-limit, set-of, no-darts, has, with-dart};
+ghost use Rattle.orbits.specs.Walks.{walker-at};
 ghost use Rattle.orbits.specs.Links.{link-of, test-of, Composed, Followable, Permuted, part-counts};
 
 // Darts are numbered 0 to 1,023.
@@ -75,6 +77,39 @@ pub struct Walk {
     pub last: usize,
     pub ending: Ending,
     pub moves: usize,
+}
+
+// A walker stands at a dart.
+pub struct Walker {
+    pub dart: usize,
+}
+
+impl Walker {
+    // A walker that starts at dart d.
+    pub fn starting_at(d: usize) -> Self
+        ensures { λ r. ⌜ r ≡ walker-at d ⌝ }
+    {
+        Walker { dart: d }
+    }
+
+    // The walker moved along a link. At a number past the list it stays.
+    pub fn moved(self, link: &[usize]) -> Self
+        ensures { λ r. ⌜ r ≡ walker-at (link-of (now (link .entry)) (self .dart)) ⌝ }
+    {
+        let d = self.dart;
+        if d < link.len() {
+            Walker { dart: link[d] }
+        } else {
+            self
+        }
+    }
+
+    // The dart that it has reached.
+    pub fn dart(self) -> usize
+        ensures { λ r. ⌜ r ≡ self .dart ⌝ }
+    {
+        self.dart
+    }
 }
 
 // How many connected parts there are, and in how many of them neither link fixes a dart.

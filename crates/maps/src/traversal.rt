@@ -1,0 +1,104 @@
+// What is read from a sound map dart by dart: the orbit of a dart, the counts, the walk from a dart,
+// and a walker moved by a link of the map. The loops are lent arrays and copy no map.
+
+use super::arrays::point_links;
+use super::arrays::present_darts;
+use super::reading::is_present;
+use model::Counts;
+use model::Kind;
+use model::Map;
+use orbits::DartSet;
+use orbits::Walk;
+use orbits::Walker;
+use orbits::composed;
+use orbits::orbit;
+use orbits::orbit_count;
+use orbits::part;
+use orbits::part_counts;
+use orbits::steps::walk;
+ghost use mathlib.Core.Path.{_≡_};
+ghost use Prim.Native.Nat.{_≤_};
+ghost use lib.Dec.{T};
+ghost use Rattle.finite.specs.Bounded.{count};
+ghost use Rattle.orbits.specs.Walks.{walk, walker-at};
+ghost use Rattle.orbits.specs.Links.{test-of};
+ghost use Rattle.model.specs.Maps.{point-limit, own, is-present, edge-link, point-link};
+ghost use Rattle.model.specs.Sound.{Sound};
+ghost use Rattle.model.specs.Reading.{orbit-set, counts, darts};
+ghost use Rattle.model.specs.Maps.{present-by};
+
+// The orbit of a present dart: its edge, its vertex, its face, or its connected part.
+pub fn orbit_of(m: Map, kind: Kind, d: usize) -> DartSet
+    requires { ⌜ Sound m × T (is-present m d) ⌝ }
+    ensures { λ r. ⌜ r ≡ orbit-set m kind d ⌝ }
+{
+    let edge = m.edge;
+    let point = point_links(&m.helpers);
+    match kind {
+        Kind::Edge => orbit(&edge, d),
+        Kind::Vertex => orbit(&point, d),
+        Kind::Face => {
+            let face = composed(&edge, &point);
+            orbit(&face, d)
+        }
+        Kind::Part => part(&edge, &point, d),
+    }
+}
+
+// The numbers of darts, vertices, edges, faces and connected parts.
+pub fn counts_of(m: Map) -> Counts
+    requires { ⌜ Sound m ⌝ }
+    ensures { λ r. ⌜ r ≡ counts m ⌝ }
+{
+    let n = m.count;
+    let edge = m.edge;
+    let point = point_links(&m.helpers);
+    let face = composed(&edge, &point);
+    let present = present_darts(&m.helpers, n);
+    let parts = part_counts(&edge, &point, 2 * n, &present);
+    Counts {
+        darts: dart_count(&m.helpers, n),
+        vertices: orbit_count(&point, 2 * n, &present),
+        edges: orbit_count(&edge, 2 * n, &present),
+        faces: orbit_count(&face, 2 * n, &present),
+        parts: parts.parts,
+    }
+}
+
+// How many darts are present in a map of so many points.
+fn dart_count(helpers: &[bool], points: usize) -> usize
+    requires { ⌜ points ≤ point-limit ⌝ }
+    ensures { λ r. ⌜ r ≡ count (own points) (present-by (test-of (now (helpers .entry))) points) ⌝ }
+{
+    let mut darts = 0;
+    for d in 0..2 * points {
+        darts += is_present(helpers, points, d) as usize;
+    }
+    darts
+}
+
+// The walk from a dart, edge and point in turn.
+pub fn walk_of(m: Map, d: usize) -> Walk
+    requires { ⌜ m .count ≤ point-limit ⌝ }
+    ensures { λ r. ⌜ r ≡ walk (edge-link m) (point-link m) (darts m) d ⌝ }
+{
+    let n = m.count;
+    let edge = m.edge;
+    let point = point_links(&m.helpers);
+    walk(&edge, &point, dart_count(&m.helpers, n), d)
+}
+
+// The walker moved by the edge link.
+pub fn moved_by_edge(m: Map, walker: Walker) -> Walker
+    ensures { λ r. ⌜ r ≡ walker-at (edge-link m (walker .dart)) ⌝ }
+{
+    walker.moved(&m.edge)
+}
+
+// The walker moved by the point link.
+pub fn moved_by_point(m: Map, walker: Walker) -> Walker
+    ensures { λ r. ⌜ r ≡ walker-at (point-link m (walker .dart)) ⌝ }
+{
+    let point = point_links(&m.helpers);
+    walker.moved(&point)
+}

@@ -1,0 +1,25 @@
+-- `steps::walk` meets its contract: a walk begins with an edge step, all its moves left. Assumes nothing.
+use borrow.Author.Needs.{needs}
+use mathlib.Core.Path.{ap, _∙_}
+use Rattle.orbits.specs.declared.Walker.{Walker}
+use Rattle.orbits.specs.Links.{link-of}
+use Rattle.orbits.specs.Walks.{edge-step, walk}
+use Rattle.orbits.proofs.steps.walk.Statement.{statement}
+use Rattle.orbits.proofs.steps.walk.Tie as tie
+
+starting-at-requires : tie.Need-starting-at-requires
+starting-at-requires c κs = search needs
+
+edge-step-requires : tie.Need-edge-step-requires
+edge-step-requires c κs = search needs
+
+returns : tie.Need-returns
+unfolding walk
+returns c =
+    let s = c .before .before .before .before .args in
+    c .edge-step .ensures
+    ∙ ap (λ (w : Walker). edge-step (link-of (s .f .now)) (link-of (s .g .now)) (s .d) (s .n) (w .dart) 0)
+    (c .before .starting-at .ensures)
+
+pub walk-spec : {M : Type 1} → statement M
+walk-spec = tie.close (tie.spec starting-at-requires edge-step-requires returns)

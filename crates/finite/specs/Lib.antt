@@ -16,3 +16,4 @@ pub mod ListLaws
 pub mod CycleLaws
 pub mod Loops
 pub mod Reversal
+pub mod Rotations

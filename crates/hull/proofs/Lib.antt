@@ -13,3 +13,7 @@ pub mod Theorems
 pub mod Indices
 pub mod Seeing
 pub mod Cases
+pub mod Corners
+pub mod CornerLoops
+pub mod Views
+pub mod Placing

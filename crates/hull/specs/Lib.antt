@@ -3,3 +3,5 @@
 --     Sight       a corner that is sought; what is seen of an outline
 pub mod Requires
 pub mod Sight
+pub mod Listing
+pub mod Viewing

@@ -3,6 +3,8 @@
 
 mod change;
 mod conditions;
+pub mod listing;
+pub mod query;
 mod sight;
 
 use crate::change::alone;

@@ -15,3 +15,5 @@ pub mod Convex
 pub mod Corners
 pub mod Split
 pub mod Hull
+pub mod Aligned
+pub mod Heights

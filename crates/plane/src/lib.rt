@@ -1,5 +1,8 @@
 // The plane: the orientation of three points, and what is asked of points.
 
+pub mod between;
+pub mod lower;
+
 use model::Oriented;
 use model::Point;
 use model::Refusal;

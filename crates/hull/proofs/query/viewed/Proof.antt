@@ -1,0 +1,58 @@
+-- `hull::query::viewed` meets its contract, one return for each side. Assumes nothing.
+use borrow.Author.Needs.{needs}
+use mathlib.Core.Path.{sym, ap, _∙_}
+use Rattle.hull.specs.declared.query.Side.{Side}
+use Rattle.hull.specs.Viewing.{viewed}
+use Rattle.hull.proofs.query.viewed.Statement.{statement}
+use Rattle.hull.proofs.query.viewed.Tie as tie
+
+enum-told : tie.Need-enum-told
+enum-told c = search needs
+
+enum-told-2 : tie.Need-enum-told-2
+enum-told-2 c = search needs
+
+add-t5 : tie.Need-add-t5
+add-t5 c = search needs
+
+enum-told-3 : tie.Need-enum-told-3
+enum-told-3 c = search needs
+
+between-requires : tie.Need-between-requires
+between-requires c κs = search needs
+
+enum-told-4 : tie.Need-enum-told-4
+enum-told-4 c = search needs
+
+returns : tie.Need-returns
+returns c = search needs
+
+returns-2 : tie.Need-returns-2
+returns-2 c =
+    let s = c .before .before .before .args in
+    sym (ap (λ (side : Side). viewed (s .view) side (s .a)) (c .before .enum-told2 .given .1))
+
+returns-3 : tie.Need-returns-3
+returns-3 c =
+    let s = c .before .before .before .args in
+    c .between .ensures ∙ sym (ap (λ (side : Side). viewed (s .view) side (s .a)) (c .before .enum-told3 .given .1))
+
+returns-4 : tie.Need-returns-4
+returns-4 c =
+    let s = c .before .before .args in
+    sym (ap (λ (side : Side). viewed (s .view) side (s .a)) (c .enum-told4 .given .1))
+
+pub viewed-spec : {M : Type 1} → statement M
+viewed-spec =
+    tie.close
+    (tie.spec
+    enum-told
+    enum-told-2
+    add-t5
+    enum-told-3
+    between-requires
+    enum-told-4
+    returns
+    returns-2
+    returns-3
+    returns-4)

@@ -1,0 +1,45 @@
+//! The texts and the maps that are measured.
+
+/// Points in convex position: each becomes a corner.
+pub fn convex(points: usize) -> Vec<(i64, i64)> {
+    let middle = points as i64 / 2;
+    (0..points as i64).map(|i| (i - middle, (i - middle) * (i - middle))).collect()
+}
+
+/// Points over the whole range, as a small generator of numbers draws them: few become corners.
+pub fn random(points: usize) -> Vec<(i64, i64)> {
+    let mut state = 1u64;
+    let mut coordinate = || {
+        state =
+            state.wrapping_mul(6_364_136_223_846_793_005).wrapping_add(1_442_695_040_888_963_407);
+        (state >> 33) as i64 % 2_000_001 - 1_000_000
+    };
+    (0..points).map(|_| (coordinate(), coordinate())).collect()
+}
+
+pub fn text(points: &[(i64, i64)]) -> Vec<u8> {
+    points.iter().flat_map(|(x, y)| format!("{x} {y}\n").into_bytes()).collect()
+}
+
+/// The texts whose reports are measured.
+pub fn texts() -> Vec<(&'static str, Vec<u8>)> {
+    let repeated = b"0 0\n".repeat(16_384);
+    let mut filled = text(&convex(500));
+    filled.extend(b"0 0\n".repeat(14_000));
+    vec![
+        ("512 convex points", text(&convex(512))),
+        ("512 random points", text(&random(512))),
+        ("65,536 blank lines", vec![b'\n'; 65_536]),
+        ("16,384 repeats of a point", repeated),
+        ("500 convex points, 14,000 repeats", filled),
+    ]
+}
+
+/// The file of the map after these points, none of which is refused.
+pub fn file(points: &[(i64, i64)]) -> Vec<u8> {
+    let mut map = reach::Map::new();
+    for &(x, y) in points {
+        map.offer(reach::Point { x, y }).expect("a point that is accepted");
+    }
+    map.into_bytes()
+}

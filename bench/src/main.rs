@@ -1,0 +1,166 @@
+//! Measures the proved engine beside plain Rust written for speed, on the same inputs and through
+//! the same boundary, in one process. Prints a Markdown table: the median times of a call and their
+//! ratio.
+//!
+//!     bench [--samples N]
+//!
+//! Both answer first, and the answers must be equal. Each call on a map takes its saved bytes and
+//! looks at soundness. Saving has no call of its own: it is part of an offer.
+
+mod inputs;
+mod measure;
+mod plain;
+#[cfg(test)]
+mod tests;
+
+use reach::raw;
+use std::hint::black_box;
+
+struct Table {
+    samples: usize,
+}
+
+impl Table {
+    /// One line: the same call on both sides, each with lists of its own.
+    fn line<T: Clone + PartialEq + std::fmt::Debug>(
+        &self,
+        name: &str,
+        lists: T,
+        proved: impl Fn(&mut T) -> u32,
+        plain: impl Fn(&mut T) -> u32,
+    ) {
+        let mut ours = lists.clone();
+        let mut theirs = lists;
+        let numbers = [proved(&mut ours), plain(&mut theirs)];
+        assert!(numbers == [0, 0] && ours == theirs, "{name}: the answers differ, {numbers:?}");
+        let mut first = || {
+            black_box(proved(black_box(&mut ours)));
+        };
+        let mut second = || {
+            black_box(plain(black_box(&mut theirs)));
+        };
+        let [proved, plain] = measure::medians(self.samples, [&mut first, &mut second]);
+        let ratio = proved / plain;
+        println!(
+            "| {name} | {} | {} | {ratio:.2} |",
+            measure::shown(proved),
+            measure::shown(plain)
+        );
+    }
+
+    fn reports(&self) {
+        for (name, text) in &inputs::texts() {
+            self.line(
+                &format!("report, {name}"),
+                (vec![0; 16 * text.len() + 4096], [0]),
+                |(out, length)| raw::report(text, out, length),
+                |(out, length)| plain::report(text, out, length),
+            );
+        }
+    }
+
+    /// The calls on a map of so many points, the last of which is the one that is offered.
+    fn calls(&self, shape: &str, points: &[(i64, i64)]) {
+        let [before @ .., (x, y)] = points else {
+            return;
+        };
+        let (x, y) = (*x, *y);
+        let smaller = &inputs::file(before);
+        let file = &inputs::file(points);
+        let (first, last) = (points[0], points[points.len() / 2]);
+        let (inner_x, inner_y) = ((first.0 + last.0) / 2, (first.1 + last.1) / 2);
+        let dart = u64::from(file[7]) << 8 | u64::from(file[8]);
+        let named = |call: &str| format!("{call} {} {shape} points", points.len());
+        self.line(
+            &named("load,"),
+            (),
+            |()| raw::check(black_box(file)),
+            |()| plain::check(black_box(file)),
+        );
+        self.line(
+            &named("place,"),
+            [0; 3],
+            |out| raw::place(file, inner_x, inner_y, out),
+            |out| plain::place(file, inner_x, inner_y, out),
+        );
+        self.line(
+            &named("walk,"),
+            [0; 3],
+            |out| raw::walk(file, dart, out),
+            |out| plain::walk(file, dart, out),
+        );
+        self.line(
+            &named("part,"),
+            [0; 17],
+            |out| raw::part_orbit(file, dart, out),
+            |out| plain::part_orbit(file, dart, out),
+        );
+        self.line(
+            &named("counts,"),
+            [0; 5],
+            |out| raw::counts(file, out),
+            |out| plain::counts(file, out),
+        );
+        self.line(
+            &named("corners,"),
+            ([0; 512], [0]),
+            |(out, length)| raw::corners(file, out, length),
+            |(out, length)| plain::corners(file, out, length),
+        );
+        self.line(
+            &named("offer and save the last of"),
+            (vec![0; file.len()], [0; 4]),
+            |(out, arrival)| raw::offer(smaller, x, y, out, arrival),
+            |(out, arrival)| plain::offer(smaller, x, y, out, arrival),
+        );
+    }
+
+    /// The calls that take no map.
+    fn small(&self) {
+        let corners = [[-1_000_000, 999_999], [1_000_000, -3], [7, 1_000_000]];
+        self.line(
+            "orientation",
+            [0],
+            |out| {
+                let [a, b, c] = black_box(corners);
+                raw::orientation(a, b, c, out)
+            },
+            |out| {
+                let [a, b, c] = black_box(corners);
+                plain::orientation(a, b, c, out)
+            },
+        );
+        let line = b"-1000000 999999";
+        self.line(
+            "line",
+            [0; 2],
+            |out| raw::line(black_box(line), out),
+            |out| plain::line(black_box(line), out),
+        );
+    }
+}
+
+fn samples() -> Option<usize> {
+    let words: Vec<String> = std::env::args().skip(1).collect();
+    match words.iter().map(String::as_str).collect::<Vec<_>>()[..] {
+        [] => Some(11),
+        ["--samples", number] => number.parse().ok().filter(|&samples| samples > 0),
+        _ => None,
+    }
+}
+
+fn main() {
+    let Some(samples) = samples() else {
+        eprintln!("bench [--samples N]");
+        std::process::exit(2);
+    };
+    let table = Table { samples };
+    println!("| call | proved | plain | ratio |");
+    println!("|---|---:|---:|---:|");
+    table.reports();
+    for points in [8, 64, 512] {
+        table.calls("convex", &inputs::convex(points));
+        table.calls("random", &inputs::random(points));
+    }
+    table.small();
+}

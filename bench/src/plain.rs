@@ -1,0 +1,723 @@
+//! The engine's functions in plain Rust written for speed: the yardstick.
+//!
+//! The boundary is the engine's: saved bytes in, numbers and lent lists out, soundness looked at in
+//! every call. Points and links stand in arrays, products are 64-bit, and the loops over points
+//! have no branches, so that the compiler can vectorise them. As in the engine, soundness compares
+//! every outline edge with every point, a new point every pair of points, and a later arrival every
+//! outline edge.
+
+const POINT_LIMIT: usize = 512;
+const DART_LIMIT: usize = 2 * POINT_LIMIT;
+const NO_DART: usize = DART_LIMIT;
+const TEXT_LIMIT: usize = 65_536;
+const LIMIT: i64 = 1_000_000;
+const HEAD: usize = 9;
+
+const NOT_SOUND: u32 = 1;
+const FULL: u32 = 2;
+const OUT_OF_RANGE: u32 = 3;
+const REPEATED: u32 = 4;
+const IN_LINE: u32 = 5;
+const NO_SUCH_DART: u32 = 6;
+const BAD_FILE: u32 = 7;
+const BAD_LINE: u32 = 8;
+const LONG_TEXT: u32 = 9;
+const SHORT_LIST: u32 = 10;
+
+struct Map {
+    xs: [i32; POINT_LIMIT],
+    ys: [i32; POINT_LIMIT],
+    helpers: [bool; POINT_LIMIT],
+    edge: [u16; DART_LIMIT],
+    count: usize,
+    reference: usize,
+}
+
+enum Arrival {
+    First,
+    Second,
+    Inside,
+    Outside(usize, usize, usize),
+}
+
+fn in_range(z: i64) -> bool {
+    (-LIMIT..=LIMIT).contains(&z)
+}
+
+/// The product of two differences of coordinates.
+fn product(a: i32, b: i32) -> i64 {
+    i64::from(a) * i64::from(b)
+}
+
+/// Whether two of these directions are the same or opposite. Products that are equal are equal in
+/// their low 32 bits, which are compared first: they are cheaper, and seldom equal by chance.
+fn is_in_line(across: &[i32], up: &[i32]) -> bool {
+    (1..across.len()).any(|j| {
+        let (u, v) = (across[j], up[j]);
+        let earlier = || across[..j].iter().zip(&up[..j]);
+        let may_be =
+            earlier().fold(false, |found, (s, t)| found | (s.wrapping_mul(v) == t.wrapping_mul(u)));
+        may_be && earlier().any(|(&s, &t)| product(s, v) == product(t, u))
+    })
+}
+
+/// What the links of a map lead to, from its reference.
+struct Outline {
+    corners: [u16; POINT_LIMIT],
+    length: usize,
+}
+
+impl Outline {
+    fn list(&self) -> &[u16] {
+        &self.corners[..self.length]
+    }
+}
+
+impl Map {
+    fn empty() -> Self {
+        Map {
+            xs: [0; POINT_LIMIT],
+            ys: [0; POINT_LIMIT],
+            helpers: [false; POINT_LIMIT],
+            edge: [0; DART_LIMIT],
+            count: 0,
+            reference: NO_DART,
+        }
+    }
+
+    // ---- the saved form
+
+    fn load(file: &[u8]) -> Result<Self, u32> {
+        let (Some(head), Some(rest)) = (file.first_chunk::<HEAD>(), file.get(HEAD..)) else {
+            return Err(BAD_FILE);
+        };
+        let length = u32::from_be_bytes([head[0], head[1], head[2], head[3]]) as usize;
+        let n = usize::from(u16::from_be_bytes([head[5], head[6]]));
+        let fits = n <= POINT_LIMIT && rest.len() == 13 * n && length + 4 == file.len();
+        if !fits || head[4] != 1 {
+            return Err(BAD_FILE);
+        }
+        let mut m = Map::empty();
+        m.count = n;
+        m.reference = usize::from(u16::from_be_bytes([head[7], head[8]]));
+        let (points, rest) = rest.split_at(8 * n);
+        let (helpers, edges) = rest.split_at(n);
+        for (k, p) in points.as_chunks::<8>().0.iter().enumerate() {
+            m.xs[k] = i32::from_be_bytes([p[0], p[1], p[2], p[3]]);
+            m.ys[k] = i32::from_be_bytes([p[4], p[5], p[6], p[7]]);
+        }
+        let mut all = 0;
+        for (helper, byte) in m.helpers.iter_mut().zip(helpers) {
+            *helper = *byte == 1;
+            all |= byte;
+        }
+        if all > 1 {
+            return Err(BAD_FILE);
+        }
+        for (link, bytes) in m.edge.iter_mut().zip(edges.as_chunks::<2>().0) {
+            *link = u16::from_be_bytes(*bytes);
+        }
+        if m.is_sound() { Ok(m) } else { Err(NOT_SOUND) }
+    }
+
+    fn saved_length(&self) -> usize {
+        HEAD + 13 * self.count
+    }
+
+    /// Writes the saved form into a list of its length.
+    fn save(&self, out: &mut [u8]) {
+        let n = self.count;
+        let (head, rest) = out.split_at_mut(HEAD);
+        let (points, rest) = rest.split_at_mut(8 * n);
+        let (helpers, edges) = rest.split_at_mut(n);
+        head[..4].copy_from_slice(&(self.saved_length() as u32 - 4).to_be_bytes());
+        head[4] = 1;
+        head[5..7].copy_from_slice(&(n as u16).to_be_bytes());
+        head[7..].copy_from_slice(&(self.reference as u16).to_be_bytes());
+        for (k, p) in points.as_chunks_mut::<8>().0.iter_mut().enumerate() {
+            p[..4].copy_from_slice(&self.xs[k].to_be_bytes());
+            p[4..].copy_from_slice(&self.ys[k].to_be_bytes());
+        }
+        for (byte, helper) in helpers.iter_mut().zip(&self.helpers) {
+            *byte = u8::from(*helper);
+        }
+        for (bytes, link) in edges.as_chunks_mut::<2>().0.iter_mut().zip(&self.edge) {
+            *bytes = link.to_be_bytes();
+        }
+    }
+
+    // ---- soundness
+
+    fn is_sound(&self) -> bool {
+        if !self.points_fit() || !self.links_fit() {
+            return false;
+        }
+        if self.count < 2 {
+            return self.reference == NO_DART && !self.helpers[..self.count].contains(&true);
+        }
+        match self.the_outline() {
+            Some(outline) => self.others_left(outline.list()),
+            None => false,
+        }
+    }
+
+    fn points_fit(&self) -> bool {
+        let n = self.count;
+        let (xs, ys) = (&self.xs[..n], &self.ys[..n]);
+        let limit = LIMIT as i32;
+        let ranged =
+            |zs: &[i32]| zs.iter().fold(true, |fits, &z| fits & (z >= -limit) & (z <= limit));
+        if !ranged(xs) || !ranged(ys) {
+            return false;
+        }
+        let mut keys = [0u64; POINT_LIMIT];
+        for ((key, &x), &y) in keys.iter_mut().zip(xs).zip(ys) {
+            *key = u64::from(x as u32) << 32 | u64::from(y as u32);
+        }
+        let keys = &mut keys[..n];
+        keys.sort_unstable();
+        keys.windows(2).all(|pair| pair[0] != pair[1])
+    }
+
+    fn links_fit(&self) -> bool {
+        let darts = 2 * self.count;
+        let edge = &self.edge[..darts];
+        (0..darts).all(|d| {
+            let e = usize::from(edge[d]);
+            e == d
+                || (e < darts
+                    && self.helpers[d / 2]
+                    && self.helpers[e / 2]
+                    && usize::from(edge[e]) == d
+                    && (d ^ e) & 1 == 1
+                    && d / 2 != e / 2)
+        })
+    }
+
+    /// The end of the edge that leaves a corner.
+    fn next(&self, corner: usize) -> usize {
+        usize::from(self.edge[2 * corner % DART_LIMIT] / 2)
+    }
+
+    fn has_fixed_edge(&self, dart: usize) -> bool {
+        usize::from(self.edge[dart]) == dart
+    }
+
+    /// The closed walk of the reference, where there is one and no other.
+    fn the_outline(&self) -> Option<Outline> {
+        let start = self.reference / 2;
+        if self.reference % 2 == 1 || start >= self.count {
+            return None;
+        }
+        let mut visited = [false; POINT_LIMIT];
+        let mut outline = Outline { corners: [0; POINT_LIMIT], length: 0 };
+        let mut corner = start;
+        loop {
+            if self.has_fixed_edge(2 * corner) {
+                return None;
+            }
+            visited[corner] = true;
+            outline.corners[outline.length] = corner as u16;
+            outline.length += 1;
+            corner = self.next(corner);
+            if corner == start {
+                break;
+            }
+        }
+        for start in 0..self.count {
+            let mut k = start;
+            while !visited[k] && !self.has_fixed_edge(2 * k) {
+                visited[k] = true;
+                k = self.next(k);
+                if k == start {
+                    return None;
+                }
+            }
+            visited[k] = true;
+        }
+        Some(outline)
+    }
+
+    /// All points but the two ends are strictly left of each outline edge: so many differences of
+    /// products are negative. The sign bit is added up, since a comparison of 64-bit numbers costs
+    /// more.
+    fn others_left(&self, outline: &[u16]) -> bool {
+        let n = self.count;
+        let (xs, ys) = (&self.xs[..n], &self.ys[..n]);
+        outline.iter().all(|&a| {
+            let a = usize::from(a);
+            let b = self.next(a);
+            let (ax, ay) = (xs[a], ys[a]);
+            let (across, up) = (xs[b] - ax, ys[b] - ay);
+            let left = |(&x, &y): (&i32, &i32)| {
+                (product(up, x - ax) - product(across, y - ay)) as u64 >> 63
+            };
+            xs.iter().zip(ys).map(left).sum::<u64>() == n as u64 - 2
+        })
+    }
+
+    /// The outline of a sound map.
+    fn outline(&self) -> Outline {
+        let mut outline = Outline { corners: [0; POINT_LIMIT], length: 0 };
+        if self.count < 2 {
+            return outline;
+        }
+        let start = self.reference / 2;
+        let mut corner = start;
+        loop {
+            outline.corners[outline.length] = corner as u16;
+            outline.length += 1;
+            corner = self.next(corner);
+            if corner == start {
+                return outline;
+            }
+        }
+    }
+
+    // ---- offering
+
+    fn admits(&self, x: i64, y: i64) -> u32 {
+        let n = self.count;
+        if n == POINT_LIMIT {
+            return FULL;
+        }
+        if !in_range(x) || !in_range(y) {
+            return OUT_OF_RANGE;
+        }
+        let (x, y) = (x as i32, y as i32);
+        let mut across = [0; POINT_LIMIT];
+        let mut up = [0; POINT_LIMIT];
+        let mut is_repeated = false;
+        for k in 0..n {
+            across[k] = self.xs[k] - x;
+            up[k] = self.ys[k] - y;
+            is_repeated |= across[k] | up[k] == 0;
+        }
+        if is_repeated {
+            return REPEATED;
+        }
+        if is_in_line(&across[..n], &up[..n]) { IN_LINE } else { 0 }
+    }
+
+    fn join(&mut self, a: usize, b: usize) {
+        self.edge[a] = b as u16;
+        self.edge[b] = a as u16;
+    }
+
+    fn offer(&mut self, x: i64, y: i64) -> Result<Arrival, u32> {
+        match self.admits(x, y) {
+            0 => {}
+            refusal => return Err(refusal),
+        }
+        let k = self.count;
+        self.xs[k] = x as i32;
+        self.ys[k] = y as i32;
+        self.edge[2 * k] = 2 * k as u16;
+        self.edge[2 * k + 1] = 2 * k as u16 + 1;
+        self.count = k + 1;
+        Ok(match k {
+            0 => Arrival::First,
+            1 => {
+                self.helpers[0] = true;
+                self.helpers[1] = true;
+                self.join(0, 3);
+                self.join(2, 1);
+                self.reference = 2;
+                Arrival::Second
+            }
+            _ => self.later(k),
+        })
+    }
+
+    /// Whether the edge that leaves a corner is visible from (x, y).
+    fn orientation(&self, a: usize, b: usize, x: i32, y: i32) -> i64 {
+        let (ax, ay) = (self.xs[a], self.ys[a]);
+        product(self.xs[b] - ax, y - ay) - product(self.ys[b] - ay, x - ax)
+    }
+
+    fn later(&mut self, k: usize) -> Arrival {
+        let (x, y) = (self.xs[k], self.ys[k]);
+        let start = self.reference / 2;
+        let (mut left, mut right, mut visible) = (start, start, 0);
+        let mut corner = start;
+        let mut first = false;
+        let mut entering = false;
+        loop {
+            let next = self.next(corner);
+            let leaving = self.orientation(corner, next, x, y) < 0;
+            if corner == start {
+                first = leaving;
+            } else if leaving != entering {
+                if leaving {
+                    left = corner;
+                } else {
+                    right = corner;
+                }
+            }
+            visible += usize::from(leaving);
+            entering = leaving;
+            corner = next;
+            if corner == start {
+                break;
+            }
+        }
+        if first && !entering {
+            left = start;
+        } else if !first && entering {
+            right = start;
+        }
+        if visible == 0 {
+            return Arrival::Inside;
+        }
+        let (l, r) = (2 * left, 2 * right + 1);
+        for dart in [usize::from(self.edge[l]), usize::from(self.edge[r])] {
+            self.edge[dart] = dart as u16;
+        }
+        self.join(l, 2 * k + 1);
+        self.join(2 * k, r);
+        self.helpers[k] = true;
+        self.reference = 2 * k;
+        Arrival::Outside(left, right, visible)
+    }
+
+    // ---- reading
+
+    fn dart(&self, dart: u64) -> Result<usize, u32> {
+        match usize::try_from(dart) {
+            Ok(d) if d / 2 < self.count && (d % 2 == 0 || self.helpers[d / 2]) => Ok(d),
+            _ => Err(NO_SUCH_DART),
+        }
+    }
+
+    fn edge_link(&self, dart: usize) -> usize {
+        usize::from(self.edge[dart])
+    }
+
+    fn point_link(&self, dart: usize) -> usize {
+        dart ^ usize::from(self.helpers[dart / 2])
+    }
+
+    /// Darts, vertices, edges, faces, parts. A part that is not the outline is a point without
+    /// helper or a chain, which has two darts with fixed edges.
+    fn counts(&self) -> [u64; 5] {
+        let n = self.count;
+        let helpers = self.helpers[..n].iter().filter(|helper| **helper).count();
+        let darts = n + helpers;
+        let present = |d: usize| d.is_multiple_of(2) || self.helpers[d / 2];
+        let mut fixed = 0;
+        let mut faces = 0;
+        let mut visited = [false; DART_LIMIT];
+        for d in (0..2 * n).filter(|&d| present(d)) {
+            fixed += usize::from(self.has_fixed_edge(d));
+            faces += usize::from(!visited[d]);
+            let mut on_face = d;
+            while !visited[on_face] {
+                visited[on_face] = true;
+                on_face = self.point_link(self.edge_link(on_face));
+            }
+        }
+        let alone = n - helpers;
+        let parts = usize::from(n > 1) + alone + (fixed - alone) / 2;
+        let edges = fixed + (darts - fixed) / 2;
+        [darts, n, edges, faces, parts].map(|number| number as u64)
+    }
+
+    /// Last dart, ending (0 home, 1 loose), moves.
+    fn walk(&self, start: usize) -> [u64; 3] {
+        let mut dart = start;
+        let mut moves = 0;
+        loop {
+            if self.has_fixed_edge(dart) {
+                return [dart as u64, 1, moves];
+            }
+            dart = self.edge_link(dart) ^ 1;
+            moves += 2;
+            if dart == start {
+                return [dart as u64, 0, moves];
+            }
+        }
+    }
+
+    /// The connected part of a dart: sixteen words and the size.
+    fn part(&self, dart: usize) -> [u64; 17] {
+        let mut out = [0; 17];
+        let mut put = |d: usize| {
+            let is_new = out[d / 64] >> (d % 64) & 1 == 0;
+            out[d / 64] |= 1 << (d % 64);
+            out[16] += u64::from(is_new);
+            is_new
+        };
+        for start in [dart, self.point_link(dart)] {
+            let mut d = start;
+            while put(d) | put(self.edge_link(d)) && !self.has_fixed_edge(d) {
+                d = self.point_link(self.edge_link(d));
+            }
+        }
+        out
+    }
+
+    fn is_lower(&self, a: usize, b: usize) -> bool {
+        (self.ys[a], self.xs[a]) < (self.ys[b], self.xs[b])
+    }
+
+    /// The corners, to be listed from the place that comes with them.
+    fn corners(&self) -> (Outline, usize) {
+        let mut outline = self.outline();
+        if self.count == 1 {
+            outline.length = 1;
+        }
+        let mut lowest = 0;
+        for i in 1..outline.length {
+            let [a, b] = [i, lowest].map(|i| usize::from(outline.corners[i]));
+            if self.is_lower(a, b) {
+                lowest = i;
+            }
+        }
+        (outline, lowest)
+    }
+
+    /// The verdict and two values.
+    fn place(&self, x: i64, y: i64) -> Result<[u64; 3], u32> {
+        if !in_range(x) || !in_range(y) {
+            return Err(OUT_OF_RANGE);
+        }
+        if self.count < 2 {
+            return Ok([0; 3]);
+        }
+        let (x, y) = (x as i32, y as i32);
+        let (mut on_edge, mut visible, mut is_inside) = (None, 0, true);
+        let start = self.reference / 2;
+        let mut a = start;
+        loop {
+            let b = self.next(a);
+            let side = self.orientation(a, b, x, y);
+            visible += u64::from(side < 0);
+            is_inside &= side > 0;
+            if side == 0 {
+                let (ax, ay) = (self.xs[a] - x, self.ys[a] - y);
+                let (bx, by) = (self.xs[b] - x, self.ys[b] - y);
+                if ax == 0 && ay == 0 {
+                    return Ok([1, a as u64, 0]);
+                }
+                if bx == 0 && by == 0 {
+                    return Ok([1, b as u64, 0]);
+                }
+                // of two opposite edges the one from the lower corner is listed first
+                let is_listed = self.next(b) != a || self.is_lower(a, b);
+                if product(ax, bx) + product(ay, by) < 0 && is_listed {
+                    on_edge = Some([2, a as u64, b as u64]);
+                }
+            }
+            a = b;
+            if a == start {
+                break;
+            }
+        }
+        Ok(match on_edge {
+            Some(values) => values,
+            None if is_inside => [3, 0, 0],
+            None => [4, visible, 0],
+        })
+    }
+}
+
+// ---- lines and reports
+
+/// The number at the front of some bytes, and what follows it.
+fn number(bytes: &[u8]) -> Option<(i64, &[u8])> {
+    let (is_negative, digits) = match bytes {
+        [b'-', digits @ ..] => (true, digits),
+        _ => (false, bytes),
+    };
+    let mut value = 0;
+    let mut length = 0;
+    while let Some(digit @ b'0'..=b'9') = digits.get(length) {
+        length += 1;
+        if length > 7 {
+            return None;
+        }
+        value = 10 * value + i64::from(digit - b'0');
+    }
+    let leads_with_zero = length > 0 && digits[0] == b'0';
+    if length == 0 || leads_with_zero && (length > 1 || is_negative) {
+        return None;
+    }
+    Some((if is_negative { -value } else { value }, &digits[length..]))
+}
+
+fn read_line(bytes: &[u8]) -> Result<(i64, i64), u32> {
+    if let Some((x, [b' ', rest @ ..])) = number(bytes)
+        && let Some((y, [])) = number(rest)
+    {
+        return Ok((x, y));
+    }
+    Err(BAD_LINE)
+}
+
+/// Appends a number in decimal.
+fn put(out: &mut Vec<u8>, mut number: usize) {
+    let mut digits = [0; 20];
+    let mut start = digits.len();
+    loop {
+        start -= 1;
+        digits[start] = b'0' + (number % 10) as u8;
+        number /= 10;
+        if number == 0 {
+            break;
+        }
+    }
+    out.extend_from_slice(&digits[start..]);
+}
+
+fn put_after_space(out: &mut Vec<u8>, number: usize) {
+    out.push(b' ');
+    put(out, number);
+}
+
+fn printed(text: &[u8]) -> Vec<u8> {
+    let mut map = Map::empty();
+    let mut out = Vec::with_capacity(2 * text.len() + 4096);
+    out.extend_from_slice(b"OUTLINE 1\n");
+    let mut rest = text;
+    let mut line_number = 0;
+    while !rest.is_empty() {
+        let end = rest.iter().position(|&b| b == b'\n').unwrap_or(rest.len());
+        let arrival = read_line(&rest[..end]).and_then(|(x, y)| map.offer(x, y));
+        rest = rest.get(end + 1..).unwrap_or(&[]);
+        put(&mut out, line_number);
+        line_number += 1;
+        match arrival {
+            Ok(Arrival::First) => out.extend_from_slice(b" first"),
+            Ok(Arrival::Second) => out.extend_from_slice(b" second"),
+            Ok(Arrival::Inside) => out.extend_from_slice(b" inside"),
+            Ok(Arrival::Outside(left, right, visible)) => {
+                out.extend_from_slice(b" outside");
+                put_after_space(&mut out, left);
+                put_after_space(&mut out, right);
+                put_after_space(&mut out, visible);
+            }
+            Err(refusal) => {
+                out.extend_from_slice(b" refused");
+                put_after_space(&mut out, refusal as usize);
+            }
+        }
+        out.push(b'\n');
+    }
+    out.extend_from_slice(b"corners");
+    let (outline, lowest) = map.corners();
+    let (last, first) = outline.list().split_at(lowest);
+    for &corner in first.iter().chain(last) {
+        put_after_space(&mut out, usize::from(corner));
+    }
+    out.extend_from_slice(b"\ncounts");
+    for count in map.counts() {
+        put_after_space(&mut out, count as usize);
+    }
+    out.push(b'\n');
+    out
+}
+
+// ---- the boundary, as the engine has it
+
+/// Writes a result into a lent list, or answers number 10.
+fn write<T: Copy>(result: &[T], out: &mut [T]) -> u32 {
+    match out.get_mut(..result.len()) {
+        Some(list) => {
+            list.copy_from_slice(result);
+            0
+        }
+        None => SHORT_LIST,
+    }
+}
+
+/// The number of an answer whose value is its own number.
+fn answer(result: Result<u32, u32>) -> u32 {
+    result.unwrap_or_else(|refusal| refusal)
+}
+
+#[inline(never)]
+pub fn orientation(a: [i64; 2], b: [i64; 2], c: [i64; 2], out: &mut [i64]) -> u32 {
+    if ![a, b, c].iter().flatten().all(|&z| in_range(z)) {
+        return OUT_OF_RANGE;
+    }
+    let value = (b[0] - a[0]) * (c[1] - a[1]) - (b[1] - a[1]) * (c[0] - a[0]);
+    write(&[value], out)
+}
+
+#[inline(never)]
+pub fn offer(file: &[u8], x: i64, y: i64, out: &mut [u8], arrival: &mut [u64]) -> u32 {
+    answer(Map::load(file).and_then(|mut map| {
+        let values = match map.offer(x, y)? {
+            Arrival::First => [0; 4],
+            Arrival::Second => [1, 0, 0, 0],
+            Arrival::Inside => [2, 0, 0, 0],
+            Arrival::Outside(l, r, visible) => [3, l as u64, r as u64, visible as u64],
+        };
+        match out.get_mut(..map.saved_length()) {
+            Some(list) if arrival.len() >= 4 => {
+                map.save(list);
+                Ok(write(&values, arrival))
+            }
+            _ => Err(SHORT_LIST),
+        }
+    }))
+}
+
+#[inline(never)]
+pub fn check(file: &[u8]) -> u32 {
+    answer(Map::load(file).map(|_| 0))
+}
+
+#[inline(never)]
+pub fn counts(file: &[u8], out: &mut [u64]) -> u32 {
+    answer(Map::load(file).map(|map| write(&map.counts(), out)))
+}
+
+#[inline(never)]
+pub fn walk(file: &[u8], dart: u64, out: &mut [u64]) -> u32 {
+    answer(Map::load(file).and_then(|map| Ok(write(&map.walk(map.dart(dart)?), out))))
+}
+
+#[inline(never)]
+pub fn part_orbit(file: &[u8], dart: u64, out: &mut [u64]) -> u32 {
+    answer(Map::load(file).and_then(|map| Ok(write(&map.part(map.dart(dart)?), out))))
+}
+
+#[inline(never)]
+pub fn place(file: &[u8], x: i64, y: i64, out: &mut [u64]) -> u32 {
+    answer(Map::load(file).and_then(|map| Ok(write(&map.place(x, y)?, out))))
+}
+
+#[inline(never)]
+pub fn corners(file: &[u8], out: &mut [u64], length: &mut [u64]) -> u32 {
+    answer(Map::load(file).and_then(|map| {
+        let (outline, lowest) = map.corners();
+        let (Some(list), Some(length)) = (out.get_mut(..outline.length), length.first_mut()) else {
+            return Err(SHORT_LIST);
+        };
+        *length = outline.length as u64;
+        let (last, first) = outline.list().split_at(lowest);
+        for (place, &corner) in list.iter_mut().zip(first.iter().chain(last)) {
+            *place = u64::from(corner);
+        }
+        Ok(0)
+    }))
+}
+
+#[inline(never)]
+pub fn line(line: &[u8], out: &mut [i64]) -> u32 {
+    answer(read_line(line).map(|(x, y)| write(&[x, y], out)))
+}
+
+#[inline(never)]
+pub fn report(text: &[u8], out: &mut [u8], length: &mut [u64]) -> u32 {
+    if text.len() > TEXT_LIMIT {
+        return LONG_TEXT;
+    }
+    let printed = printed(text);
+    if out.len() < printed.len() || length.is_empty() {
+        return SHORT_LIST;
+    }
+    length[0] = printed.len() as u64;
+    write(&printed, out)
+}

@@ -1,0 +1,122 @@
+//! The yardstick measures nothing unless it is right: it is held to the reference on drawn surveys.
+
+use crate::plain;
+use reference::{Answer, Arrival, Ending, Kind, Map, Placed, Point};
+
+/// A number below n.
+fn below(state: &mut u64, n: u64) -> u64 {
+    *state = state.wrapping_mul(6_364_136_223_846_793_005).wrapping_add(1_442_695_040_888_963_407);
+    (*state >> 33) % n
+}
+
+fn number<T>(answer: Answer<T>, expected: impl FnOnce(T), got: u32) {
+    match answer {
+        Ok(value) => {
+            assert_eq!(got, 0);
+            expected(value);
+        }
+        Err(refusal) => assert_eq!(got, refusal),
+    }
+}
+
+fn compare(file: &[u8], p: Point, dart: u64) {
+    let map = Map::load(file);
+    assert_eq!(plain::check(file), map.as_ref().err().copied().unwrap_or(0));
+    let mut counts = [0; 5];
+    let got = plain::counts(file, &mut counts);
+    let c = map.as_ref().map(|m| m.counts()).map_err(|e| *e);
+    let fields = |c: reference::Counts| [c.darts, c.vertices, c.edges, c.faces, c.parts];
+    number(c, |c| assert_eq!(counts.map(|z| z as usize), fields(c)), got);
+
+    let mut corners = [0; 512];
+    let mut length = [0];
+    let got = plain::corners(file, &mut corners, &mut length);
+    let listed: Vec<usize> = corners[..length[0] as usize].iter().map(|&k| k as usize).collect();
+    number(map.as_ref().map(|m| m.corners()).map_err(|e| *e), |c| assert_eq!(c, listed), got);
+
+    let mut walk = [0; 3];
+    let got = plain::walk(file, dart, &mut walk);
+    let expected = map.as_ref().map_err(|e| *e).and_then(|m| m.walk(dart));
+    let values =
+        |w: reference::Walk| [w.last as u64, u64::from(w.ending == Ending::Loose), w.moves as u64];
+    number(expected, |w| assert_eq!(walk, values(w)), got);
+
+    let mut part = [0; 17];
+    let got = plain::part_orbit(file, dart, &mut part);
+    let expected = map.as_ref().map_err(|e| *e).and_then(|m| m.orbit(Kind::Part, dart));
+    let right = |o: reference::Orbit| {
+        assert_eq!((&part[..16], part[16]), (&o.words[..], o.size as u64));
+    };
+    number(expected, right, got);
+
+    let mut place = [0; 3];
+    let got = plain::place(file, p.x, p.y, &mut place);
+    let expected = map.as_ref().map_err(|e| *e).and_then(|m| m.place(p));
+    let values = |placed: Placed| match placed {
+        Placed::NoOutline => [0; 3],
+        Placed::Corner(corner) => [1, corner as u64, 0],
+        Placed::Edge(start, end) => [2, start as u64, end as u64],
+        Placed::Inside => [3, 0, 0],
+        Placed::Outside(visible) => [4, visible as u64, 0],
+    };
+    number(expected, |placed| assert_eq!(place, values(placed), "{p:?} {file:?}"), got);
+
+    let mut out = vec![0; file.len() + 13];
+    let mut arrival = [0; 4];
+    let got = plain::offer(file, p.x, p.y, &mut out, &mut arrival);
+    let expected = map.and_then(|mut m| m.offer(p).map(|arrival| (m.save(), arrival)));
+    let values = |arrival: Arrival| match arrival {
+        Arrival::First => [0; 4],
+        Arrival::Second => [1, 0, 0, 0],
+        Arrival::Inside => [2, 0, 0, 0],
+        Arrival::Outside { left, right, visible } => [3, left as u64, right as u64, visible as u64],
+    };
+    number(expected, |(saved, a)| assert_eq!((out, arrival), (saved, values(a))), got);
+}
+
+#[test]
+fn the_yardstick_is_right_on_maps() {
+    let mut state = 5;
+    for survey in 0..3000 {
+        let width = [3, 10, 100, 1_000_002][survey % 4];
+        let mut map = Map::empty();
+        for _ in 0..below(&mut state, 24) {
+            let mut coordinate = || below(&mut state, 2 * width + 1) as i64 - width as i64;
+            let p = Point::new(coordinate(), coordinate());
+            let dart = below(&mut state, 40);
+            compare(&map.save(), p, dart);
+            let mut file = map.save();
+            let place = below(&mut state, file.len() as u64) as usize;
+            file[place] = file[place].wrapping_add(below(&mut state, 4) as u8);
+            compare(&file, p, dart);
+            let _ = map.offer(p);
+        }
+    }
+}
+
+#[test]
+fn the_yardstick_is_right_on_texts() {
+    let mut state = 6;
+    let mut texts: Vec<Vec<u8>> =
+        crate::inputs::texts().into_iter().map(|(_, text)| text).collect();
+    texts.push(vec![b'\n'; 65_537]);
+    for _ in 0..20_000 {
+        let alphabet = b"0011234579- - \n\n\n ";
+        let length = below(&mut state, 60);
+        let any = |_| alphabet[below(&mut state, alphabet.len() as u64) as usize];
+        texts.push((0..length).map(any).collect());
+    }
+    let mut out = vec![0; 16 * 65_536 + 4096];
+    for text in texts {
+        let mut length = [0];
+        let got = plain::report(&text, &mut out, &mut length);
+        let printed = &out[..length[0] as usize];
+        number(reference::report_or_refusal(&text), |report| assert_eq!(report, printed), got);
+        for bytes in text.split(|&b| b == b'\n') {
+            let mut point = [0; 2];
+            let got = plain::line(bytes, &mut point);
+            let right = |p: Point| assert_eq!(point, [p.x, p.y]);
+            number(reference::read_line(bytes), right, got);
+        }
+    }
+}

@@ -1,0 +1,141 @@
+/*
+ * The proved engine for the convex outline of marks, as C functions: link
+ * target/staticlib/libreach.a.
+ *
+ * A map crosses the boundary as its saved bytes, 9 + 13 * n of them for n points, at most
+ * REACH_MAP_BYTES. Coordinates are whole numbers from -1,000,000 to 1,000,000; points are numbered
+ * from 0 in the order of their acceptance; point k owns dart 2k and may have the helper dart 2k +
+ * 1.
+ *
+ * Every function returns 0 where the call is served, else the number of its refusal. Values go into
+ * lists that the caller lends, each a pointer with its number of elements. A list shorter than the
+ * result is refused as REACH_SHORT_LIST; a longer one keeps its tail. A refused call changes no
+ * list: where two are lent and either is too short, both stay as they were. The comment of each
+ * function names its refusals in the order in which their conditions are looked at.
+ *
+ * A list that is lent may not overlap another of the same call. The pointer of a list of no
+ * elements may be null. The functions keep no state and may be called from several threads.
+ */
+#ifndef REACH_H
+#define REACH_H
+
+#include <stddef.h>
+#include <stdint.h>
+
+#ifdef __cplusplus
+extern "C" {
+#endif
+
+/* The refusals. */
+enum {
+    REACH_NOT_SOUND = 1,    /* map not sound */
+    REACH_FULL = 2,         /* offered point: 512 points already */
+    REACH_OUT_OF_RANGE = 3, /* offered or query point, or point of an orientation: coordinate out
+                               of range */
+    REACH_REPEATED = 4,     /* offered point: equal to an accepted point */
+    REACH_IN_LINE = 5,      /* offered point: in line with two accepted points */
+    REACH_NO_DART = 6,      /* dart absent or above 1,023 */
+    REACH_BAD_FILE = 7,     /* file under 9 bytes, length not matching n and the bytes lent, n above
+                               512, version not 1, or helper byte above 1 */
+    REACH_BAD_LINE = 8,     /* text line not in form */
+    REACH_LONG_TEXT = 9,    /* text above 65,536 bytes */
+    REACH_SHORT_LIST = 10   /* lent list shorter than the result */
+};
+
+/* The arrival of an accepted point. */
+enum { REACH_FIRST = 0, REACH_SECOND = 1, REACH_INSIDE = 2, REACH_OUTSIDE = 3 };
+
+/* How a walk ends. */
+enum { REACH_HOME = 0, REACH_LOOSE = 1 };
+
+/* Where a query point lies. */
+enum {
+    REACH_PLACED_NONE = 0,
+    REACH_PLACED_CORNER = 1,
+    REACH_PLACED_EDGE = 2,
+    REACH_PLACED_INSIDE = 3,
+    REACH_PLACED_OUTSIDE = 4
+};
+
+/* Lengths that suffice: the bytes of a map, its corners, the words of an orbit and its size. */
+enum {
+    REACH_EMPTY_BYTES = 9,
+    REACH_MAP_BYTES = 9 + 13 * 512,
+    REACH_POINTS = 512,
+    REACH_ORBIT_WORDS = 17
+};
+
+/* Writes the orientation of (a, b, c) to out[0]: positive where c is left of the line from a to b,
+   zero where it is in line, negative where it is right. Refusals: 3, 10. */
+uint32_t reach_orientation(int64_t ax, int64_t ay, int64_t bx, int64_t by, int64_t cx, int64_t cy,
+                           int64_t *out, size_t n);
+
+/* Writes the 9 bytes of the map without points. Refusals: 10. */
+uint32_t reach_empty(uint8_t *out, size_t n);
+
+/* Offers a point to a map: writes the bytes of the map after it, 13 more than before, to out, and
+   four values to arrival: its kind, the left corner, the right corner and the number of visible
+   edges, the last three 0 unless the kind is REACH_OUTSIDE. Refusals: 7, 1, 2, 3, 4, 5, 10. */
+uint32_t reach_offer(const uint8_t *map, size_t n, int64_t x, int64_t y, uint8_t *out, size_t m,
+                     uint64_t *arrival, size_t k);
+
+/* Writes the orbit of a dart under the edge link: bit j of out[w] stands for dart 64 * w + j, for w
+   below 16, and out[16] is the number of its darts. Refusals: 7, 1, 6, 10. */
+uint32_t reach_edge_orbit(const uint8_t *map, size_t n, uint64_t dart, uint64_t *out, size_t m);
+
+/* Writes the orbit of a dart under the point link, as reach_edge_orbit does. Refusals: 7, 1, 6, 10.
+   */
+uint32_t reach_vertex_orbit(const uint8_t *map, size_t n, uint64_t dart, uint64_t *out, size_t m);
+
+/* Writes the orbit of a dart under "edge link, then point link", as reach_edge_orbit does.
+   Refusals: 7, 1, 6, 10. */
+uint32_t reach_face_orbit(const uint8_t *map, size_t n, uint64_t dart, uint64_t *out, size_t m);
+
+/* Writes the connected part of a dart, which both links reach, as reach_edge_orbit does. Refusals:
+   7, 1, 6, 10. */
+uint32_t reach_part_orbit(const uint8_t *map, size_t n, uint64_t dart, uint64_t *out, size_t m);
+
+/* Writes five numbers: darts, vertices, edges, faces, parts. Refusals: 7, 1, 10. */
+uint32_t reach_counts(const uint8_t *map, size_t n, uint64_t *out, size_t m);
+
+/* Follows edge and point links alternately from a dart and writes three values: the last dart, the
+   ending (REACH_HOME or REACH_LOOSE) and the number of moves. Refusals: 7, 1, 6, 10. */
+uint32_t reach_walk(const uint8_t *map, size_t n, uint64_t dart, uint64_t *out, size_t m);
+
+/* Writes the dart where a walker stands that starts at a dart. Refusals: 7, 1, 6, 10. */
+uint32_t reach_walker(const uint8_t *map, size_t n, uint64_t dart, uint64_t *out, size_t m);
+
+/* Writes the dart where a walker stands after one move by the edge link. Refusals: 7, 1, 6, 10. */
+uint32_t reach_walker_edge(const uint8_t *map, size_t n, uint64_t dart, uint64_t *out, size_t m);
+
+/* Writes the dart where a walker stands after one move by the point link. Refusals: 7, 1, 6, 10. */
+uint32_t reach_walker_point(const uint8_t *map, size_t n, uint64_t dart, uint64_t *out, size_t m);
+
+/* Places a query point and writes three values: the verdict (REACH_PLACED_...), then the corner and
+   0, or the start and the end of the edge, or the number of visible edges and 0, or 0 and 0.
+   Refusals: 7, 1, 3, 10. */
+uint32_t reach_place(const uint8_t *map, size_t n, int64_t x, int64_t y, uint64_t *out, size_t m);
+
+/* Lists the corners' point numbers, anticlockwise from the smallest y, then the smallest x, and
+   writes how many they are to length[0]. Refusals: 7, 1, 10. */
+uint32_t reach_corners(const uint8_t *map, size_t n, uint64_t *out, size_t m, uint64_t *length,
+                       size_t k);
+
+/* Tells whether these bytes are a file that loads: they are then what saving the map gives.
+   Refusals: 7, 1. */
+uint32_t reach_check(const uint8_t *map, size_t n);
+
+/* Reads a text line, its line feed left out, and writes the coordinates x, y that it names, in
+   range or not. Refusals: 8, 10. */
+uint32_t reach_line(const uint8_t *line, size_t n, int64_t *out, size_t m);
+
+/* Writes what the program prints for a survey text, and how many bytes it is to length[0]. It is
+   never more than 16 bytes for each byte of the text and 4,096 more. Refusals: 9, 10. */
+uint32_t reach_report(const uint8_t *text, size_t n, uint8_t *out, size_t m, uint64_t *length,
+                      size_t k);
+
+#ifdef __cplusplus
+}
+#endif
+
+#endif

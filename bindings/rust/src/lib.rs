@@ -1,0 +1,104 @@
+//! The convex outline of marks in the plane, built point after point as a linked map of darts.
+//!
+//! The engine is written in Rattle and proved: every function meets its contract for every
+//! argument. This crate calls it safely. [`Map`] is where to begin; [`orientation`], [`read_line`]
+//! and [`report`] need no map. What cannot be served is a [`Refusal`], which has a number and
+//! words.
+//!
+//! ```
+//! use reach::{Map, Point};
+//!
+//! let mut map = Map::new();
+//! let session = [(0, 0), (4, 0), (1, 3), (5, 4), (2, 1), (6, 7)];
+//! for (x, y) in session {
+//!     map.offer(Point { x, y })?;
+//! }
+//! assert_eq!(map.corners(), [0, 1, 5, 2]);
+//! assert_eq!(map.walk(0)?.moves, 8);
+//! # Ok::<(), reach::Refusal>(())
+//! ```
+//!
+//! Coordinates are whole numbers from -1,000,000 to 1,000,000. A map has at most 512 points.
+
+#![warn(missing_debug_implementations)]
+
+mod map;
+pub mod raw;
+mod refusal;
+
+pub use map::{Arrival, Counts, Ending, Kind, Map, Orbit, Placed, Walk, Walker};
+pub use refusal::Refusal;
+
+/// A text of more bytes is refused.
+pub const TEXT_LIMIT: usize = 65_536;
+
+/// A point of the plane. It may be out of range: the engine looks.
+#[derive(Clone, Copy, Debug, PartialEq, Eq, PartialOrd, Ord, Hash)]
+pub struct Point {
+    pub x: i64,
+    pub y: i64,
+}
+
+/// The orientation of (a, b, c): positive where c is left of the line from a to b, zero where it is
+/// in line with them, negative where it is right.
+///
+/// # Errors
+///
+/// [`Refusal::OutOfRange`] where a coordinate is out of range.
+///
+/// ```
+/// use reach::{Point, orientation};
+///
+/// let [a, b, c] = [(0, 0), (4, 0), (1, 3)].map(|(x, y)| Point { x, y });
+/// assert_eq!(orientation(a, b, c), Ok(12));
+/// assert_eq!(orientation(b, a, c), Ok(-12));
+/// ```
+pub fn orientation(a: Point, b: Point, c: Point) -> Result<i64, Refusal> {
+    let mut out = [0];
+    Refusal::of(raw::orientation([a.x, a.y], [b.x, b.y], [c.x, c.y], &mut out))?;
+    Ok(out[0])
+}
+
+/// The point that a text line names, its line feed left out. It may be out of range.
+///
+/// # Errors
+///
+/// [`Refusal::BadLine`] where the line is not two numbers with one space between.
+///
+/// ```
+/// use reach::{Point, Refusal, read_line};
+///
+/// assert_eq!(read_line(b"-3 40"), Ok(Point { x: -3, y: 40 }));
+/// assert_eq!(read_line(b"-3  40"), Err(Refusal::BadLine));
+/// ```
+pub fn read_line(line: &[u8]) -> Result<Point, Refusal> {
+    let mut out = [0; 2];
+    Refusal::of(raw::line(line, &mut out))?;
+    let [x, y] = out;
+    Ok(Point { x, y })
+}
+
+/// What the text program prints for a survey text.
+///
+/// # Errors
+///
+/// [`Refusal::LongText`] where the text has more than [`TEXT_LIMIT`] bytes.
+///
+/// ```
+/// let report = reach::report(b"0 0\n4 0\n")?;
+/// assert_eq!(report, b"OUTLINE 1\n0 first\n1 second\ncorners 0 1\ncounts 4 2 2 2 1\n");
+/// # Ok::<(), reach::Refusal>(())
+/// ```
+pub fn report(text: &[u8]) -> Result<Vec<u8>, Refusal> {
+    // The longest printed line for its length is `65535 refused 8` for a blank line, with its feed
+    // 16 bytes for one. The title, the corners and the counts are less than 4,096 bytes.
+    let mut printed = vec![0; 16 * text.len().min(TEXT_LIMIT) + 4096];
+    let mut length = [0];
+    Refusal::of(raw::report(text, &mut printed, &mut length))?;
+    printed.truncate(usize::try_from(length[0]).expect("the length of a list"));
+    Ok(printed)
+}
+
+#[cfg(doctest)]
+#[doc = include_str!("../README.md")]
+struct Readme;

@@ -1,0 +1,414 @@
+use crate::{Point, Refusal, raw};
+
+const HEAD: usize = 9;
+const POINT_BYTES: usize = 13;
+
+/// A sound map: points in the plane, their darts, and how these are linked.
+///
+/// A map owns its bytes in the saved form, and is sound by the way it comes about: empty, loaded
+/// from bytes that the engine accepts, or changed by an accepted offer.
+///
+/// Point k owns dart 2k and may have the helper dart 2k + 1. Each dart has an edge link and a point
+/// link.
+#[derive(Clone, Debug, PartialEq, Eq, Hash)]
+pub struct Map {
+    bytes: Vec<u8>,
+}
+
+/// What an accepted point does.
+#[derive(Clone, Copy, Debug, PartialEq, Eq, Hash)]
+pub enum Arrival {
+    /// It is the first point.
+    First,
+    /// It is the second point: there is an outline now.
+    Second,
+    /// It lies inside the outline.
+    Inside,
+    /// It lies outside and becomes a corner.
+    Outside {
+        /// The corner whose entering edge is not visible and whose leaving edge is.
+        left: usize,
+        /// The corner whose entering edge is visible and whose leaving edge is not.
+        right: usize,
+        /// The number of outline edges visible from the point.
+        visible: usize,
+    },
+}
+
+/// Which links an orbit follows.
+#[derive(Clone, Copy, Debug, PartialEq, Eq, Hash)]
+pub enum Kind {
+    /// The edge link.
+    Edge,
+    /// The point link.
+    Vertex,
+    /// The edge link, then the point link.
+    Face,
+    /// Both links: a connected part.
+    Part,
+}
+
+/// A set of darts.
+#[derive(Clone, Copy, Debug, PartialEq, Eq, Hash)]
+pub struct Orbit {
+    /// Bit j of word w stands for dart 64 × w + j.
+    pub words: [u64; 16],
+    /// The number of darts.
+    pub size: usize,
+}
+
+impl Orbit {
+    /// Whether a dart belongs to the orbit.
+    pub fn contains(&self, dart: usize) -> bool {
+        self.words.get(dart / 64).is_some_and(|word| word >> (dart % 64) & 1 == 1)
+    }
+
+    /// The darts, in the order of their numbers.
+    pub fn darts(&self) -> impl Iterator<Item = usize> + '_ {
+        (0..1024).filter(|&dart| self.contains(dart))
+    }
+}
+
+/// How many darts and orbits of each kind a map has.
+#[derive(Clone, Copy, Debug, PartialEq, Eq, Hash)]
+pub struct Counts {
+    pub darts: usize,
+    pub vertices: usize,
+    pub edges: usize,
+    pub faces: usize,
+    pub parts: usize,
+}
+
+/// How a walk ends.
+#[derive(Clone, Copy, Debug, PartialEq, Eq, Hash)]
+pub enum Ending {
+    /// A point step reaches the start.
+    Home,
+    /// An edge step is due at a dart whose edge link is fixed.
+    Loose,
+}
+
+/// A walk along edge and point links, alternately.
+#[derive(Clone, Copy, Debug, PartialEq, Eq, Hash)]
+pub struct Walk {
+    /// The dart where it ends.
+    pub last: usize,
+    /// How it ends.
+    pub ending: Ending,
+    /// The number of moves made.
+    pub moves: usize,
+}
+
+/// Where a query point lies.
+#[derive(Clone, Copy, Debug, PartialEq, Eq, Hash)]
+pub enum Placed {
+    /// The map has fewer than two points, so there is no outline.
+    NoOutline,
+    /// It is the corner with this point number.
+    Corner(usize),
+    /// It lies strictly between the ends of an outline edge.
+    Edge {
+        /// The point number of the corner where the edge starts.
+        start: usize,
+        /// The point number of the corner where it ends.
+        end: usize,
+    },
+    /// It lies inside the outline.
+    Inside,
+    /// It lies outside, and so many outline edges are visible from it.
+    Outside {
+        /// The number of outline edges visible from it.
+        visible: usize,
+    },
+}
+
+/// A walker that stands at a dart of a map.
+#[derive(Clone, Copy, Debug, PartialEq, Eq)]
+pub struct Walker<'a> {
+    map: &'a Map,
+    dart: usize,
+}
+
+impl Walker<'_> {
+    /// The dart where it stands.
+    pub fn dart(self) -> usize {
+        self.dart
+    }
+
+    /// The walker moved by the edge link.
+    #[must_use]
+    pub fn by_edge(self) -> Self {
+        Walker { dart: self.map.moved(raw::walker_edge, self.dart), ..self }
+    }
+
+    /// The walker moved by the point link.
+    #[must_use]
+    pub fn by_point(self) -> Self {
+        Walker { dart: self.map.moved(raw::walker_point, self.dart), ..self }
+    }
+}
+
+/// The engine's values are numbers of points and darts, which fit.
+fn index(value: u64) -> usize {
+    usize::try_from(value).expect("a number below 1,025")
+}
+
+/// What cannot be refused, since the map is sound, the dart present and the list long enough.
+fn served(number: u32) {
+    Refusal::of(number).expect("a sound map is served");
+}
+
+impl Map {
+    /// The map without points.
+    ///
+    /// ```
+    /// let map = reach::Map::new();
+    /// assert!(map.is_empty());
+    /// assert_eq!(map.as_bytes(), [0, 0, 0, 5, 1, 0, 0, 4, 0]);
+    /// ```
+    pub fn new() -> Self {
+        let mut bytes = vec![0; HEAD];
+        served(raw::empty(&mut bytes));
+        Map { bytes }
+    }
+
+    /// The map of a file.
+    ///
+    /// # Errors
+    ///
+    /// [`Refusal::BadFile`] where the bytes are not in the saved form, else [`Refusal::NotSound`]
+    /// where the map in them is not sound.
+    ///
+    /// ```
+    /// use reach::{Map, Refusal};
+    ///
+    /// let map = Map::new();
+    /// assert_eq!(Map::load(map.as_bytes()), Ok(map));
+    /// assert_eq!(Map::load(b"reach"), Err(Refusal::BadFile));
+    /// ```
+    pub fn load(bytes: &[u8]) -> Result<Self, Refusal> {
+        Refusal::of(raw::check(bytes))?;
+        Ok(Map { bytes: bytes.to_vec() })
+    }
+
+    /// The map in the saved form.
+    pub fn as_bytes(&self) -> &[u8] {
+        &self.bytes
+    }
+
+    /// The map in the saved form, without a copy.
+    pub fn into_bytes(self) -> Vec<u8> {
+        self.bytes
+    }
+
+    /// The number of points.
+    pub fn len(&self) -> usize {
+        (self.bytes.len() - HEAD) / POINT_BYTES
+    }
+
+    /// Whether there are no points.
+    pub fn is_empty(&self) -> bool {
+        self.len() == 0
+    }
+
+    /// The point with a number.
+    ///
+    /// ```
+    /// use reach::{Map, Point};
+    ///
+    /// let mut map = Map::new();
+    /// map.offer(Point { x: -3, y: 4 })?;
+    /// assert_eq!(map.point(0), Some(Point { x: -3, y: 4 }));
+    /// assert_eq!(map.point(1), None);
+    /// # Ok::<(), reach::Refusal>(())
+    /// ```
+    pub fn point(&self, number: usize) -> Option<Point> {
+        let (pairs, _) = self.bytes[HEAD..].as_chunks::<4>();
+        let coordinate = |i: usize| i64::from(i32::from_be_bytes(pairs[i]));
+        (number < self.len())
+            .then(|| Point { x: coordinate(2 * number), y: coordinate(2 * number + 1) })
+    }
+
+    /// Offers a point. An accepted point gets the next number; a refused one changes nothing.
+    ///
+    /// # Errors
+    ///
+    /// The lowest that applies of [`Refusal::Full`], [`Refusal::OutOfRange`], [`Refusal::Repeated`]
+    /// and [`Refusal::InLine`].
+    ///
+    /// ```
+    /// use reach::{Arrival, Map, Point, Refusal};
+    ///
+    /// let mut map = Map::new();
+    /// assert_eq!(map.offer(Point { x: 0, y: 0 }), Ok(Arrival::First));
+    /// assert_eq!(map.offer(Point { x: 4, y: 0 }), Ok(Arrival::Second));
+    /// assert_eq!(map.offer(Point { x: 8, y: 0 }), Err(Refusal::InLine));
+    /// let outside = Arrival::Outside { left: 1, right: 0, visible: 1 };
+    /// assert_eq!(map.offer(Point { x: 1, y: 3 }), Ok(outside));
+    /// ```
+    pub fn offer(&mut self, point: Point) -> Result<Arrival, Refusal> {
+        let mut bytes = vec![0; self.bytes.len() + POINT_BYTES];
+        let mut arrival = [0; 4];
+        Refusal::of(raw::offer(&self.bytes, point.x, point.y, &mut bytes, &mut arrival))?;
+        self.bytes = bytes;
+        let [kind, left, right, visible] = arrival.map(index);
+        Ok(match kind {
+            0 => Arrival::First,
+            1 => Arrival::Second,
+            2 => Arrival::Inside,
+            _ => Arrival::Outside { left, right, visible },
+        })
+    }
+
+    /// The orbit of a dart.
+    ///
+    /// # Errors
+    ///
+    /// [`Refusal::NoDart`] where the dart is absent.
+    ///
+    /// ```
+    /// use reach::{Kind, Map, Point};
+    ///
+    /// let mut map = Map::new();
+    /// map.offer(Point { x: 0, y: 0 })?;
+    /// map.offer(Point { x: 4, y: 0 })?;
+    /// let edge = map.orbit(Kind::Edge, 0)?;
+    /// assert!(edge.darts().eq([0, 3]));
+    /// # Ok::<(), reach::Refusal>(())
+    /// ```
+    pub fn orbit(&self, kind: Kind, dart: usize) -> Result<Orbit, Refusal> {
+        let orbit = match kind {
+            Kind::Edge => raw::edge_orbit,
+            Kind::Vertex => raw::vertex_orbit,
+            Kind::Face => raw::face_orbit,
+            Kind::Part => raw::part_orbit,
+        };
+        let mut out = [0; 17];
+        Refusal::of(orbit(&self.bytes, dart as u64, &mut out))?;
+        let [words @ .., size] = out;
+        Ok(Orbit { words, size: index(size) })
+    }
+
+    /// How many darts, vertices, edges, faces and parts there are.
+    ///
+    /// ```
+    /// let counts = reach::Map::new().counts();
+    /// assert_eq!((counts.darts, counts.parts), (0, 0));
+    /// ```
+    pub fn counts(&self) -> Counts {
+        let mut out = [0; 5];
+        served(raw::counts(&self.bytes, &mut out));
+        let [darts, vertices, edges, faces, parts] = out.map(index);
+        Counts { darts, vertices, edges, faces, parts }
+    }
+
+    /// The walk from a dart: edge, point, edge, and so on.
+    ///
+    /// # Errors
+    ///
+    /// [`Refusal::NoDart`] where the dart is absent.
+    ///
+    /// ```
+    /// use reach::{Ending, Map, Point, Walk};
+    ///
+    /// let mut map = Map::new();
+    /// map.offer(Point { x: 0, y: 0 })?;
+    /// assert_eq!(map.walk(0), Ok(Walk { last: 0, ending: Ending::Loose, moves: 0 }));
+    /// map.offer(Point { x: 4, y: 0 })?;
+    /// assert_eq!(map.walk(0), Ok(Walk { last: 0, ending: Ending::Home, moves: 4 }));
+    /// # Ok::<(), reach::Refusal>(())
+    /// ```
+    pub fn walk(&self, dart: usize) -> Result<Walk, Refusal> {
+        let mut out = [0; 3];
+        Refusal::of(raw::walk(&self.bytes, dart as u64, &mut out))?;
+        let [last, ending, moves] = out.map(index);
+        let ending = if ending == 0 { Ending::Home } else { Ending::Loose };
+        Ok(Walk { last, ending, moves })
+    }
+
+    /// A walker that starts at a dart.
+    ///
+    /// # Errors
+    ///
+    /// [`Refusal::NoDart`] where the dart is absent.
+    ///
+    /// ```
+    /// use reach::{Map, Point};
+    ///
+    /// let mut map = Map::new();
+    /// map.offer(Point { x: 0, y: 0 })?;
+    /// map.offer(Point { x: 4, y: 0 })?;
+    /// assert_eq!(map.walker(0)?.by_edge().dart(), 3);
+    /// assert_eq!(map.walker(0)?.by_edge().by_point().dart(), 2);
+    /// # Ok::<(), reach::Refusal>(())
+    /// ```
+    pub fn walker(&self, dart: usize) -> Result<Walker<'_>, Refusal> {
+        let mut out = [0];
+        Refusal::of(raw::walker(&self.bytes, dart as u64, &mut out))?;
+        Ok(Walker { map: self, dart: index(out[0]) })
+    }
+
+    fn moved(&self, link: fn(&[u8], u64, &mut [u64]) -> u32, dart: usize) -> usize {
+        let mut out = [0];
+        served(link(&self.bytes, dart as u64, &mut out));
+        index(out[0])
+    }
+
+    /// Places a query point.
+    ///
+    /// # Errors
+    ///
+    /// [`Refusal::OutOfRange`] where the point is out of range.
+    ///
+    /// ```
+    /// use reach::{Map, Placed, Point};
+    ///
+    /// let mut map = Map::new();
+    /// for (x, y) in [(0, 0), (4, 0), (1, 3)] {
+    ///     map.offer(Point { x, y })?;
+    /// }
+    /// assert_eq!(map.place(Point { x: 4, y: 0 }), Ok(Placed::Corner(1)));
+    /// assert_eq!(map.place(Point { x: 2, y: 0 }), Ok(Placed::Edge { start: 0, end: 1 }));
+    /// assert_eq!(map.place(Point { x: 1, y: 1 }), Ok(Placed::Inside));
+    /// assert_eq!(map.place(Point { x: 9, y: 9 }), Ok(Placed::Outside { visible: 1 }));
+    /// # Ok::<(), reach::Refusal>(())
+    /// ```
+    pub fn place(&self, point: Point) -> Result<Placed, Refusal> {
+        let mut out = [0; 3];
+        Refusal::of(raw::place(&self.bytes, point.x, point.y, &mut out))?;
+        let [verdict, first, second] = out.map(index);
+        Ok(match verdict {
+            0 => Placed::NoOutline,
+            1 => Placed::Corner(first),
+            2 => Placed::Edge { start: first, end: second },
+            3 => Placed::Inside,
+            _ => Placed::Outside { visible: first },
+        })
+    }
+
+    /// The point numbers of the corners, anticlockwise from the smallest y, then the smallest x.
+    ///
+    /// ```
+    /// use reach::{Map, Point};
+    ///
+    /// let mut map = Map::new();
+    /// for (x, y) in [(4, 0), (1, 3), (0, 0), (2, 1)] {
+    ///     map.offer(Point { x, y })?;
+    /// }
+    /// assert_eq!(map.corners(), [2, 0, 1]);
+    /// # Ok::<(), reach::Refusal>(())
+    /// ```
+    pub fn corners(&self) -> Vec<usize> {
+        let mut corners = vec![0; self.len()];
+        let mut length = [0];
+        served(raw::corners(&self.bytes, &mut corners, &mut length));
+        corners.truncate(index(length[0]));
+        corners.into_iter().map(index).collect()
+    }
+}
+
+impl Default for Map {
+    fn default() -> Self {
+        Map::new()
+    }
+}

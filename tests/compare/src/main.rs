@@ -1,0 +1,274 @@
+//! Compares every function of the engine's archive, the safe Rust crate over it, and the built
+//! program, with the reference, on inputs drawn from a seed.
+//!
+//!     compare [--seed N] [--seconds S | --texts N --files N --maps N]
+//!             [--program PATH | --without-program]
+//!
+//! A text is reported, and its first line read; a file, damaged or with changed fields, goes
+//! through every function that reads a map; a map is built point after point and then read in every
+//! way, as it is and rearranged. One text in fifty, or in a thousand of a hundred thousand and
+//! more, also goes through the program. The seed, the calls of each entry by the number they answer
+//! and the number of differences are printed. The exit status is 1 on a difference, with the input
+//! that shows it, and 2 where the arguments are wrong or the program is not there.
+
+mod draw;
+mod entries;
+mod lent;
+mod maps;
+mod null;
+mod points;
+mod program;
+mod tally;
+mod texts;
+mod wrapper;
+
+use entries::Comparison;
+use reference::{LIMIT, Map, POINT_LIMIT, Point, TEXT_LIMIT};
+use std::path::PathBuf;
+use std::process::ExitCode;
+use std::time::{Duration, Instant, SystemTime, UNIX_EPOCH};
+use tally::{Difference, Outcome};
+
+/// How much is compared.
+enum Extent {
+    For(Duration),
+    Numbers { texts: u64, files: u64, maps: u64 },
+}
+
+struct Arguments {
+    seed: u64,
+    extent: Extent,
+    program: Option<PathBuf>,
+}
+
+fn arguments() -> Result<Arguments, String> {
+    let clock = SystemTime::now().duration_since(UNIX_EPOCH).map_or(0, |t| t.as_nanos() as u64);
+    let mut seed = clock % 1_000_000_007;
+    let mut seconds = None;
+    let mut numbers = [None; 3];
+    let built = concat!(env!("CARGO_MANIFEST_DIR"), "/../../target/bin/outline");
+    let mut program = Some(PathBuf::from(built));
+    let mut words = std::env::args().skip(1);
+    while let Some(word) = words.next() {
+        let mut value = || words.next().ok_or(format!("{word} needs a value"));
+        let number =
+            |value: String| value.parse::<u64>().map_err(|_| format!("{value} is no number"));
+        match word.as_str() {
+            "--seed" => seed = number(value()?)?,
+            "--seconds" => seconds = Some(number(value()?)?),
+            "--texts" => numbers[0] = Some(number(value()?)?),
+            "--files" => numbers[1] = Some(number(value()?)?),
+            "--maps" => numbers[2] = Some(number(value()?)?),
+            "--program" => program = Some(value()?.into()),
+            "--without-program" => program = None,
+            _ => return Err(format!("{word} is not an argument")),
+        }
+    }
+    let extent = match (seconds, numbers) {
+        (None, [None, None, None]) => Extent::For(Duration::from_secs(10)),
+        (Some(seconds), [None, None, None]) => Extent::For(Duration::from_secs(seconds)),
+        (None, [texts, files, maps]) => Extent::Numbers {
+            texts: texts.unwrap_or(0),
+            files: files.unwrap_or(0),
+            maps: maps.unwrap_or(0),
+        },
+        (Some(_), _) => return Err("--seconds stands alone".into()),
+    };
+    match &program {
+        Some(path) if !path.is_file() => {
+            Err(format!("there is no {}: build it, or --without-program", path.display()))
+        }
+        _ => Ok(Arguments { seed, extent, program }),
+    }
+}
+
+/// What is compared whatever the seed: short lines, the ends of the range, a full map, long texts.
+fn fixed(c: &mut Comparison) -> Outcome {
+    c.null_lists()?;
+    for _ in 0..40 {
+        c.empty()?;
+    }
+    lines_up_to(c, &mut Vec::new(), 5)?;
+    let ends = [-LIMIT - 1, -LIMIT, LIMIT, LIMIT + 1];
+    let corners: Vec<Point> =
+        ends.iter().flat_map(|&x| ends.iter().map(move |&y| Point::new(x, y))).collect();
+    for &a in &corners {
+        for &b in &corners {
+            for &p in &corners {
+                c.orientation([a, b, p])?;
+            }
+        }
+    }
+    let mut full: Vec<Point> = (0..POINT_LIMIT as i64).map(|i| Point::new(i, i * i)).collect();
+    let refused =
+        [Point::new(512, 512 * 512), Point::new(0, 0), Point::new(1, 2), Point::new(LIMIT + 1, 0)];
+    full.extend(refused);
+    let map = c.survey(&full)?;
+    c.file(&map.save(), 4)?;
+    for n in [POINT_LIMIT + 1, 65_535] {
+        c.file(&maps::oversized(n), 1)?;
+    }
+    for length in [0, 1, 2, TEXT_LIMIT - 1, TEXT_LIMIT, TEXT_LIMIT + 1, 2 * TEXT_LIMIT] {
+        for byte in [b'\n', b'1', b' '] {
+            c.report(&vec![byte; length])?;
+            c.wrapper_report(&vec![byte; length])?;
+        }
+    }
+    Ok(())
+}
+
+/// Every line of so many bytes that matter.
+fn lines_up_to(c: &mut Comparison, line: &mut Vec<u8>, more: usize) -> Outcome {
+    c.line(line)?;
+    if more > 0 {
+        for byte in *b"019- \n/" {
+            line.push(byte);
+            lines_up_to(c, line, more - 1)?;
+            line.pop();
+        }
+    }
+    Ok(())
+}
+
+/// The texts that the program is given whatever the seed.
+fn fixed_texts() -> Vec<Vec<u8>> {
+    let mut texts: Vec<Vec<u8>> = [
+        "",
+        "\n",
+        "\n\n",
+        "0 0",
+        "0 0\n",
+        "0 0\n4 0\n1 3\n5 4\n2 1\n6 7\n",
+        "0 0\n4 0\n1 3\n5 4\n2 1\n6 7",
+        "1000001 0\n-0 1\n",
+        "7 7\n7 7\n8 8\n9 9\n",
+    ]
+    .map(|text| text.as_bytes().to_vec())
+    .to_vec();
+    for length in [TEXT_LIMIT - 1, TEXT_LIMIT, TEXT_LIMIT + 1, 10 * TEXT_LIMIT] {
+        texts.push(vec![b'\n'; length]);
+        texts.push(b"12 345\n".iter().copied().cycle().take(length).collect());
+    }
+    texts
+}
+
+struct Session {
+    comparison: Comparison,
+    /// Maps that are dear to build.
+    pool: Vec<Map>,
+    program: Option<PathBuf>,
+}
+
+impl Session {
+    fn new(arguments: &Arguments) -> Result<Self, Difference> {
+        let mut comparison = Comparison::new(arguments.seed);
+        fixed(&mut comparison)?;
+        if let Some(program) = &arguments.program {
+            for text in fixed_texts() {
+                comparison.program(program, &text)?;
+            }
+        }
+        let draw = &mut comparison.draw;
+        let pool = [100, 200, 300, 511, 512, 700, 1500]
+            .into_iter()
+            .map(|offers| maps::built(&points::survey(draw, offers)))
+            .collect();
+        Ok(Session { comparison, pool, program: arguments.program.clone() })
+    }
+
+    /// One text; one in `sample` goes through the program.
+    fn text(&mut self, sample: usize) -> Outcome {
+        let c = &mut self.comparison;
+        let text = if c.draw.one_in(2000) {
+            texts::long_text(&mut c.draw)
+        } else {
+            texts::text(&mut c.draw)
+        };
+        c.report(&text)?;
+        let line = texts::line(&mut c.draw);
+        c.line(&line)?;
+        if c.draw.one_in(50) {
+            c.wrapper_report(&text)?;
+        }
+        let survey = points::survey(&mut c.draw, 3);
+        c.orientation([survey[0], survey[1], survey[2]])?;
+        if c.draw.one_in(sample)
+            && let Some(program) = &self.program
+        {
+            c.program(program, &text)?;
+        }
+        Ok(())
+    }
+
+    /// One file, most often refused.
+    fn file(&mut self) -> Outcome {
+        let file = maps::file(&mut self.comparison.draw, &self.pool);
+        self.comparison.file(&file, 1)?;
+        if self.comparison.draw.one_in(4) {
+            self.comparison.wrapper(&file)?;
+        }
+        Ok(())
+    }
+
+    /// One map, built by offers and then read in every way, as it is and rearranged.
+    fn map(&mut self) -> Outcome {
+        let c = &mut self.comparison;
+        let most = if c.draw.one_in(300) { 700 } else { 60 };
+        let offers = c.draw.size(most);
+        let survey = points::survey(&mut c.draw, offers);
+        let mut map = c.survey(&survey)?;
+        if c.draw.one_in(20) {
+            map = c.draw.pick(&self.pool);
+        }
+        c.file(&map.save(), 3)?;
+        let file = maps::rearranged(&mut c.draw, map).save();
+        c.file(&file, 3)?;
+        c.wrapper(&file)
+    }
+
+    fn compare(&mut self, extent: &Extent) -> Outcome {
+        match *extent {
+            Extent::For(duration) => {
+                let start = Instant::now();
+                while start.elapsed() < duration {
+                    (0..20).try_for_each(|_| self.text(50))?;
+                    (0..10).try_for_each(|_| self.file())?;
+                    (0..2).try_for_each(|_| self.map())?;
+                }
+            }
+            Extent::Numbers { texts, files, maps } => {
+                let sample = if texts < 100_000 { 50 } else { 1000 };
+                (0..texts).try_for_each(|_| self.text(sample))?;
+                (0..files).try_for_each(|_| self.file())?;
+                (0..maps).try_for_each(|_| self.map())?;
+            }
+        }
+        Ok(())
+    }
+}
+
+fn main() -> ExitCode {
+    let arguments = match arguments() {
+        Ok(arguments) => arguments,
+        Err(message) => {
+            eprintln!("compare: {message}");
+            return ExitCode::from(2);
+        }
+    };
+    println!("seed {}", arguments.seed);
+    let session = Session::new(&arguments).and_then(|mut session| {
+        session.compare(&arguments.extent)?;
+        Ok(session)
+    });
+    match session {
+        Ok(session) => {
+            println!("{}", session.comparison.tally);
+            println!("0 differences");
+            ExitCode::SUCCESS
+        }
+        Err(Difference(shown)) => {
+            println!("DIFFERENCE in {shown}");
+            ExitCode::FAILURE
+        }
+    }
+}

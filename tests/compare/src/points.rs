@@ -1,0 +1,170 @@
+//! Drawn points: surveys of several shapes, and query points for a map.
+
+use crate::draw::Draw;
+use reference::{LIMIT, Map, Point};
+
+/// Coordinates at the ends of the range and of the types, where arithmetic goes wrong.
+fn ends() -> Vec<i64> {
+    let near = |z: i64| [z.saturating_sub(1), z, z.saturating_add(1)];
+    [
+        i64::MIN,
+        i64::MAX,
+        i64::from(i32::MIN),
+        i64::from(i32::MAX),
+        1 << 32,
+        1 << 20,
+        -LIMIT,
+        LIMIT,
+        0,
+    ]
+    .into_iter()
+    .flat_map(near)
+    .collect()
+}
+
+pub fn any_coordinate(draw: &mut Draw) -> i64 {
+    match draw.below(4) {
+        0 => draw.pick(&ends()),
+        1 => draw.between(-LIMIT, LIMIT),
+        2 => draw.between(-20, 20),
+        _ => draw.word() as i64 >> draw.below(64),
+    }
+}
+
+pub fn any_point(draw: &mut Draw) -> Point {
+    Point::new(any_coordinate(draw), any_coordinate(draw))
+}
+
+/// A survey of so many offers, some of which will be refused.
+pub fn survey(draw: &mut Draw, offers: usize) -> Vec<Point> {
+    let far =
+        |draw: &mut Draw| Point::new(draw.between(-LIMIT, LIMIT), draw.between(-LIMIT, LIMIT));
+    match draw.below(8) {
+        0 => (0..offers).map(|_| far(draw)).collect(),
+        1 => {
+            let width = draw.pick(&[2, 5, 10, 40, 1000]);
+            let mut coordinate = || draw.between(-width, width);
+            (0..offers).map(|_| Point::new(coordinate(), coordinate())).collect()
+        }
+        2 => convex(draw, offers),
+        3 => collinear(draw, offers),
+        4 => clustered(draw, offers),
+        5 => (0..offers).map(|_| any_point(draw)).collect(),
+        6 => {
+            let ends = [-LIMIT, -LIMIT + 1, LIMIT - 1, LIMIT];
+            (0..offers)
+                .map(|_| {
+                    let mut point = far(draw);
+                    if draw.one_in(2) {
+                        point.x = draw.pick(&ends);
+                    } else {
+                        point.y = draw.pick(&ends);
+                    }
+                    point
+                })
+                .collect()
+        }
+        _ => spiral(draw, offers),
+    }
+}
+
+fn shuffle<T>(draw: &mut Draw, list: &mut [T]) {
+    for i in (1..list.len()).rev() {
+        list.swap(i, draw.below(i + 1));
+    }
+}
+
+/// Points in convex position, in order or shuffled: a parabola, lying in one of four ways.
+pub fn convex(draw: &mut Draw, offers: usize) -> Vec<Point> {
+    let middle = offers as i64 / 2;
+    let [flip, swap, mix] = [2, 2, 2].map(|n| draw.one_in(n));
+    let mut points: Vec<Point> = (0..offers as i64)
+        .map(|i| {
+            let (x, y) = (i - middle, (i - middle) * (i - middle));
+            let y = if flip { -y } else { y };
+            if swap { Point::new(y, x) } else { Point::new(x, y) }
+        })
+        .collect();
+    if mix {
+        shuffle(draw, &mut points);
+    }
+    points
+}
+
+/// Points on a few lines.
+fn collinear(draw: &mut Draw, offers: usize) -> Vec<Point> {
+    let lines: Vec<[i64; 4]> = (0..1 + draw.below(4))
+        .map(|_| {
+            let start = [draw.between(-900, 900), draw.between(-900, 900)];
+            [start[0], start[1], draw.between(-30, 30), draw.between(-30, 30)]
+        })
+        .collect();
+    (0..offers)
+        .map(|_| {
+            let [x, y, across, up] = draw.pick(&lines);
+            let step = draw.between(-20, 20);
+            Point::new(x + step * across, y + step * up)
+        })
+        .collect()
+}
+
+/// Points near a few centres.
+fn clustered(draw: &mut Draw, offers: usize) -> Vec<Point> {
+    let mut far = || draw.between(-LIMIT + 50, LIMIT - 50);
+    let centres: Vec<Point> = (0..4).map(|_| Point::new(far(), far())).collect();
+    (0..offers)
+        .map(|_| {
+            let centre = draw.pick(&centres);
+            Point::new(centre.x + draw.between(-50, 50), centre.y + draw.between(-50, 50))
+        })
+        .collect()
+}
+
+/// Points that lie ever further out, so that nearly all become corners and hide earlier ones.
+fn spiral(draw: &mut Draw, offers: usize) -> Vec<Point> {
+    let step = draw.between(1, 1800);
+    (0..offers as i64)
+        .map(|i| {
+            let width = (i + 1) * step;
+            let along = draw.between(-width, width);
+            match i % 4 {
+                0 => Point::new(width, along),
+                1 => Point::new(along, width),
+                2 => Point::new(-width, along),
+                _ => Point::new(along, -width),
+            }
+        })
+        .collect()
+}
+
+/// A point that tells cases of placing and offering apart: a point of the map, on the line of two
+/// of them, near one, or any.
+pub fn query(draw: &mut Draw, map: &Map) -> Point {
+    let corners = if draw.one_in(2) { map.corners() } else { (0..map.points.len()).collect() };
+    if corners.is_empty() {
+        return any_point(draw);
+    }
+    let i = draw.below(corners.len());
+    let j = if draw.one_in(4) { draw.below(corners.len()) } else { (i + 1) % corners.len() };
+    let [a, b] = [i, j].map(|i| map.points[corners[i]]);
+    match draw.below(6) {
+        0 => a,
+        1 => Point::new(a.x + draw.between(-2, 2), a.y + draw.between(-2, 2)),
+        2 => Point::new((a.x + b.x) / 2, (a.y + b.y) / 2),
+        3 | 4 => on_line(draw, a, b),
+        _ => any_point(draw),
+    }
+}
+
+/// A point with whole coordinates on the line of two points, between them or beyond.
+fn on_line(draw: &mut Draw, a: Point, b: Point) -> Point {
+    let (mut x, mut y) = (b.x - a.x, b.y - a.y);
+    let (mut divisor, mut rest) = (x.abs(), y.abs());
+    while rest != 0 {
+        (divisor, rest) = (rest, divisor % rest);
+    }
+    let parts = divisor.max(1);
+    (x, y) = (x / parts, y / parts);
+    let step = draw.between(-parts.min(3), 2 * parts);
+    Point::new(a.x + step * x, a.y + step * y)
+}

@@ -1,0 +1,44 @@
+//! How many calls of each entry are compared, by the number that they answer.
+
+use std::collections::BTreeMap;
+use std::fmt;
+
+/// A difference between the engine and the reference, with the input that shows it.
+pub struct Difference(pub String);
+
+pub type Outcome = Result<(), Difference>;
+
+#[derive(Default)]
+pub struct Tally(BTreeMap<&'static str, BTreeMap<u32, u64>>);
+
+impl Tally {
+    pub fn add(&mut self, entry: &'static str, number: u32) {
+        *self.0.entry(entry).or_default().entry(number).or_default() += 1;
+    }
+
+    fn total(&self) -> u64 {
+        self.0.values().flat_map(|numbers| numbers.values()).sum()
+    }
+}
+
+impl fmt::Display for Tally {
+    fn fmt(&self, f: &mut fmt::Formatter<'_>) -> fmt::Result {
+        for (entry, numbers) in &self.0 {
+            let calls: u64 = numbers.values().sum();
+            write!(f, "{entry} {calls}:")?;
+            for (number, calls) in numbers {
+                match number {
+                    0 => write!(f, " served {calls}")?,
+                    _ => write!(f, ", number {number} {calls}")?,
+                }
+            }
+            writeln!(f)?;
+        }
+        write!(f, "all entries {}", self.total())
+    }
+}
+
+/// Bytes as hexadecimal digits.
+pub fn hex(bytes: &[u8]) -> String {
+    bytes.iter().map(|b| format!("{b:02x}")).collect()
+}

@@ -1,0 +1,112 @@
+//! The comparison of the safe Rust crate with the reference.
+
+use crate::entries::Comparison;
+use crate::points;
+use crate::tally::{Difference, Outcome, hex};
+use reference::{Answer, Arrival, Ending, Kind, Map, Placed, Point};
+use std::fmt::Debug;
+
+/// A refusal as its number.
+fn number<T>(answer: Result<T, reach::Refusal>) -> Answer<T> {
+    answer.map_err(reach::Refusal::number)
+}
+
+fn arrival(arrival: reach::Arrival) -> Arrival {
+    match arrival {
+        reach::Arrival::First => Arrival::First,
+        reach::Arrival::Second => Arrival::Second,
+        reach::Arrival::Inside => Arrival::Inside,
+        reach::Arrival::Outside { left, right, visible } => {
+            Arrival::Outside { left, right, visible }
+        }
+    }
+}
+
+fn placed(placed: reach::Placed) -> Placed {
+    match placed {
+        reach::Placed::NoOutline => Placed::NoOutline,
+        reach::Placed::Corner(corner) => Placed::Corner(corner),
+        reach::Placed::Edge { start, end } => Placed::Edge(start, end),
+        reach::Placed::Inside => Placed::Inside,
+        reach::Placed::Outside { visible } => Placed::Outside(visible),
+    }
+}
+
+fn counts(map: &reach::Map) -> [usize; 5] {
+    let c = map.counts();
+    [c.darts, c.vertices, c.edges, c.faces, c.parts]
+}
+
+impl Comparison {
+    fn same<T: Debug + PartialEq>(
+        &mut self,
+        entry: &'static str,
+        input: &dyn Fn() -> String,
+        expected: Answer<T>,
+        got: Answer<T>,
+    ) -> Outcome {
+        if expected != got {
+            let said = format!("expected {expected:?}\n     got {got:?}");
+            return Err(Difference(format!("{entry}\n{}\n{said}", input())));
+        }
+        self.tally.add(entry, got.err().unwrap_or(0));
+        Ok(())
+    }
+
+    /// The crate's functions on a file.
+    pub fn wrapper(&mut self, file: &[u8]) -> Outcome {
+        let input = || format!("map {}", hex(file));
+        let expected = Map::load(file);
+        let loaded = number(reach::Map::load(file));
+        let saved = loaded.clone().map(reach::Map::into_bytes);
+        self.same("Map::load", &input, expected.clone().map(|m| m.save()), saved)?;
+        let (Ok(mut expected), Ok(mut map)) = (expected, loaded) else {
+            return Ok(());
+        };
+        let c = expected.counts();
+        let numbers = [c.darts, c.vertices, c.edges, c.faces, c.parts];
+        self.same("Map::counts", &input, Ok(numbers), Ok(counts(&map)))?;
+        self.same("Map::corners", &input, Ok(expected.corners()), Ok(map.corners()))?;
+        let points: Vec<_> = (0..map.len()).filter_map(|k| map.point(k)).collect();
+        let points = points.iter().map(|p| Point::new(p.x, p.y)).collect();
+        self.same("Map::point", &input, Ok(expected.points.clone()), Ok(points))?;
+
+        let dart = self.draw.below(2 * map.len() + 2);
+        let input = || format!("dart {dart} of map {}", hex(file));
+        let kinds = [
+            (reach::Kind::Edge, Kind::Edge),
+            (reach::Kind::Vertex, Kind::Vertex),
+            (reach::Kind::Face, Kind::Face),
+            (reach::Kind::Part, Kind::Part),
+        ];
+        for (kind, expected_kind) in kinds {
+            let orbit = expected.orbit(expected_kind, dart as u64).map(|o| (o.words, o.size));
+            let got = number(map.orbit(kind, dart));
+            self.same("Map::orbit", &input, orbit, got.map(|o| (o.words, o.size)))?;
+        }
+        let walk = expected.walk(dart as u64);
+        let walk = walk.map(|w| (w.last, w.ending == Ending::Home, w.moves));
+        let got = number(map.walk(dart));
+        let got = got.map(|w| (w.last, w.ending == reach::Ending::Home, w.moves));
+        self.same("Map::walk", &input, walk, got)?;
+        let moved = expected.walker(dart as u64).map(|d| expected.face_link(d));
+        let got = number(map.walker(dart)).map(|walker| walker.by_edge().by_point().dart());
+        self.same("Walker", &input, moved, got)?;
+
+        let p = points::query(&mut self.draw, &expected);
+        let input = || format!("{p:?} and map {}", hex(file));
+        let point = reach::Point { x: p.x, y: p.y };
+        let got = number(map.place(point)).map(placed);
+        self.same("Map::place", &input, expected.place(p), got)?;
+        let got = number(map.offer(point)).map(arrival);
+        self.same("Map::offer", &input, expected.offer(p), got)?;
+        self.same("Map::as_bytes", &input, Ok(expected.save()), Ok(map.as_bytes().to_vec()))
+    }
+
+    /// The crate's function on a text.
+    pub fn wrapper_report(&mut self, text: &[u8]) -> Outcome {
+        let input = || format!("text \"{}\"", text.escape_ascii());
+        let got = number(reach::report(text));
+        self.same("report", &input, reference::report_or_refusal(text), got)
+    }
+}

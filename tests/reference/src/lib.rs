@@ -1,0 +1,36 @@
+//! All of the requirements in plain Rust, to compare the proved engine with.
+//!
+//! Nothing here is shared with the engine, and where there is a choice another way is taken:
+//! orientations are 128-bit, an outline is computed from the coordinates alone (Andrew's monotone
+//! chain) instead of being read from the links, links stand in a hash map, orbits are sets that
+//! grow until they are closed, parts are a union-find, points in line are found by their
+//! directions.
+//!
+//! Every function answers its value or the number of its refusal. A [`Map`] that comes out of
+//! [`Map::load`] or was built by [`Map::offer`] from [`Map::empty`] is sound, and the functions
+//! that read a map speak of sound maps; [`sound::is_sound`] judges any other.
+
+pub mod arrival;
+pub mod map;
+pub mod orbits;
+pub mod place;
+pub mod plane;
+pub mod refusal;
+pub mod saved;
+pub mod sound;
+pub mod text;
+pub mod walk;
+
+pub use arrival::Arrival;
+pub use map::{DART_LIMIT, Map, NO_DART, POINT_LIMIT};
+pub use orbits::{Counts, Kind, Orbit};
+pub use place::Placed;
+pub use plane::{LIMIT, Point, orientation};
+pub use text::{TEXT_LIMIT, read_line, report, report_or_refusal};
+pub use walk::{Ending, Walk};
+
+/// A value, or the number of the refusal.
+pub type Answer<T> = Result<T, u32>;
+
+#[cfg(test)]
+mod questions;

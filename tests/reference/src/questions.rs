@@ -1,0 +1,170 @@
+//! The session and the questions of the requirements.
+
+use crate::*;
+
+const SESSION: [(i64, i64); 6] = [(0, 0), (4, 0), (1, 3), (5, 4), (2, 1), (6, 7)];
+
+fn after(points: usize) -> Map {
+    let mut m = Map::empty();
+    for (x, y) in &SESSION[..points] {
+        m.offer(Point::new(*x, *y)).expect("the session is accepted");
+    }
+    m
+}
+
+fn numbers(c: Counts) -> [usize; 5] {
+    [c.darts, c.vertices, c.edges, c.faces, c.parts]
+}
+
+#[test]
+fn the_session() {
+    let printed = "OUTLINE 1\n0 first\n1 second\n2 outside 1 0 1\n3 outside 1 2 1\n4 inside\n\
+                   5 outside 1 2 2\ncorners 0 1 5 2\ncounts 11 6 7 4 3\n";
+    for text in ["0 0\n4 0\n1 3\n5 4\n2 1\n6 7\n", "0 0\n4 0\n1 3\n5 4\n2 1\n6 7"] {
+        assert_eq!(String::from_utf8(report(text.as_bytes())).unwrap(), printed);
+    }
+    let m = after(6);
+    assert_eq!([2, 11, 10, 5, 6, 7].map(|d| m.edge_link(d)), [11, 2, 5, 10, 6, 7]);
+    assert_eq!(m.corners(), [0, 1, 5, 2]);
+}
+
+#[test]
+fn orbits_and_walks() {
+    let m = after(6);
+    let face = m.orbit(Kind::Face, 0).unwrap();
+    assert_eq!(face.words[0], 1 << 0 | 1 << 2 | 1 << 4 | 1 << 10);
+    assert_eq!(face.size, 4);
+    let home = Walk { last: 0, ending: Ending::Home, moves: 8 };
+    let loose = Walk { last: 6, ending: Ending::Loose, moves: 0 };
+    assert_eq!(m.walk(0), Ok(home));
+    assert_eq!(m.walk(6), Ok(loose));
+    for absent in [9, 12, 1023, 1024, u64::MAX] {
+        assert_eq!(m.walk(absent), Err(6));
+        assert_eq!(m.orbit(Kind::Part, absent), Err(6));
+    }
+    assert_eq!(m.walker_edge(2), Ok(11));
+    assert_eq!(m.walker_point(2), Ok(3));
+}
+
+#[test]
+fn counts_of_small_maps() {
+    let known = [[0; 5], [1; 5], [4, 2, 2, 2, 1]];
+    for (points, counts) in known.into_iter().enumerate() {
+        assert_eq!(numbers(after(points).counts()), counts);
+    }
+    assert_eq!(numbers(after(6).counts()), [11, 6, 7, 4, 3]);
+}
+
+#[test]
+fn orientations() {
+    let [a, b, c] = [(0, 0), (4, 0), (1, 3)].map(|(x, y)| Point::new(x, y));
+    assert_eq!(orientation(a, b, c), Ok(12));
+    assert_eq!(orientation(b, a, c), Ok(-12));
+    let [a, b, c] =
+        [(-LIMIT, -LIMIT), (LIMIT, -LIMIT), (LIMIT, LIMIT)].map(|(x, y)| Point::new(x, y));
+    assert_eq!(orientation(a, b, c), Ok(4_000_000_000_000));
+    assert_eq!(orientation(a, Point::new(i64::MIN, i64::MAX), c), Err(3));
+}
+
+#[test]
+fn refused_points() {
+    let mut m = after(4);
+    assert_eq!(m.offer(Point::new(2, 2)), Err(5));
+    assert_eq!(m.offer(Point::new(4, 0)), Err(4));
+    assert_eq!(m, after(4));
+    assert_eq!(Map::empty().offer(Point::new(LIMIT, 0)), Ok(Arrival::First));
+    assert_eq!(Map::empty().offer(Point::new(LIMIT + 1, 0)), Err(3));
+    let mut full = Map::empty();
+    for x in 0..512 {
+        full.offer(Point::new(x, x * x)).unwrap();
+    }
+    for last in [Point::new(512, 512 * 512), Point::new(0, 0), Point::new(i64::MAX, 0)] {
+        assert_eq!(full.offer(last), Err(2));
+    }
+}
+
+#[test]
+fn files() {
+    assert_eq!(Map::empty().save(), [0, 0, 0, 5, 1, 0, 0, 4, 0]);
+    for points in 0..=6 {
+        let file = after(points).save();
+        assert_eq!(Map::load(&file), Ok(after(points)));
+        assert_eq!(Map::load(&file[..file.len() - 1]), Err(7));
+    }
+    let file = after(6).save();
+    let changed = |place: usize, byte: u8| {
+        let mut file = file.clone();
+        file[place] = byte;
+        Map::load(&file).err()
+    };
+    assert_eq!(changed(4, 2), Some(7));
+    assert_eq!(changed(9 + 8 * 6, 2), Some(7));
+    assert_eq!(changed(9 + 8 * 6, 0), Some(1));
+    assert_eq!(changed(8, 4), None);
+    assert_eq!(changed(8, 6), Some(1));
+    assert_eq!(changed(9 + 9 * 6, 200), Some(1));
+}
+
+#[test]
+fn placing() {
+    let m = after(6);
+    let place = |x, y| m.place(Point::new(x, y));
+    assert_eq!(place(4, 0), Ok(Placed::Corner(1)));
+    assert_eq!(place(2, 0), Ok(Placed::Edge(0, 1)));
+    assert_eq!(place(2, 1), Ok(Placed::Inside));
+    assert_eq!(place(5, 0), Ok(Placed::Outside(1)));
+    assert_eq!(place(-1, 0), Ok(Placed::Outside(1)));
+    assert_eq!(place(0, -LIMIT - 1), Err(3));
+    let two = after(2);
+    assert_eq!(two.place(Point::new(2, 0)), Ok(Placed::Edge(0, 1)));
+    assert_eq!(two.place(Point::new(5, 0)), Ok(Placed::Outside(0)));
+    assert_eq!(two.place(Point::new(5, 1)), Ok(Placed::Outside(1)));
+    assert_eq!(after(1).place(Point::new(0, 0)), Ok(Placed::NoOutline));
+}
+
+#[test]
+fn lines() {
+    for (line, x, y) in [("0 0", 0, 0), ("-1 9999999", -1, 9_999_999)] {
+        assert_eq!(read_line(line.as_bytes()), Ok(Point::new(x, y)));
+    }
+    let bad = [
+        "",
+        " ",
+        "0",
+        "0 ",
+        " 0",
+        "0  0",
+        "0 0 ",
+        "00 0",
+        "-0 0",
+        "+1 0",
+        "1 10000000",
+        "1\t0",
+        "1 0\r",
+        "1 0\n",
+        "- 0",
+        "1 --1",
+        "1 0 0",
+        "-9223372036854775808 0",
+    ];
+    for line in bad {
+        assert_eq!(read_line(line.as_bytes()), Err(8), "{line:?}");
+    }
+    assert_eq!(read_line(b"0 \xff"), Err(8));
+}
+
+#[test]
+fn reports() {
+    let printed = |text: &[u8]| String::from_utf8(report(text)).unwrap();
+    let none = "corners\ncounts 0 0 0 0 0\n";
+    assert_eq!(printed(b""), format!("OUTLINE 1\n{none}"));
+    assert_eq!(printed(b"\n"), format!("OUTLINE 1\n0 refused 8\n{none}"));
+    assert_eq!(printed(b"\n\n"), format!("OUTLINE 1\n0 refused 8\n1 refused 8\n{none}"));
+    assert_eq!(
+        printed(b"\n1000001 0\n1 1"),
+        "OUTLINE 1\n0 refused 8\n1 refused 3\n2 first\ncorners 0\ncounts 1 1 1 1 1\n"
+    );
+    assert_eq!(printed(&[b'\n'; TEXT_LIMIT]).lines().count(), TEXT_LIMIT + 3);
+    assert_eq!(printed(&[b'\n'; TEXT_LIMIT + 1]), "OUTLINE 1\nrefused 9\n");
+    assert_eq!(report_or_refusal(&[b'\n'; TEXT_LIMIT + 1]), Err(9));
+}

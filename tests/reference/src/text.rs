@@ -1,0 +1,65 @@
+//! Numbers, lines and the report of the text program.
+
+use crate::{Answer, Arrival, Map, Point, refusal};
+use std::fmt::Write;
+
+/// A text of more bytes is refused.
+pub const TEXT_LIMIT: usize = 65_536;
+
+/// "A number is an optional minus and 1 to 7 digits, no leading zero save 0 itself, no -0." It is
+/// in form where it is the one spelling of its value.
+fn read_number(bytes: &[u8]) -> Option<i64> {
+    let spelling = std::str::from_utf8(bytes).ok()?;
+    let number: i64 = spelling.parse().ok()?;
+    let has_few_digits = (-9_999_999..=9_999_999).contains(&number);
+    (has_few_digits && number.to_string() == spelling).then_some(number)
+}
+
+/// The point that a line names, its line feed left out, or number 8.
+pub fn read_line(line: &[u8]) -> Answer<Point> {
+    let mut parts = line.split(|&b| b == b' ');
+    let numbers = [parts.next(), parts.next()].map(|part| part.and_then(read_number));
+    match (numbers, parts.next()) {
+        ([Some(x), Some(y)], None) => Ok(Point { x, y }),
+        _ => Err(refusal::BAD_LINE),
+    }
+}
+
+/// What the program prints for a text.
+pub fn report(text: &[u8]) -> Vec<u8> {
+    const TITLE: &str = "OUTLINE 1\n";
+    if text.len() > TEXT_LIMIT {
+        return format!("{TITLE}refused {}\n", refusal::LONG_TEXT).into();
+    }
+    let mut lines: Vec<&[u8]> = text.split(|&b| b == b'\n').collect();
+    if lines.last().is_some_and(|last| last.is_empty()) {
+        lines.pop();
+    }
+    let mut map = Map::empty();
+    let mut printed = String::from(TITLE);
+    for (number, line) in lines.into_iter().enumerate() {
+        let words = match read_line(line).and_then(|p| map.offer(p)) {
+            Ok(Arrival::First) => "first".into(),
+            Ok(Arrival::Second) => "second".into(),
+            Ok(Arrival::Inside) => "inside".into(),
+            Ok(Arrival::Outside { left, right, visible }) => {
+                format!("outside {left} {right} {visible}")
+            }
+            Err(refusal) => format!("refused {refusal}"),
+        };
+        writeln!(printed, "{number} {words}").expect("a string takes all");
+    }
+    printed.push_str("corners");
+    for corner in map.corners() {
+        write!(printed, " {corner}").expect("a string takes all");
+    }
+    let c = map.counts();
+    writeln!(printed, "\ncounts {} {} {} {} {}", c.darts, c.vertices, c.edges, c.faces, c.parts)
+        .expect("a string takes all");
+    printed.into()
+}
+
+/// The report as a call answers it: number 9 gives nothing to write.
+pub fn report_or_refusal(text: &[u8]) -> Answer<Vec<u8>> {
+    if text.len() > TEXT_LIMIT { Err(refusal::LONG_TEXT) } else { Ok(report(text)) }
+}

@@ -1,3 +1,5 @@
 -- Laws of the definitions. Nothing is assumed.
 --     Sound    the tests of a sound map and its statements agree: `sound-holds`, `sound-by`
+--     Answers    the first rule that applies decides; what an answer means
 pub mod Sound
+pub mod Answers

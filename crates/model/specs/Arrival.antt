@@ -1,5 +1,5 @@
 -- The arrival of a point, in the order of this page: how links are cut and made; the left and the
--- right corner; the map after each arrival; `offer`, with its refusals.
+-- right corner; the map after each arrival; the refusals of a sound map. Offers to any map are specs/Offers.
 -- Document 01, "Orientation and arrival". Assumes nothing.
 use mathlib.Core.Bool.{Bool, true, not, cond, _&&_}
 use mathlib.Core.List.{List, [], _∷_}
@@ -17,7 +17,6 @@ use Rattle.model.specs.Refusals.{Rule, _when_, unless}
 use Rattle.model.specs.Plane.{in-range, same-point, in-line}
 use Rattle.model.specs.Maps.{point-limit, own, helper, point}
 use Rattle.model.specs.Outline.{previous-corner, outline, sees, visible-edges}
-use Rattle.model.specs.Reading.{unsound}
 
 -- the edge links with d's partner fixed, and with a and b each other's partner
 unfoldable pub cut : ℕ → List ℕ → List ℕ
@@ -94,16 +93,19 @@ is-repeated m p = any (m .count) (λ k. same-point (point m k) p)
 unfoldable pub is-in-line : Map → Point → Bool
 is-in-line m p = any (m .count) (λ j. any j (λ i. in-line (point m i) (point m j) p))
 
--- why an offered point is refused
-abbrev pub offer-rules : Map → Point → List Rule
-offer-rules m p =
-    unsound m
-    ∷ (Refusal.Full when leb point-limit (m .count))
+-- why a sound map refuses a point
+abbrev pub admission-rules : Map → Point → List Rule
+admission-rules m p =
+    (Refusal.Full when leb point-limit (m .count))
     ∷ (Refusal.OutOfRange when not (in-range p))
     ∷ (Refusal.Repeated when is-repeated m p)
     ∷ (Refusal.InLine when is-in-line m p)
     ∷ []
 
--- an offered point: the map after it and its arrival, or the map as it was and the refusal
-unfoldable pub offer : Map → Point → Offered
-offer m p = unless (λ r. arrived (Arrival.Refused r) m) (offer-rules m p) (arrive m p)
+-- the map as it was, and the refusal
+abbrev pub refusing : Map → Refusal → Offered
+refusing m r = arrived (Arrival.Refused r) m
+
+-- a point offered to a sound map: the map after it and its arrival, or the map as it was and the refusal
+unfoldable pub admitted : Map → Point → Offered
+admitted m p = unless (refusing m) (admission-rules m p) (arrive m p)

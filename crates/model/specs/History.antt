@@ -21,7 +21,7 @@ use Rattle.model.specs.Plane.{left-of}
 use Rattle.model.specs.Maps.{own, point, is-present, edge-link, point-link, dart-bound, empty-map}
 use Rattle.model.specs.Outline.{next-corner, outline, visible-edges}
 use Rattle.model.specs.Reading.{darts, number-of}
-use Rattle.model.specs.Arrival.{offer}
+use Rattle.model.specs.Offers.{offer}
 
 -- an accepted offer: the map before it, the point and the answer
 pub record Entry : Type 0 where

@@ -1,34 +1,38 @@
 -- What a reader must believe: the definitions of document 01, one topic a file, each under the sentence
 -- that it renders. Nothing is assumed.
 --     Spelling     words and whole numbers in bytes
---     Refusals     the numbers, and the lowest that applies
+--     Refusals     the numbers, and the first rule that applies
+--     Answers      number, word and values of each answer; calls, and what entries promise
 --     Plane        coordinates, orientation and its three cases
 --     Maps         darts, points, links, the empty map
 --     Outline      the outline, what is visible of it, the corners in listing order
 --     Sound        a sound map: tests, and the same as statements
 --     Reading      orbits, counts, walks, the walker
---     Answers      number, word and values of each answer
---     Arrival      an offered point and the map after it
+--     Arrival      a point offered to a sound map, and the map after it
+--     Offers       a point offered to any map
 --     History      a list of offers; demand 3 as one record
 --     Placing      where a query point lies
 --     Lent         results written into a lent list
 --     Saved        the file
 --     Text         numbers and lines of a survey text
 --     Report       the report on a survey text
+--     Orders       the order in which each call looks at its rules
 --     Questions    the starred questions, one list with one check
 pub mod Spelling
 pub mod Refusals
+pub mod Answers
 pub mod Plane
 pub mod Maps
 pub mod Outline
 pub mod Sound
 pub mod Reading
-pub mod Answers
 pub mod Arrival
+pub mod Offers
 pub mod History
 pub mod Placing
 pub mod Lent
 pub mod Saved
 pub mod Text
 pub mod Report
+pub mod Orders
 pub mod Questions

@@ -14,6 +14,7 @@ use Rattle.model.specs.declared.Point.{Point}
 use Rattle.model.specs.declared.Map.{Map}
 use Rattle.model.specs.declared.Placed.{Placed}
 use Rattle.model.specs.Refusals.{_when_, unless}
+use Rattle.model.specs.Answers.{Call, answer-of, placed-answer}
 use Rattle.model.specs.Plane.{in-range, same-point, left-of, visible-from, strictly-between}
 use Rattle.model.specs.Maps.{point}
 use Rattle.model.specs.Outline.{next-corner, corners}
@@ -46,8 +47,14 @@ place-among m p =
     (cond (any-in (is-on-edge m p) (corners m)) (Placed.Edge start (next-corner m start))
     (cond (all-in (is-left-of-edge m p) (corners m)) Placed.Inside (Placed.Outside (strictly-visible m p))))
 
+abbrev pub place-call : Map → Point → Call Placed
+place-call m p =
+    record {
+      meaning = placed-answer;
+      refuse = Placed.Refused;
+      rules = unsound m ∷ (Refusal.OutOfRange when not (in-range p)) ∷ [];
+      value = cond (ltb (m .count) 2) Placed.NoOutline (place-among m p);
+    }
+
 unfoldable pub place : Map → Point → Placed
-place m p =
-    unless Placed.Refused
-    (unsound m ∷ (Refusal.OutOfRange when not (in-range p)) ∷ [])
-    (cond (ltb (m .count) 2) Placed.NoOutline (place-among m p))
+place m p = answer-of (place-call m p)

@@ -13,6 +13,7 @@ use Rattle.model.specs.declared.Refusal.{Refusal}
 use Rattle.model.specs.declared.Point.{Point}
 use Rattle.model.specs.declared.Oriented.{Oriented}
 use Rattle.model.specs.Refusals.{_when_, unless}
+use Rattle.model.specs.Answers.{Call, answer-of, oriented-answer}
 
 -- "from -1,000,000 to 1,000,000"
 abbrev pub coordinate-limit : ℕ
@@ -56,11 +57,17 @@ unfoldable pub in-line : Point → Point → Point → Bool
 in-line a b c = not (left-of a b c) && not (visible-from a b c)
 
 -- the orientation of three points, or number 3
+abbrev pub orientation-call : Point → Point → Point → Call Oriented
+orientation-call a b c =
+    record {
+      meaning = oriented-answer;
+      refuse = Oriented.Refused;
+      rules = (Refusal.OutOfRange when not (in-range a && in-range b && in-range c)) ∷ [];
+      value = Oriented.Value (orientation a b c);
+    }
+
 unfoldable pub oriented : Point → Point → Point → Oriented
-oriented a b c =
-    unless Oriented.Refused
-    ((Refusal.OutOfRange when not (in-range a && in-range b && in-range c)) ∷ [])
-    (Oriented.Value (orientation a b c))
+oriented a b c = answer-of (orientation-call a b c)
 
 -- p lies in line with a and b and strictly between them: a and b lie on opposite sides of p
 unfoldable pub strictly-between : Point → Point → Point → Bool

@@ -17,13 +17,14 @@ use Rattle.model.specs.declared.Map.{Map}
 use Rattle.model.specs.declared.Kind.{Kind}
 use Rattle.model.specs.Spelling.{bytes, decimal, spelt}
 use Rattle.model.specs.Refusals.{number, unless}
-use Rattle.model.specs.Plane.{at, coordinate-limit, coordinate-in-range, in-range, same-point, orientation, left-of, visible-from, in-line, oriented, strictly-between, lower}
+use Rattle.model.specs.Plane.{at, coordinate-in-range, in-range, same-point, orientation, left-of, visible-from, in-line, oriented, strictly-between, lower}
 use Rattle.model.specs.Maps.{other-dart, point, has-helper, is-present, edge-link, point-link, face-link, empty-map}
 use Rattle.model.specs.Outline.{next-corner, previous-corner, corners-from, outline, sees, visible-edges, lowest-corner, corners}
 use Rattle.model.specs.Sound.{arrays-whole, count-fits, points-in-range, points-differ, places-vacant, helpers-owned, absent-fixed, links-undo, edges-cross, lone-fixed, one-outline, reference-on-outline, others-left, no-outline, sound}
 use Rattle.model.specs.Reading.{links-of, number-of, darts, counts, counted, orbit-of, walked}
 use Rattle.model.specs.Answers.{oriented-answer, arrival-answer, counted-answer, walked-answer}
-use Rattle.model.specs.Arrival.{cut, join, left-corner, right-corner, with-point, alone, pair, spliced, later-point, arrive, is-repeated, is-in-line, offer}
+use Rattle.model.specs.Arrival.{cut, join, left-corner, right-corner, with-point, alone, pair, spliced, later-point, arrive, is-repeated, is-in-line}
+use Rattle.model.specs.Offers.{offer}
 use Rattle.model.specs.History.{is-accepted, extended, run-from, run}
 use Rattle.model.specs.Saved.{big-endian, complement, saved}
 use Rattle.model.specs.Text.{is-digit, has-minus, digits, value-after, magnitude, is-number, number-value, line-read, in-first-line, lines}
@@ -64,7 +65,7 @@ counts-of : Map → List ℕ
 counts-of m = printed (counted-answer (counted m))
 
 far : ℤ
-far = pos coordinate-limit
+far = pos 1_000_000
 
 -- "(* marked)", in the document's order
 pub questions : List Question

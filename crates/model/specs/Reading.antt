@@ -1,5 +1,5 @@
 -- Reading a map, in the order of this page: the links that lead to each kind of orbit; the counts;
--- the orbit of a dart; the walk from a dart; a walker.
+-- the orbit of a dart; the walk from a dart; a walker. Each call with its rules and its value.
 -- Document 01, "Reading a map". Parts are the field's connected components. Assumes nothing.
 use mathlib.Core.Bool.{not}
 use mathlib.Core.List.{List, [], _∷_}
@@ -8,7 +8,7 @@ use Rattle.finite.specs.Bounded.{count}
 use Rattle.orbits.specs.declared.DartSet.{DartSet}
 use Rattle.orbits.specs.Reach.{by-one, by-two, reaches}
 use Rattle.orbits.specs.Classes.{classes}
-use Rattle.orbits.specs.Walks.{walk}
+use Rattle.orbits.specs.Walks.{walk, walker-at}
 use Rattle.orbits.specs.Sets.{set-of, no-darts}
 use Rattle.model.specs.declared.Refusal.{Refusal}
 use Rattle.model.specs.declared.Map.{Map}
@@ -20,6 +20,7 @@ use Rattle.model.specs.declared.Counted.{Counted}
 use Rattle.model.specs.declared.Walked.{Walked}
 use Rattle.model.specs.declared.Moved.{Moved}
 use Rattle.model.specs.Refusals.{Rule, _when_, unless}
+use Rattle.model.specs.Answers.{Call, answer-of, orbit-answer, counted-answer, walked-answer, moved-answer}
 use Rattle.model.specs.Maps.{is-present, edge-link, point-link, face-link, dart-bound}
 use Rattle.model.specs.Sound.{sound}
 
@@ -56,27 +57,56 @@ unsound m = Refusal.NotSound when not (sound m)
 abbrev pub absent : Map → ℕ → Rule
 absent m d = Refusal.NoDart when not (is-present m d)
 
+abbrev pub counts-call : Map → Call Counted
+counts-call m =
+    record {
+      meaning = counted-answer;
+      refuse = Counted.Refused;
+      rules = unsound m ∷ [];
+      value = Counted.Numbers (counts m);
+    }
+
 unfoldable pub counted : Map → Counted
-counted m = unless Counted.Refused (unsound m ∷ []) (Counted.Numbers (counts m))
+counted m = answer-of (counts-call m)
 
 -- the darts of an orbit as a set
 abbrev pub orbit-set : Map → Kind → ℕ → DartSet
 orbit-set m kind d = set-of (reaches (links-of m kind) (dart-bound m) d)
 
+abbrev pub orbit-call : Map → Kind → ℕ → Call Orbit
+orbit-call m kind d =
+    record {
+      meaning = orbit-answer;
+      refuse = λ r. record { outcome = Outcome.Refused r; darts = no-darts };
+      rules = unsound m ∷ absent m d ∷ [];
+      value = record { outcome = Outcome.Served; darts = orbit-set m kind d };
+    }
+
 unfoldable pub orbit-of : Map → Kind → ℕ → Orbit
-orbit-of m kind d =
-    unless
-    (λ r. record { outcome = Outcome.Refused r; darts = no-darts })
-    (unsound m ∷ absent m d ∷ [])
-    (record { outcome = Outcome.Served; darts = orbit-set m kind d })
+orbit-of m kind d = answer-of (orbit-call m kind d)
+
+abbrev pub walk-call : Map → ℕ → Call Walked
+walk-call m d =
+    record {
+      meaning = walked-answer;
+      refuse = Walked.Refused;
+      rules = unsound m ∷ absent m d ∷ [];
+      value = Walked.Ended (walk (edge-link m) (point-link m) (darts m) d);
+    }
 
 unfoldable pub walked : Map → ℕ → Walked
-walked m d =
-    unless Walked.Refused
-    (unsound m ∷ absent m d ∷ [])
-    (Walked.Ended (walk (edge-link m) (point-link m) (darts m) d))
+walked m d = answer-of (walk-call m d)
 
 -- "A walker can be moved by one link and shows the dart it has reached." A walker starts at a dart
 -- (f the identity) or is moved by a link; one that stands at an absent dart is refused.
+abbrev pub walker-call : (ℕ → ℕ) → Map → ℕ → Call Moved
+walker-call f m d =
+    record {
+      meaning = moved-answer;
+      refuse = Moved.Refused;
+      rules = unsound m ∷ absent m d ∷ [];
+      value = Moved.At (walker-at (f d));
+    }
+
 unfoldable pub moved : (ℕ → ℕ) → Map → ℕ → Moved
-moved f m d = unless Moved.Refused (unsound m ∷ absent m d ∷ []) (Moved.At (record { dart = f d }))
+moved f m d = answer-of (walker-call f m d)

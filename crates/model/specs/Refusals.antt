@@ -1,9 +1,12 @@
 -- Refusals, in the order of this page: the number of each; a rule, which is a refusal and when it
--- applies; the answer by the lowest number that applies.
+-- applies; the answer by the first rule that applies; the same as statements: which refusal is the first
+-- that applies, and that none does.
 -- Document 01, "The number on the returned sheet". Assumes nothing.
+use mathlib.Core.Path.{_≡_}
 use mathlib.Core.Bool.{Bool, cond}
 use mathlib.Core.List.{List, [], _∷_}
 use Prim.Native.Nat.{ℕ}
+use lib.Dec.{T}
 use Rattle.model.specs.declared.Refusal.{Refusal}
 
 -- the number of each refusal, as the table has it
@@ -29,9 +32,19 @@ abbrev pub _when_ : Refusal → Bool → Rule
 r when b = record { refusal = r; applies = b }
 
 -- "The lowest number that applies is given. A call is refused under these conditions only." The
--- rules stand in the order of their numbers (loading: 7 before 1), `refuse` makes the answer of a
+-- rules stand in the order that the documents give (specs/Orders), `refuse` makes the answer of a
 -- refusal, and where no rule applies the answer is `served`.
 unfoldable pub unless {ℓ} : {A : Type ℓ} → (Refusal → A) → List Rule → A → A
 unless refuse [] served = served
 unless refuse (rule ∷ rules) served =
     let later = unless refuse rules served in cond (rule .applies) (refuse (rule .refusal)) later
+
+-- r is the refusal of the first rule that applies
+pub data Refuses (r : Refusal) : List Rule → Type 0 where
+  at-once : {rule : Rule} {rules : List Rule} → T (rule .applies) → rule .refusal ≡ r → Refuses r (rule ∷ rules)
+  later : {rule : Rule} {rules : List Rule} → ¬ T (rule .applies) → Refuses r rules → Refuses r (rule ∷ rules)
+
+-- no rule applies
+pub data NoneApplies : List Rule → Type 0 where
+  none : NoneApplies []
+  nor : {rule : Rule} {rules : List Rule} → ¬ T (rule .applies) → NoneApplies rules → NoneApplies (rule ∷ rules)

@@ -17,12 +17,13 @@ use Rattle.model.specs.declared.Offered.{Offered}
 use Rattle.model.specs.declared.Counted.{Counted}
 use Rattle.model.specs.declared.Written.{Written}
 use Rattle.model.specs.Spelling.{bytes, line-feed, space, spelt}
-use Rattle.model.specs.Refusals.{_when_}
+use Rattle.model.specs.Refusals.{Rule, _when_}
 use Rattle.model.specs.Answers.{Answer, served, refused, arrival-answer, counted-answer}
 use Rattle.model.specs.Maps.{empty-map}
 use Rattle.model.specs.Outline.{corners}
 use Rattle.model.specs.Reading.{counts}
-use Rattle.model.specs.Arrival.{arrived, offer}
+use Rattle.model.specs.Arrival.{arrived}
+use Rattle.model.specs.Offers.{offer}
 use Rattle.model.specs.Text.{line-read, lines}
 use Rattle.model.specs.Lent.{written}
 
@@ -65,5 +66,8 @@ report text =
     ++ cond (ltb text-limit (length text)) (printed (refused Refusal.LongText)) lines-reported
 
 -- the report written into a lent list: number 9 writes nothing there
+abbrev pub report-rules : List ℕ → List Rule
+report-rules text = (Refusal.LongText when ltb text-limit (length text)) ∷ []
+
 unfoldable pub reporting : List ℕ → List ℕ → Written
-reporting text = written ((Refusal.LongText when ltb text-limit (length text)) ∷ []) (report text)
+reporting text lent = written (report-rules text) (report text) lent

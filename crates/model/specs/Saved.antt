@@ -18,8 +18,8 @@ use Rattle.model.specs.declared.Outcome.{Outcome}
 use Rattle.model.specs.declared.Loaded.{Loaded}
 use Rattle.model.specs.declared.Written.{Written}
 use Rattle.model.specs.Refusals.{_when_, unless}
+use Rattle.model.specs.Answers.{Call, answer-of, outcome-answer}
 use Rattle.model.specs.Maps.{point-limit, own, point, has-helper, edge-link, empty-map}
-use Rattle.model.specs.Sound.{sound}
 use Rattle.model.specs.Reading.{unsound}
 use Rattle.model.specs.Lent.{written}
 
@@ -97,15 +97,19 @@ map-in s =
     }
 
 -- "loading looks at 7 before 1"
+abbrev pub load-call : List ℕ → Call Loaded
+load-call s =
+    record {
+      meaning = λ l. outcome-answer (l .outcome);
+      refuse = λ r. record { outcome = Outcome.Refused r; map = empty-map };
+      rules = (Refusal.BadFile when not (file-in-form s)) ∷ unsound (map-in s) ∷ [];
+      value = record { outcome = Outcome.Served; map = map-in s };
+    }
+
 unfoldable pub loaded : List ℕ → Loaded
 loaded s =
-    unless
-    (λ r. record { outcome = Outcome.Refused r; map = empty-map })
-    ((Refusal.BadFile when not (file-in-form s))
-    ∷ (Refusal.NotSound when not (sound (map-in s)))
-    ∷ [])
-    (record { outcome = Outcome.Served; map = map-in s })
+    answer-of (load-call s)
 
 -- saving into a lent list
 unfoldable pub saving : Map → List ℕ → Written
-saving m = written (unsound m ∷ []) (saved m)
+saving m lent = written (unsound m ∷ []) (saved m) lent

@@ -11,6 +11,7 @@ use Rattle.finite.specs.Lists.{all-in, before, beyond}
 use Rattle.model.specs.declared.Refusal.{Refusal}
 use Rattle.model.specs.declared.Line.{Line}
 use Rattle.model.specs.Refusals.{_when_, unless}
+use Rattle.model.specs.Answers.{Call, answer-of, line-answer}
 use Rattle.model.specs.Spelling.{line-feed, space, minus, digit-zero}
 
 -- "an optional minus and 1 to 7 digits"
@@ -47,13 +48,19 @@ unfoldable pub number-value : List ℕ → ℤ
 number-value s = cond (has-minus s) (negℤ (pos (magnitude s))) (pos (magnitude s))
 
 -- "A line is two numbers with one space between": the point that it names, or number 8
-unfoldable pub line-read : List ℕ → Line
-line-read s =
+abbrev pub line-call : List ℕ → Call Line
+line-call s =
     let first = before space s in
     let second = beyond space s in
-    unless Line.Refused
-    ((Refusal.BadLine when not (is-number first && is-number second)) ∷ [])
-    (Line.Named (record { x = number-value first; y = number-value second }))
+    record {
+      meaning = line-answer;
+      refuse = Line.Refused;
+      rules = (Refusal.BadLine when not (is-number first && is-number second)) ∷ [];
+      value = Line.Named (record { x = number-value first; y = number-value second });
+    }
+
+unfoldable pub line-read : List ℕ → Line
+line-read s = answer-of (line-call s)
 
 -- the lines with b before the first of them
 unfoldable pub in-first-line : ℕ → List (List ℕ) → List (List ℕ)

@@ -1,0 +1,69 @@
+-- The laws of calls, in the order of this page: the first rule that applies decides; what is made of an
+-- answer is made of each refusal and of the value, so an entry whose answer is that of the call means what
+-- it promises to mean. Assumes nothing.
+use mathlib.Core.Path.{_≡_, refl, ap, subst, _∙_}
+use mathlib.Core.Bool.{Bool, true, false, cond}
+use mathlib.Core.List.{List, [], _∷_}
+use lib.Dec.{T}
+use Rattle.finite.specs.Tests.{of-true}
+use Rattle.model.specs.declared.Refusal.{Refusal}
+use Rattle.model.specs.Refusals.{Rule, unless, Refuses, at-once, later, NoneApplies, none, nor}
+use Rattle.model.specs.Answers.{Answer, refused, Call, answer-of, Answered}
+
+-- ---- one rule after another
+
+module _ {A : Type 0} (refuse : Refusal → A) (rule : Rule) (rules : List Rule) (a : A) where
+  pub rule-applies : rule .applies ≡ true → refuse (rule .refusal) ≡ unless refuse (rule ∷ rules) a
+  unfolding unless
+  rule-applies e = rw e
+
+  pub rule-passes : {x : A} → rule .applies ≡ false → x ≡ unless refuse rules a → x ≡ unless refuse (rule ∷ rules) a
+  unfolding unless
+  rule-passes e f = rw e f
+
+pub no-rule : {A : Type 0} (refuse : Refusal → A) (a : A) → a ≡ unless refuse [] a
+unfolding unless
+no-rule refuse a = refl
+
+-- what a list of rules comes to: the refusal of the first that applies, or the value, where none does
+pub data RulesDecide {A : Type 0} (refuse : Refusal → A) (rules : List Rule) (a : A) : A → Type 0 where
+  refuses : (r : Refusal) → Refuses r rules → RulesDecide refuse rules a (refuse r)
+  serves : NoneApplies rules → RulesDecide refuse rules a a
+
+pub unless-decides : {A : Type 0} (refuse : Refusal → A) (rules : List Rule) (a : A) →
+    RulesDecide refuse rules a (unless refuse rules a)
+unfolding unless
+unless-decides refuse [] a = serves none
+unless-decides {A} refuse (rule ∷ rules) a = go (rule .applies) refl (unless-decides refuse rules a)
+  where
+    further : ¬ T (rule .applies) → (x : A) → RulesDecide refuse rules a x → RulesDecide refuse (rule ∷ rules) a x
+    further n x (refuses r f) = refuses r (later n f)
+    further n x (serves f) = serves (nor n f)
+
+    go : (t : Bool) → rule .applies ≡ t → RulesDecide refuse rules a (unless refuse rules a) →
+        RulesDecide refuse (rule ∷ rules) a (cond t (refuse (rule .refusal)) (unless refuse rules a))
+    go true e rest = refuses (rule .refusal) (at-once (of-true (rule .applies) e) refl)
+    go false e rest = further (λ t. subst T e t) (unless refuse rules a) rest
+
+-- ---- what answers mean
+
+choice-made : {A B : Type 0} (f : A → B) (t : Bool) (x y : A) → f (cond t x y) ≡ cond t (f x) (f y)
+choice-made f true x y = refl
+choice-made f false x y = refl
+
+pub unless-made : {A B : Type 0} (f : A → B) (refuse : Refusal → A) (refuse′ : Refusal → B) →
+    ((r : Refusal) → f (refuse r) ≡ refuse′ r) → (rules : List Rule) (a : A) →
+    f (unless refuse rules a) ≡ unless refuse′ rules (f a)
+unfolding unless
+unless-made f refuse refuse′ same [] a = refl
+unless-made f refuse refuse′ same (rule ∷ rules) a =
+    choice-made f (rule .applies) (refuse (rule .refusal)) (unless refuse rules a)
+    ∙ (λ i. cond (rule .applies) (same (rule .refusal) i) (unless-made f refuse refuse′ same rules a i))
+
+pub answered : {A : Type 0} (c : Call A) {r : A} → ((x : Refusal) → c .meaning (c .refuse x) ≡ refused x) →
+    r ≡ answer-of c → Answered c r
+answered c same e =
+    record {
+      equal = e;
+      means = ap (c .meaning) e ∙ unless-made (c .meaning) (c .refuse) refused same (c .rules) (c .value);
+    }

@@ -15,11 +15,12 @@ use Rattle.finite.specs.ListLaws.{count-in-zero, count-in-some}
 use Rattle.model.specs.declared.Point.{Point}
 use Rattle.model.specs.declared.Map.{Map}
 use Rattle.model.specs.declared.Offered.{Offered}
-use Rattle.model.specs.Plane.{left-of}
+use Rattle.model.specs.Plane.{beside}
 use Rattle.model.specs.Maps.{point}
 use Rattle.model.specs.Outline.{next-corner, previous-corner, outline, sees, visible-edges}
 use Rattle.model.specs.Sound.{Sound}
-use Rattle.model.specs.Arrival.{left-corner, right-corner, spliced, arrive, offer}
+use Rattle.model.specs.Arrival.{left-corner, right-corner, spliced, arrive}
+use Rattle.model.specs.Offers.{offer}
 use Rattle.plane.proofs.Convex.{Convex}
 use Rattle.plane.proofs.Corners.{LeftCorner, RightCorner, left-corner-seen, right-corner-seen, left-corner-first, right-corner-first, left-tangent, right-tangent, hidden-edge}
 use Rattle.plane.proofs.Split.{Split, remaining, visible-split, split-member, split-balance}
@@ -33,6 +34,7 @@ use Rattle.hull.proofs.Outcomes.{Accepted, Decided, accepted, refused, 
 -- the outline of a sound map is a convex outline of its points
 pub sound-convex : {m : Map} → Sound m → 2 ≤ m .count →
     Convex (m .count) (point m) (next-corner m) (previous-corner m) (outline m)
+unfolding beside
 sound-convex s two =
     record {
       all-distinct = outline-circuit s two .all-distinct;
@@ -48,10 +50,10 @@ module _ {m : Map} {p : Point} (a : Accepted m p) (two : 2 ≤ m .count) where
 
   -- ---- a point that sees no edge
 
-  pub inside-left : visible-edges m p ≡ 0 → (c : ℕ) → T (elem c (outline m)) →
-      T (left-of (point m c) (point m (next-corner m c)) p)
-  unfolding visible-edges sees
-  inside-left none c on = hidden-edge shape p (a .general) c on (count-in-zero (sees m p) (outline m) none c on)
+  pub inside-beside : visible-edges m p ≡ 0 → (c : ℕ) → T (elem c (outline m)) →
+      T (beside (point m c) (point m (next-corner m c)) p)
+  unfolding visible-edges sees beside
+  inside-beside none c on = hidden-edge shape p (a .general) c on (count-in-zero (sees m p) (outline m) none c on)
 
   -- ---- a point that sees some edge
 
@@ -98,7 +100,7 @@ module _ {m : Map} {p : Point} (a : Accepted m p) (two : 2 ≤ m .count) where
         (elem-append-left c (right-corner m p ∷ split-is .middle) (left-corner m p ∷ []) h))
 
     pub outside-sound : Sound (spliced m p (left-corner m p) (right-corner m p))
-    unfolding sees
+    unfolding sees beside
     outside-sound =
         let l = left-corner m p in
         let r = right-corner m p in
@@ -115,7 +117,7 @@ arrival-sound m p a o (first e) =
     alone-sound p (a .is-sound) (a .room) (λ one. omega arith) (a .ranged) (a .fresh) (λ two. absurd (omega arith))
 arrival-sound m p a o (second e) = pair-sound p (a .is-sound) e (a .ranged) (a .fresh)
 arrival-sound m p a o (inside two none) =
-    alone-sound p (a .is-sound) (a .room) (λ one. omega arith) (a .ranged) (a .fresh) (λ two. inside-left a two none)
+    alone-sound p (a .is-sound) (a .room) (λ one. omega arith) (a .ranged) (a .fresh) (λ two. inside-beside a two none)
 arrival-sound m p a o (outside two some) = outside-sound a two some
 
 -- ---- every offer: an accepted one gives a sound map, and a refused one gives the same map
@@ -125,4 +127,4 @@ offer-sound m p s = decided-sound (offer m p) (offer-decided m p)
   where
     decided-sound : (o : Offered) → Decided m p o → Sound (o .map)
     decided-sound o (accepted a) = arrival-sound m p a (arrive m p) (arrive-arrives m p)
-    decided-sound o (refused r) = s
+    decided-sound o (refused r first-rule) = s

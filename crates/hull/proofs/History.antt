@@ -19,7 +19,8 @@ use Rattle.model.specs.declared.Offered.{Offered}
 use Rattle.model.specs.Maps.{point, empty-map}
 use Rattle.model.specs.Outline.{outline, sees, visible-edges}
 use Rattle.model.specs.Sound.{Sound}
-use Rattle.model.specs.Arrival.{with-point, alone, pair, spliced, arrive, offer}
+use Rattle.model.specs.Arrival.{with-point, alone, pair, spliced, arrive}
+use Rattle.model.specs.Offers.{offer}
 use Rattle.model.specs.History.{Entry, Run, is-accepted, extended, run-from, run, offered-point, reported, reported-edges, edges-seen, is-outside, outside-arrivals, Balanced}
 use Rattle.maps.proofs.Darts.{point-twice}
 use Rattle.maps.proofs.Links.{counts-balance}
@@ -29,7 +30,7 @@ use Rattle.maps.proofs.Empty.{empty-sound}
 use Rattle.maps.proofs.Alone.{alone-outline}
 use Rattle.maps.proofs.Pair.{pair-outline}
 use Rattle.hull.proofs.Outcomes.{Accepted, Decided, accepted, refused, Arrives, first, second, inside, outside, arrive-arrives, arrival-accepted, offer-decided}
-use Rattle.hull.proofs.Arrivals.{arrival-sound, outside-balance}
+use Rattle.hull.proofs.Arrivals.{sound-convex, arrival-sound, outside-balance}
 
 -- what the visible edges reported come to
 abbrev seen-in-all : List Entry → ℕ
@@ -211,7 +212,7 @@ invariant-arrival r k p a o arrives =
 invariant-offer : (r : Run) → Invariant r → (p : Point) (o : Offered) → Decided (r .map) p o → Invariant (after-offer r p o)
 unfolding is-accepted
 invariant-offer r k p o (accepted a) = invariant-arrival r k p a (arrive (r .map) p) (arrive-arrives (r .map) p)
-invariant-offer r k p o (refused refusal) = k
+invariant-offer r k p o (refused refusal first-rule) = k
 
 invariant-extended : (r : Run) → Invariant r → (p : Point) → Invariant (extended r p)
 unfolding extended
@@ -255,7 +256,7 @@ invariant-balanced r k =
           λ a c on.
           ⊎-elim
           (λ (few : r .map .count < 2). absurd (subst (λ (t : List ℕ). T (elem a t)) (few-outline (r .map) few) on))
-          (λ (two : 2 ≤ r .map .count). s .outlined two .left a c on)
+          (λ (two : 2 ≤ r .map .count). sound-convex s two .left a c on)
           (lt-or-ge (r .map .count) 2);
       reports-right = k .reports;
       arrivals-balance = k .balance;

@@ -25,7 +25,7 @@ use Rattle.finite.specs.Rotations.{FirstPassing, first-passing, none-passes}
 use Rattle.model.specs.declared.Point.{Point}
 use Rattle.model.specs.declared.Map.{Map}
 use Rattle.model.specs.declared.Placed.{Placed}
-use Rattle.model.specs.Plane.{at, same-point, orientation, left-of, in-line, strictly-between}
+use Rattle.model.specs.Plane.{at, same-point, orientation, left-of, in-line, sees-edge, strictly-between}
 use Rattle.model.specs.Maps.{point}
 use Rattle.model.specs.Outline.{next-corner, outline, sees, visible-edges, corners}
 use Rattle.model.specs.Sound.{Sound}
@@ -118,7 +118,7 @@ module _ {m : Map} (s : Sound m) (two : 2 ≤ m .count) (p : Point) where
       ∙ ap (count-in (strictly-sees m p)) (r .2)
 
   pub strictly-visible-is : strictly-visible m p ≡ visible-edges m p
-  unfolding visible-edges sees
+  unfolding visible-edges sees sees-edge
   strictly-visible-is = strictly-visible-outline
 
   no-corner : T (not (any-in (is-at m p) (corners m))) → NoCorner m p

@@ -12,7 +12,8 @@ use Rattle.model.specs.declared.Map.{Map}
 use Rattle.model.specs.Maps.{point}
 use Rattle.model.specs.Outline.{next-corner, previous-corner, outline, sees, visible-edges}
 use Rattle.model.specs.Sound.{sound, Sound}
-use Rattle.model.specs.Arrival.{left-corner, right-corner, spliced, offer}
+use Rattle.model.specs.Arrival.{left-corner, right-corner, spliced}
+use Rattle.model.specs.Offers.{offer}
 use Rattle.model.proofs.Sound.{sound-holds, sound-by}
 use Rattle.plane.proofs.Convex.{some-hidden}
 use Rattle.plane.proofs.Corners.{LeftCorner, RightCorner, left-corner-unique, right-corner-unique}

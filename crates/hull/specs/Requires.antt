@@ -10,7 +10,7 @@ use Rattle.finite.specs.Bounded.{any}
 use Rattle.orbits.specs.Sets.{dart-limit}
 use Rattle.model.specs.declared.Point.{Point}
 use Rattle.model.specs.declared.Map.{Map}
-use Rattle.model.specs.Plane.{in-range, in-line, visible-from}
+use Rattle.model.specs.Plane.{in-range, in-line, sees-edge}
 use Rattle.model.specs.Maps.{point-limit, edge-link}
 use Rattle.model.specs.Sound.{Sound}
 use Rattle.model.specs.Maps.{point-at}
@@ -22,7 +22,7 @@ pub record Ranged (xs ys : List ℤ) (p : Point) : Type 0 where
 
 -- the edge from point a to point b is visible from p
 abbrev pub visible-at : List ℤ → List ℤ → ℕ → ℕ → Point → Bool
-visible-at xs ys a b p = visible-from (point-at xs ys a) (point-at xs ys b) p
+visible-at xs ys a b p = sees-edge (point-at xs ys a) (point-at xs ys b) p
 
 -- p is in line with point j and a point before it
 abbrev pub in-line-with : List ℤ → List ℤ → ℕ → Point → Bool

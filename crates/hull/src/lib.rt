@@ -13,7 +13,6 @@ use crate::change::spliced;
 use crate::conditions::is_in_line;
 use crate::conditions::is_repeated;
 use crate::sight::seen_from;
-use maps::is_sound;
 use model::Arrival;
 use model::Map;
 use model::Offered;
@@ -23,27 +22,15 @@ use model::Refusal;
 use plane::in_range;
 ghost use mathlib.Core.Path.{_≡_};
 ghost use Prim.Native.Nat.{_≤_};
-ghost use lib.Dec.{T};
-ghost use Rattle.model.specs.Sound.{sound};
-ghost use Rattle.model.specs.Arrival.{arrive, arrived, later-point, offer};
+ghost use Rattle.model.specs.Sound.{Sound};
+ghost use Rattle.model.specs.Arrival.{admitted, arrive, later-point, refusing};
 ghost use Rattle.hull.specs.Requires.{RoomFor};
 
-// The map after a point is offered to it, and what became of the point. A map that is not sound is
-// refused; where the point is refused, the map is as it was.
-pub fn offer(map: Map, p: Point) -> Offered
-    ensures { λ r. ⌜ r ≡ offer map p ⌝ }
-{
-    if is_sound(map) {
-        offer_to_sound(map, p)
-    } else {
-        refused(map, Refusal::NotSound)
-    }
-}
-
-// An offer to a map that is known to be sound.
-pub fn offer_to_sound(map: Map, p: Point) -> Offered
-    requires { ⌜ T (sound map) ⌝ }
-    ensures { λ r. ⌜ r ≡ offer map p ⌝ }
+// A point offered to a sound map: the map after it and what became of the point. Where the point is
+// refused, the map is as it was.
+pub fn admitted(map: Map, p: Point) -> Offered
+    requires { ⌜ Sound map ⌝ }
+    ensures { λ r. ⌜ r ≡ admitted map p ⌝ }
 {
     let count = map.count;
     if POINT_LIMIT <= count {
@@ -63,7 +50,7 @@ pub fn offer_to_sound(map: Map, p: Point) -> Offered
 
 // The map as it was, and why the point is refused.
 fn refused(map: Map, refusal: Refusal) -> Offered
-    ensures { λ r. ⌜ r ≡ arrived (Arrival.Refused refusal) map ⌝ }
+    ensures { λ r. ⌜ r ≡ refusing map refusal ⌝ }
 {
     Offered {
         map,

@@ -5,7 +5,7 @@ use maps::reading::point_at;
 use maps::reading::previous_corner;
 use model::Map;
 use model::Point;
-use plane::is_visible_from;
+use plane::sees_edge;
 ghost use mathlib.Core.Path.{_≡_};
 ghost use Prim.Native.Nat.{_+_, _<_};
 ghost use Rattle.finite.specs.Bounded.{one-if};
@@ -69,7 +69,7 @@ fn is_visible<'a>(xs: &'a [i64], ys: &'a [i64], a: usize, b: usize, p: Point) ->
     requires { ⌜ Ranged (now xs) (now ys) p ⌝ }
     ensures { λ r. ⌜ r ≡ visible-at (now (xs .entry)) (now (ys .entry)) a b p ⌝ }
 {
-    is_visible_from(point_at(xs, ys, a), point_at(xs, ys, b), p)
+    sees_edge(point_at(xs, ys, a), point_at(xs, ys, b), p)
 }
 
 // The corner sought if it is found; else corner a, where a test that failed before it passes after it.

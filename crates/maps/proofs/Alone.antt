@@ -13,7 +13,7 @@ use Rattle.orbits.specs.Reach.{here}
 use Rattle.orbits.proofs.ClosedWalks.{ClosedPart}
 use Rattle.model.specs.declared.Point.{Point}
 use Rattle.model.specs.declared.Map.{Map}
-use Rattle.model.specs.Plane.{in-range, left-of}
+use Rattle.model.specs.Plane.{in-range, beside}
 use Rattle.model.specs.Maps.{point-limit, own, owner, point, has-helper, is-present, edge-link, point-link}
 use Rattle.model.specs.Outline.{next-corner, outline}
 use Rattle.model.specs.Arrival.{with-point, alone}
@@ -126,8 +126,8 @@ module _ {m : Map} (s : Sound m) (p : Point) where
         (omega arith) refl ∙ sym (b .1)
 
     module _ (room : m .count < point-limit)
-        (new-left : (a : ℕ) → T (elem a (outline m)) → T (left-of (point m a) (point m (next-corner m a)) p)) where
-      -- the new point lies left of each edge by assumption, and the old ones as before
+        (new-left : (a : ℕ) → T (elem a (outline m)) → T (beside (point m a) (point m (next-corner m a)) p)) where
+      -- the new point lies beside each edge by assumption, and the old ones as before
       alone-left : AllLeft (alone m p) (outline m)
       unfolding alone with-point next-corner edge-link
       alone-left a c on h not-start not-end =
@@ -142,7 +142,7 @@ module _ {m : Map} (s : Sound m) (p : Point) where
 
 pub alone-sound : {m : Map} (p : Point) → Sound m → m .count < point-limit → m .count ≢ 1 → T (in-range p) →
     ((k : ℕ) → k < m .count → point m k ≢ p) →
-    (2 ≤ m .count → (a : ℕ) → T (elem a (outline m)) → T (left-of (point m a) (point m (next-corner m a)) p)) →
+    (2 ≤ m .count → (a : ℕ) → T (elem a (outline m)) → T (beside (point m a) (point m (next-corner m a)) p)) →
     Sound (alone m p)
 unfolding alone with-point has-helper
 alone-sound {m} p s room not-one ranged differs left =

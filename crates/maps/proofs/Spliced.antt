@@ -18,7 +18,7 @@ use Rattle.orbits.specs.Sets.{dart-limit}
 use Rattle.orbits.specs.Links.{link-of}
 use Rattle.model.specs.declared.Point.{Point}
 use Rattle.model.specs.declared.Map.{Map}
-use Rattle.model.specs.Plane.{in-range, left-of}
+use Rattle.model.specs.Plane.{in-range, beside}
 use Rattle.model.specs.Maps.{point-limit, own, helper, owner, point, has-helper, is-present, edge-link}
 use Rattle.model.specs.Outline.{next-corner, outline}
 use Rattle.model.specs.Arrival.{cut, join, with-point, spliced}
@@ -253,12 +253,12 @@ module _ {m : Map} (s : Sound m) (two : 2 ≤ m .count) (room : m .count < point
       point-old s room p (set (m .helpers) (m .count) true)
       (join (own (m .count)) (helper r) (left-joined m l r)) (own (m .count)) k (omega arith)
 
-  -- every point lies left of the outline where the new one lies left of the edges that stay, and the old ones
-  -- left of the edge from l to it and of the edge from it to r
+  -- every point lies beside the outline's edges where the new one lies beside those that stay, and
+  -- the old ones beside the edge from l to it and the edge from it to r
   pub spliced-left :
-      ((a : ℕ) → T (elem a (r ∷ between)) → T (left-of (point m a) (point m (next-corner m a)) p)) →
-      ((k : ℕ) → k < m .count → k ≢ l → T (left-of (point m l) p (point m k))) →
-      ((k : ℕ) → k < m .count → k ≢ r → T (left-of p (point m r) (point m k))) →
+      ((a : ℕ) → T (elem a (r ∷ between)) → T (beside (point m a) (point m (next-corner m a)) p)) →
+      ((k : ℕ) → k < m .count → k ≢ l → T (beside (point m l) p (point m k))) →
+      ((k : ℕ) → k < m .count → k ≢ r → T (beside p (point m r) (point m k))) →
       AllLeft (spliced m p l r) (m .count ∷ arc r between l)
   spliced-left stay from-left to-right a k h b not-start not-end =
       ⊎-elim at-new
@@ -269,27 +269,27 @@ module _ {m : Map} (s : Sound m) (two : 2 ≤ m .count) (room : m .count < point
       next : ℕ → ℕ
       next = next-corner (spliced m p l r)
 
-      Left : Type 0
-      Left = T (left-of (point (spliced m p l r) a) (point (spliced m p l r) (next a)) (point (spliced m p l r) k))
+      Beside : Type 0
+      Beside = T (beside (point (spliced m p l r) a) (point (spliced m p l r) (next a)) (point (spliced m p l r) k))
 
       old : k ≢ m .count → k < m .count
       old n = omega (arith, new-count)
 
-      at-new : a ≡ m .count → Left
+      at-new : a ≡ m .count → Beside
       at-new e =
           let to : next a ≡ r = ap next e ∙ spliced-next-new in
           let below = old (λ i. not-start (i ∙ sym e)) in
           rw (to, e, spliced-point-new, spliced-point-old r right-below, spliced-point-old k below)
           (to-right k below (λ i. not-end (i ∙ sym to)))
 
-      at-left : a ≡ l → Left
+      at-left : a ≡ l → Beside
       at-left e =
           let to : next a ≡ m .count = ap next e ∙ spliced-next-left in
           let below = old (λ i. not-end (i ∙ sym to)) in
           rw (to, e, spliced-point-old l left-below, spliced-point-new, spliced-point-old k below)
           (from-left k below (λ i. not-start (i ∙ sym e)))
 
-      at-remaining : T (elem a (r ∷ between)) → Left
+      at-remaining : T (elem a (r ∷ between)) → Beside
       at-remaining i =
           let on =
           circuit-on-outline s two (r ∷ between ++ l ∷ lost) c a (elem-append-left a (r ∷ between) (l ∷ lost) i) in

@@ -15,7 +15,7 @@ use Rattle.orbits.specs.Sets.{has}
 use Rattle.orbits.specs.Links.{link-of}
 use Rattle.model.specs.declared.Point.{Point}
 use Rattle.model.specs.declared.Map.{Map}
-use Rattle.model.specs.Plane.{same-point, left-of}
+use Rattle.model.specs.Plane.{same-point, beside}
 use Rattle.model.specs.Maps.{point-at}
 use Rattle.model.specs.Sound.{count-fits, points-in-range, points-differ, places-vacant}
 use Rattle.model.specs.Sound.{helpers-owned, absent-fixed, links-undo, edges-cross, lone-fixed}
@@ -29,10 +29,10 @@ new-at xs ys n p = all n (λ j. not (same-point (point-at xs ys j) p))
 abbrev pub first-at : List ℤ → List ℤ → ℕ → Bool
 first-at xs ys k = new-at xs ys k (point-at xs ys k)
 
--- point c is an end of the edge from a to b, or lies strictly left of it
+-- point c is an end of the edge from a to b, or lies beside it
 abbrev pub aside-at : List ℤ → List ℤ → ℕ → ℕ → ℕ → Bool
 aside-at xs ys a b c =
-    not (eqb c a) && not (eqb c b) ⇒ left-of (point-at xs ys a) (point-at xs ys b) (point-at xs ys c)
+    not (eqb c a) && not (eqb c b) ⇒ beside (point-at xs ys a) (point-at xs ys b) (point-at xs ys c)
 
 -- dart e is not of the set, or both links move it
 abbrev pub moved-at : DartSet → List ℕ → List ℕ → ℕ → Bool

@@ -13,7 +13,7 @@ use orbits::DartSet;
 use orbits::link_of;
 use orbits::part;
 use orbits::part_counts;
-use plane::is_left_of;
+use plane::is_beside;
 ghost use mathlib.Core.Path.{_≡_};
 ghost use Prim.Native.Nat.{ℕ, _≤_};
 ghost use lib.Dec.{T};
@@ -63,20 +63,20 @@ fn others_left(m: Map) -> bool
     true
 }
 
-// Whether the first n points, but for a and b, are strictly left of the edge from a to b.
+// Whether the first n points, but for a and b, lie beside the edge from a to b.
 fn is_supporting_edge<'a>(xs: &'a [i64], ys: &'a [i64], n: usize, a: usize, b: usize) -> bool
     requires { ⌜ ((k : ℕ) → T (in-range (point-at (now xs) (now ys) k))) ⌝ }
     ensures { λ r. ⌜ r ≡ all n (aside-at (now (xs .entry)) (now (ys .entry)) a b) ⌝ }
 {
     for c in 0..n {
-        if !is_end_or_left(xs, ys, a, b, c) {
+        if !is_end_or_beside(xs, ys, a, b, c) {
             return false;
         }
     }
     true
 }
 
-fn is_end_or_left<'a>(xs: &'a [i64], ys: &'a [i64], a: usize, b: usize, c: usize) -> bool
+fn is_end_or_beside<'a>(xs: &'a [i64], ys: &'a [i64], a: usize, b: usize, c: usize) -> bool
     requires { ⌜ ((k : ℕ) → T (in-range (point-at (now xs) (now ys) k))) ⌝ }
     ensures { λ r. ⌜ r ≡ aside-at (now (xs .entry)) (now (ys .entry)) a b c ⌝ }
 {
@@ -86,7 +86,7 @@ fn is_end_or_left<'a>(xs: &'a [i64], ys: &'a [i64], a: usize, b: usize, c: usize
     if c == b {
         return true;
     }
-    is_left_of(
+    is_beside(
         point_at(xs, ys, a),
         point_at(xs, ys, b),
         point_at(xs, ys, c),

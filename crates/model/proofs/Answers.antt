@@ -1,14 +1,17 @@
--- The laws of calls, in the order of this page: the first rule that applies decides; what is made of an
--- answer is made of each refusal and of the value, so an entry whose answer is that of the call means what
+-- The laws of calls, in the order of this page: the first rule that applies decides; rules that are
+-- checked by a function that answers an outcome; what is made of an answer is made of each refusal and of the value, so an entry whose answer is that of the call means what
 -- it promises to mean. Assumes nothing.
 use mathlib.Core.Path.{_≡_, refl, ap, subst, _∙_}
 use mathlib.Core.Bool.{Bool, true, false, cond}
 use mathlib.Core.List.{List, [], _∷_}
+use Prim.Native.Nat.{ℕ}
+use native.Mathlib.Omega.{arith}
 use lib.Dec.{T}
 use Rattle.finite.specs.Tests.{of-true}
 use Rattle.model.specs.declared.Refusal.{Refusal}
+use Rattle.model.specs.declared.Outcome.{Outcome}
 use Rattle.model.specs.Refusals.{Rule, unless, Refuses, at-once, later, NoneApplies, none, nor}
-use Rattle.model.specs.Answers.{Answer, refused, Call, answer-of, Answered}
+use Rattle.model.specs.Answers.{Answer, refused, Call, answer-of, outcome-by, Answered}
 
 -- ---- one rule after another
 
@@ -44,6 +47,40 @@ unless-decides {A} refuse (rule ∷ rules) a = go (rule .applies) refl (unless-d
         RulesDecide refuse (rule ∷ rules) a (cond t (refuse (rule .refusal)) (unless refuse rules a))
     go true e rest = refuses (rule .refusal) (at-once (of-true (rule .applies) e) refl)
     go false e rest = further (λ t. subst T e t) (unless refuse rules a) rest
+
+-- ---- rules that are checked first, by a function that answers an outcome
+
+module _ {A : Type 0} (f : Refusal → A) (a : A) where
+  pub outcome-refuses : (rules : List Rule) (r : Refusal) → Outcome.Refused r ≡ outcome-by rules → f r ≡ unless f rules a
+  unfolding unless
+  outcome-refuses [] r e = absurd (let z : _≡_ {A = ℕ} 0 1 = cc in omega arith)
+  outcome-refuses (rule ∷ rules) r e = go (rule .applies) e (outcome-refuses rules r)
+    where
+      go : (t : Bool) → Outcome.Refused r ≡ cond t (Outcome.Refused (rule .refusal)) (outcome-by rules) →
+          (Outcome.Refused r ≡ outcome-by rules → f r ≡ unless f rules a) →
+          f r ≡ cond t (f (rule .refusal)) (unless f rules a)
+      go true e rest = cc
+      go false e rest = rest e
+
+  pub outcome-serves : (rules : List Rule) → Outcome.Served ≡ outcome-by rules → a ≡ unless f rules a
+  unfolding unless
+  outcome-serves [] e = refl
+  outcome-serves (rule ∷ rules) e = go (rule .applies) e (outcome-serves rules)
+    where
+      go : (t : Bool) → Outcome.Served ≡ cond t (Outcome.Refused (rule .refusal)) (outcome-by rules) →
+          (Outcome.Served ≡ outcome-by rules → a ≡ unless f rules a) → a ≡ cond t (f (rule .refusal)) (unless f rules a)
+      go true e rest = absurd (let z : _≡_ {A = ℕ} 0 1 = cc in omega arith)
+      go false e rest = rest e
+
+pub served-none : (rules : List Rule) → Outcome.Served ≡ outcome-by rules → NoneApplies rules
+unfolding unless
+served-none [] e = none
+served-none (rule ∷ rules) e = go (rule .applies) refl e (served-none rules)
+  where
+    go : (t : Bool) → rule .applies ≡ t → Outcome.Served ≡ cond t (Outcome.Refused (rule .refusal)) (outcome-by rules) →
+        (Outcome.Served ≡ outcome-by rules → NoneApplies rules) → NoneApplies (rule ∷ rules)
+    go true is e rest = absurd (let z : _≡_ {A = ℕ} 0 1 = cc in omega arith)
+    go false is e rest = nor (λ t. subst T is t) (rest e)
 
 -- ---- what answers mean
 

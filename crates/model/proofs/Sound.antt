@@ -20,7 +20,7 @@ use Rattle.orbits.specs.Sets.{dart-limit}
 use Rattle.orbits.specs.Classes.{is-fixed, is-closed}
 use Rattle.model.specs.declared.Point.{Point}
 use Rattle.model.specs.declared.Map.{Map}
-use Rattle.model.specs.Plane.{origin, same-point, left-of}
+use Rattle.model.specs.Plane.{origin, same-point, beside}
 use Rattle.model.specs.Maps.{point-limit, no-dart, own, owner, is-own, point, has-helper, is-present, edge-link, point-link, dart-bound}
 use Rattle.model.specs.Outline.{next-corner, outline}
 use Rattle.model.specs.Sound.{arrays-whole, count-fits, points-in-range, points-differ, places-vacant, helpers-owned, absent-fixed, links-undo, edges-cross, lone-fixed, one-outline, reference-on-outline, others-left, no-outline, sound, Sound, SoundLinks}
@@ -187,11 +187,11 @@ module _ (m : Map) (t : EachTest m) where
     reference-is = let c = outline-tests .reference in search (and-left, and-right)
 
     strictly-left : (a c : ℕ) → T (elem a (outline m)) → c < m .count → c ≢ a → c ≢ next-corner m a →
-        T (left-of (point m a) (point m (next-corner m a)) (point m c))
+        T (beside (point m a) (point m (next-corner m a)) (point m c))
     unfolding others-left
     strictly-left a c on l not-start not-end =
         implies-use (not (eqb c a) && not (eqb c (next-corner m a)))
-        (left-of (point m a) (point m (next-corner m a)) (point m c))
+        (beside (point m a) (point m (next-corner m a)) (point m c))
         (all-at (m .count) _ (all-elem _ (outline m) (outline-tests .left) a on) c l)
         (and-both (not (eqb c a)) (not (eqb c (next-corner m a)))
         (differ-by c a not-start)
@@ -335,7 +335,7 @@ module _ (m : Map) (s : Sound m) where
       all-by (m .count) _
       (λ c l.
       implies-by (not (eqb c a) && not (eqb c (next-corner m a)))
-      (left-of (point m a) (point m (next-corner m a)) (point m c))
+      (beside (point m a) (point m (next-corner m a)) (point m c))
       (λ p.
       s .outlined h .left a c on l
       (differ-use c a (and-left (not (eqb c a)) (not (eqb c (next-corner m a))) p))

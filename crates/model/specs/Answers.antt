@@ -108,6 +108,10 @@ pub record Call (A : Type 0) : Type 0 where
 abbrev pub answer-of : {A : Type 0} → Call A → A
 answer-of c = unless (c .refuse) (c .rules) (c .value)
 
+-- what the rules come to, without a value
+abbrev pub outcome-by : List Rule → Outcome
+outcome-by rules = unless Outcome.Refused rules Outcome.Served
+
 -- What an entry promises of its answer r: it is that of the call; and by number, word and values it means
 -- the refusal of the first rule that applies, or else what the value means.
 pub record Answered {A : Type 0} (c : Call A) (r : A) : Type 0 where

@@ -12,7 +12,7 @@ use Rattle.finite.specs.Bounded.{table}
 use Rattle.finite.specs.Lists.{all-in, count-in, first-in, ring}
 use Rattle.model.specs.declared.Point.{Point}
 use Rattle.model.specs.declared.Map.{Map}
-use Rattle.model.specs.Plane.{visible-from, lower}
+use Rattle.model.specs.Plane.{sees-edge, lower}
 use Rattle.model.specs.Maps.{own, helper, owner, point, edge-link}
 
 -- the end of the edge that leaves a corner, and the start of the edge that enters it, by the edge link
@@ -36,9 +36,9 @@ corners-from m a = ring (next-corner m) a (m .count) a
 unfoldable pub outline : Map → List ℕ
 outline m = cond (ltb (m .count) 2) [] (corners-from m (owner (m .reference)))
 
--- the edge that leaves corner a is visible from p
+-- p sees the edge that leaves corner a: what an arrival goes by
 unfoldable pub sees : Map → Point → ℕ → Bool
-sees m p a = visible-from (point m a) (point m (next-corner m a)) p
+sees m p a = sees-edge (point m a) (point m (next-corner m a)) p
 
 -- the number of outline edges visible from p
 unfoldable pub visible-edges : Map → Point → ℕ

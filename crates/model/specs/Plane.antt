@@ -1,6 +1,6 @@
 -- Points of the plane, in the order of this page: the coordinate limit and the range; equal
--- points; orientation, its three cases and the answer of the call; strictly between two points;
--- lower than a point.
+-- points; orientation, its three cases, what lies beside an edge and what an arrival sees,
+-- and the answer of the call; strictly between two points; lower than a point.
 -- Document 01, "Orientation and arrival" and the coordinates of "What the engine holds". The
 -- numbers are whole numbers without a bound: a `Point` of antt holds two of ℤ. Assumes nothing.
 use mathlib.Core.Bool.{Bool, not, _&&_, _||_}
@@ -55,6 +55,15 @@ visible-from a b c = ltZ (orientation a b c) (pos 0)
 -- "zero is in line": neither of the two
 unfoldable pub in-line : Point → Point → Point → Bool
 in-line a b c = not (left-of a b c) && not (visible-from a b c)
+
+-- "every point but a and b has positive orientation with (a, b)": c lies beside the edge from a to
+-- b, as all other points of a sound map lie beside each outline edge
+unfoldable pub beside : Point → Point → Point → Bool
+beside a b c = left-of a b c
+
+-- "visible" where an arrival goes by it: a point c that arrives sees the edge from a to b
+unfoldable pub sees-edge : Point → Point → Point → Bool
+sees-edge a b c = visible-from a b c
 
 -- the orientation of three points, or number 3
 abbrev pub orientation-call : Point → Point → Point → Call Oriented

@@ -17,7 +17,7 @@ use Rattle.model.specs.declared.Map.{Map}
 use Rattle.model.specs.declared.Kind.{Kind}
 use Rattle.model.specs.Spelling.{bytes, decimal, spelt}
 use Rattle.model.specs.Refusals.{number, unless}
-use Rattle.model.specs.Plane.{at, coordinate-in-range, in-range, same-point, orientation, left-of, visible-from, in-line, oriented, strictly-between, lower}
+use Rattle.model.specs.Plane.{at, coordinate-in-range, in-range, same-point, orientation, left-of, visible-from, in-line, beside, sees-edge, oriented, strictly-between, lower}
 use Rattle.model.specs.Maps.{other-dart, point, has-helper, is-present, edge-link, point-link, face-link, empty-map}
 use Rattle.model.specs.Outline.{next-corner, previous-corner, corners-from, outline, sees, visible-edges, lowest-corner, corners}
 use Rattle.model.specs.Sound.{arrays-whole, count-fits, points-in-range, points-differ, places-vacant, helpers-owned, absent-fixed, links-undo, edges-cross, lone-fixed, one-outline, reference-on-outline, others-left, no-outline, sound}
@@ -105,8 +105,8 @@ unfolding table-onto all any sum count one-if table elem all-in all-places any-i
     first-in before beyond ring insert union flatMap flatten grow reached reaches is-least
     classes is-fixed is-closed closed-walks edge-step point-step walk bits set-of bytes decimal
     spelt number unless coordinate-in-range in-range same-point orientation left-of visible-from
-    in-line strictly-between lower other-dart point has-helper is-present edge-link point-link
-    face-link empty-map next-corner previous-corner corners-from outline sees visible-edges
+    in-line beside sees-edge strictly-between lower other-dart point has-helper is-present
+    edge-link point-link face-link empty-map next-corner previous-corner corners-from outline sees visible-edges
     lowest-corner corners arrays-whole count-fits points-in-range points-differ places-vacant
     helpers-owned absent-fixed links-undo edges-cross lone-fixed one-outline
     reference-on-outline others-left no-outline sound links-of number-of darts counts counted

@@ -57,6 +57,10 @@ unsound m = Refusal.NotSound when not (sound m)
 abbrev pub absent : Map → ℕ → Rule
 absent m d = Refusal.NoDart when not (is-present m d)
 
+-- what every call asks that takes a map and a dart
+abbrev pub dart-rules : Map → ℕ → List Rule
+dart-rules m d = unsound m ∷ absent m d ∷ []
+
 abbrev pub counts-call : Map → Call Counted
 counts-call m =
     record {
@@ -73,12 +77,16 @@ counted m = answer-of (counts-call m)
 abbrev pub orbit-set : Map → Kind → ℕ → DartSet
 orbit-set m kind d = set-of (reaches (links-of m kind) (dart-bound m) d)
 
+-- a refused call has the empty set beside its refusal
+abbrev pub no-orbit : Refusal → Orbit
+no-orbit r = record { outcome = Outcome.Refused r; darts = no-darts }
+
 abbrev pub orbit-call : Map → Kind → ℕ → Call Orbit
 orbit-call m kind d =
     record {
       meaning = orbit-answer;
-      refuse = λ r. record { outcome = Outcome.Refused r; darts = no-darts };
-      rules = unsound m ∷ absent m d ∷ [];
+      refuse = no-orbit;
+      rules = dart-rules m d;
       value = record { outcome = Outcome.Served; darts = orbit-set m kind d };
     }
 
@@ -90,7 +98,7 @@ walk-call m d =
     record {
       meaning = walked-answer;
       refuse = Walked.Refused;
-      rules = unsound m ∷ absent m d ∷ [];
+      rules = dart-rules m d;
       value = Walked.Ended (walk (edge-link m) (point-link m) (darts m) d);
     }
 
@@ -104,7 +112,7 @@ walker-call f m d =
     record {
       meaning = moved-answer;
       refuse = Moved.Refused;
-      rules = unsound m ∷ absent m d ∷ [];
+      rules = dart-rules m d;
       value = Moved.At (walker-at (f d));
     }
 

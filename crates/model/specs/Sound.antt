@@ -18,7 +18,7 @@ use Rattle.finite.specs.Lists.{elem, all-in, all-places}
 use Rattle.orbits.specs.Sets.{dart-limit}
 use Rattle.orbits.specs.Classes.{is-fixed, is-closed, closed-walks}
 use Rattle.model.specs.declared.Map.{Map}
-use Rattle.model.specs.Plane.{origin, in-range, same-point, left-of}
+use Rattle.model.specs.Plane.{origin, in-range, same-point, beside}
 use Rattle.model.specs.Maps.{point-limit, no-dart, own, owner, is-own, point, has-helper, is-present, edge-link, point-link, dart-bound}
 use Rattle.model.specs.Outline.{next-corner, outline}
 
@@ -93,7 +93,7 @@ others-left m =
     all (m .count)
     (λ c.
     not (eqb c a) && not (eqb c (next-corner m a)) ⇒
-    left-of (point m a) (point m (next-corner m a)) (point m c)))
+    beside (point m a) (point m (next-corner m a)) (point m c)))
     (outline m)
 
 -- "With fewer points there is no helper and no reference."
@@ -135,11 +135,11 @@ pub record SoundLinks (m : Map) : Type 0 where
   pub leaving : (d : ℕ) → edge-link m d ≢ d → owner d ≢ owner (edge-link m d)
   pub lone : (k : ℕ) → ¬ T (has-helper m k) → edge-link m (own k) ≡ own k
 
--- every other point lies strictly left of each edge that leaves a corner of the list
+-- every other point lies beside each edge that leaves a corner of the list
 abbrev pub AllLeft : Map → List ℕ → Type 0
 AllLeft m s =
     (a c : ℕ) → T (elem a s) → c < m .count → c ≢ a → c ≢ next-corner m a →
-    T (left-of (point m a) (point m (next-corner m a)) (point m c))
+    T (beside (point m a) (point m (next-corner m a)) (point m c))
 
 -- the outline of two points or more
 pub record SoundOutline (m : Map) : Type 0 where

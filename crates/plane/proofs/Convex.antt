@@ -23,7 +23,7 @@ use Rattle.finite.specs.Cycles.{Chain, Cycle}
 use Rattle.finite.specs.ListLaws.{elem-cut, elem-swap, distinct-apart, distinct-swap}
 use Rattle.finite.specs.CycleLaws.{cycle-swap, cycle-change, cycle-after, cycle-before, cycle-map, chain-last, ring-of-cycle}
 use Rattle.model.specs.declared.Point.{Point}
-use Rattle.model.specs.Plane.{orientation, left-of, visible-from, in-line}
+use Rattle.model.specs.Plane.{orientation, left-of, sees-edge, in-line}
 use Rattle.plane.proofs.Orientation.{orientation-cyclic, orientation-swap, orientation-twice, left-positive, visible-negative, in-line-zero, zero-in-line}
 use Rattle.plane.proofs.Fan.{fan-fixed, fan-nonneg, fan-neg}
 
@@ -150,9 +150,9 @@ module _ {n : ℕ} {P : ℕ → Point} {next prev : ℕ → ℕ} where
 abbrev pub GeneralPosition : ℕ → (ℕ → Point) → Point → Type 0
 GeneralPosition n P q = (i j : ℕ) → i < j → j < n → ¬ T (in-line (P i) (P j) q)
 
--- the edge that leaves a is visible from q
+-- q sees the edge that leaves a
 abbrev pub sees : (ℕ → Point) → (ℕ → ℕ) → Point → ℕ → Bool
-sees P next q a = visible-from (P a) (P (next a)) q
+sees P next q a = sees-edge (P a) (P (next a)) q
 
 in-line-swap : (a b c : Point) → T (in-line a b c) → T (in-line b a c)
 in-line-swap a b c t =
@@ -201,6 +201,7 @@ module _ {n : ℕ} {P : ℕ → Point} {next prev : ℕ → ℕ} {s : List ℕ} 
 
 sees-not-all : {n : ℕ} {P : ℕ → Point} {next prev : ℕ → ℕ} (s : List ℕ) →
     Convex n P next prev s → (q : Point) → ¬ ((a : ℕ) → T (elem a s) → T (sees P next q a))
+unfolding sees-edge
 sees-not-all [] C q all = omega (arith, C .two)
 sees-not-all {P} {next} (x ∷ s) C q all =
     omega (

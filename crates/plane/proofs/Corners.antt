@@ -14,7 +14,7 @@ use Rattle.finite.specs.Tests.{and-left, and-right, and-both, decide, same-or-n
 use Rattle.finite.specs.Lists.{elem, first-in, first-found}
 use Rattle.finite.specs.CycleLaws.{cycle-switch}
 use Rattle.model.specs.declared.Point.{Point}
-use Rattle.model.specs.Plane.{left-of}
+use Rattle.model.specs.Plane.{left-of, sees-edge}
 use Rattle.plane.proofs.Knuth.{cyclic-symmetry, cyclic-back, antisymmetry, within-left, within-right, visible-left, hidden-left}
 use Rattle.plane.proofs.Convex.{Link, Convex, GeneralPosition, sees, same-unless, general-both, entering-left, next-prev, prev-member, next-below, prev-below, next-differs, prev-differs, some-hidden}
 
@@ -111,12 +111,14 @@ module _ {n : ℕ} {P : ℕ → Point} {next prev : ℕ → ℕ} {s : List ℕ} 
   module _ (q : Point) (general : GeneralPosition n P q) where
     -- the hidden edges have q strictly left
     pub hidden-edge : (a : ℕ) → T (elem a s) → ¬ T (sees P next q a) → T (left-of (P a) (P (next a)) q)
+    unfolding sees-edge
     hidden-edge a m h =
         hidden-left (P a) (P (next a)) q
         (general-both n P q general a (next a) (C .below a m) (next-below C a m) (λ e. next-differs C a m (sym e))) h
 
     pub left-tangent : (l : ℕ) → LeftCorner prev (sees P next q) s l →
         (c : ℕ) → c < n → c ≢ l → T (left-of (P l) q (P c))
+    unfolding sees-edge
     left-tangent l L =
         corner-angle l (L .member) (λ c. T (left-of (P l) q (P c)))
         (λ v c u. within-left (P l) q (P v) (P c) (P u))
@@ -127,6 +129,7 @@ module _ {n : ℕ} {P : ℕ → Point} {next prev : ℕ → ℕ} {s : List ℕ} 
 
     pub right-tangent : (r : ℕ) → RightCorner prev (sees P next q) s r →
         (c : ℕ) → c < n → c ≢ r → T (left-of q (P r) (P c))
+    unfolding sees-edge
     right-tangent r R c h d =
         cyclic-back (P r) (P c) q
         (corner-angle r (R .member) (λ c. T (left-of (P r) (P c) q))

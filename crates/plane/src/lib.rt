@@ -9,7 +9,7 @@ use model::Refusal;
 ghost use mathlib.Core.Path.{_≡_};
 ghost use mathlib.Core.Bool.{_&&_};
 ghost use lib.Dec.{T};
-ghost use Rattle.model.specs.Plane.{at, coordinate-in-range, in-line, in-range, left-of, orientation, same-point, visible-from};
+ghost use Rattle.model.specs.Plane.{at, beside, coordinate-in-range, in-line, in-range, left-of, orientation, same-point, sees-edge, visible-from};
 ghost use Rattle.plane.specs.OrientedAnswer.{Near, OrientedAnswer};
 
 // Coordinates run from -COORDINATE_LIMIT to COORDINATE_LIMIT.
@@ -62,6 +62,15 @@ pub fn is_left_of(a: Point, b: Point, c: Point) -> bool
     0 < z
 }
 
+// Whether c lies beside the edge from a to b, as all other points of a sound map lie beside each
+// outline edge, for points that are in range.
+pub fn is_beside(a: Point, b: Point, c: Point) -> bool
+    requires { ⌜ T (in-range a && in-range b && in-range c) ⌝ }
+    ensures { λ r. ⌜ r ≡ beside a b c ⌝ }
+{
+    is_left_of(a, b, c)
+}
+
 // Whether the edge from a to b is visible from c, for points that are in range.
 pub fn is_visible_from(a: Point, b: Point, c: Point) -> bool
     requires { ⌜ T (in-range a && in-range b && in-range c) ⌝ }
@@ -69,6 +78,14 @@ pub fn is_visible_from(a: Point, b: Point, c: Point) -> bool
 {
     let z = orientation_in_range(a, b, c);
     z < 0
+}
+
+// Whether a point c that arrives sees the edge from a to b, for points that are in range.
+pub fn sees_edge(a: Point, b: Point, c: Point) -> bool
+    requires { ⌜ T (in-range a && in-range b && in-range c) ⌝ }
+    ensures { λ r. ⌜ r ≡ sees-edge a b c ⌝ }
+{
+    is_visible_from(a, b, c)
 }
 
 // Whether three points that are in range are in line.

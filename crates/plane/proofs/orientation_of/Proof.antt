@@ -1,8 +1,8 @@
 -- `plane::orientation_of` meets its contract: the one test decides between the value and number 3.
 -- Assumes nothing.
 use borrow.Author.Needs.{needs}
-use mathlib.Core.Path.{_≡_, sym, subst, _∙_, ap}
-use mathlib.Core.Bool.{Bool, true, not, cond, _&&_}
+use mathlib.Core.Path.{_≡_, refl, sym, subst, _∙_, ap}
+use mathlib.Core.Bool.{true, not, _&&_}
 use lib.IntN.{ℤ, natAbs}
 use mir.Syntax.{w64}
 use mir.Val.{SFits}
@@ -11,11 +11,9 @@ use Prim.Native.Nat.{_≤_}
 use Rattle.integers.specs.Range.{bounded-fits}
 use Rattle.finite.specs.Tests.{of-true}
 use Rattle.model.specs.declared.Oriented.{Oriented}
-use Rattle.model.specs.declared.Refusal.{Refusal}
-use Rattle.model.specs.Refusals.{number, unless}
 use Rattle.model.specs.Answers.{oriented-answer}
-use Rattle.model.specs.Plane.{in-range, orientation, orientation-limit}
-use Rattle.model.specs.Plane.{oriented}
+use Rattle.model.specs.Plane.{in-range, orientation-limit, orientation-call}
+use Rattle.model.proofs.Answers.{answered, rule-applies, rule-passes, no-rule}
 use Rattle.plane.proofs.Bounds.{points-near, orientation-bounded}
 use Rattle.plane.proofs.orientation_of.Statement.{statement}
 use Rattle.plane.proofs.orientation_of.Tie as tie
@@ -31,27 +29,28 @@ orientation-in-range-requires : tie.Need-orientation-in-range-requires
 orientation-in-range-requires c κs = of-true _ (ranged c)
 
 returns : tie.Need-returns
-unfolding oriented unless oriented-answer number
+unfolding oriented-answer
 returns c =
-    let s = c .before .before .before in
-    let bounded = orientation-bounded (s .args .a) (s .args .b) (s .args .c) (points-near (s .args .a) (s .args .b) (s .args .c) (of-true _ (ranged (c .before)))) in
+    let s = c .before .before .before .args in
+    let in-limit = ranged (c .before) in
+    let bounded = orientation-bounded (s .a) (s .b) (s .c) (points-near (s .a) (s .b) (s .c) (of-true _ in-limit)) in
     let value = c .orientation-in-range .ensures in
     let back = toZ-ofZ w64 (c .orientation-in-range .result) (subst (SFits w64) (sym value) (bounded-fits w64 tt bounded)) ∙ value in
-    let served = ap (λ (t : Bool). cond (not t) (Oriented.Refused Refusal.OutOfRange) (Oriented.Value (orientation (s .args .a) (s .args .b) (s .args .c)))) (ranged (c .before)) in
     record {
-      answer = ap Oriented.Value back ∙ sym served;
-      number = sym (ap (λ (t : Bool). cond t 0 3) (ranged (c .before)));
+      answer =
+          answered (orientation-call (s .a) (s .b) (s .c)) (λ r. refl)
+          (rule-passes Oriented.Refused _ _ _ (ap not in-limit) (ap Oriented.Value back ∙ no-rule Oriented.Refused _));
       within = subst (λ (z : ℤ). natAbs z ≤ orientation-limit) (sym back) (bounded .bound);
     }
 
 returns-2 : tie.Need-returns-2
-unfolding oriented unless oriented-answer number
+unfolding oriented-answer
 returns-2 c =
-    let s = c .before .before in
+    let s = c .before .before .args in
     let out = sym (c .before .all-in-range .ensures) ∙ c .if1 .left in
     record {
-      answer = sym (ap (λ (t : Bool). cond (not t) (Oriented.Refused Refusal.OutOfRange) (Oriented.Value (orientation (s .args .a) (s .args .b) (s .args .c)))) out);
-      number = sym (ap (λ (t : Bool). cond t 0 3) out);
+      answer =
+          answered (orientation-call (s .a) (s .b) (s .c)) (λ r. refl) (rule-applies Oriented.Refused _ _ _ (ap not out));
       within = tt;
     }
 

@@ -2,7 +2,7 @@
 -- arrays. Assumes nothing.
 use borrow.Author.Needs.{needs}
 use mathlib.Core.Path.{_∙_, ap₂}
-use Rattle.model.specs.Plane.{visible-from}
+use Rattle.model.specs.Plane.{sees-edge}
 use Rattle.hull.proofs.Indices.{three-ranged}
 use Rattle.hull.proofs.sight.is_visible.Statement.{statement}
 use Rattle.hull.proofs.sight.is_visible.Tie as tie
@@ -13,8 +13,8 @@ point-at-requires c κs = search needs
 point-at-requires-2 : tie.Need-point-at-requires-2
 point-at-requires-2 c κs = search needs
 
-is-visible-from-requires : tie.Need-is-visible-from-requires
-is-visible-from-requires c κs =
+sees-edge-requires : tie.Need-sees-edge-requires
+sees-edge-requires c κs =
     let s = c .before .before in
     three-ranged (s .pre) (s .args .a) (s .args .b) (c .before .point-at .ensures) (c .point-at2 .ensures)
 
@@ -22,8 +22,8 @@ returns : tie.Need-returns
 returns c =
     let p = c .before .before .before .args .p in
     let d = c .before in
-    c .is-visible-from .ensures ∙ ap₂ (λ a b. visible-from a b p) (d .before .point-at .ensures) (d .point-at2 .ensures)
+    c .sees-edge .ensures ∙ ap₂ (λ a b. sees-edge a b p) (d .before .point-at .ensures) (d .point-at2 .ensures)
 
 pub is-visible-spec : {M : Type 1} → statement M
 is-visible-spec =
-    tie.close (tie.spec point-at-requires point-at-requires-2 is-visible-from-requires returns)
+    tie.close (tie.spec point-at-requires point-at-requires-2 sees-edge-requires returns)

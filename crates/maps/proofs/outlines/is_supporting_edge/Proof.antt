@@ -16,10 +16,10 @@ abbrev μ-loop : tie.MeasureT-loop
 loop-holds : tie.Need-loop-holds Inv-loop μ-loop
 loop-holds c = none-passed _ 0
 
-is-end-or-left-requires : tie.Need-is-end-or-left-requires Inv-loop μ-loop
-is-end-or-left-requires c κs = c .before .before .pre
+is-end-or-beside-requires : tie.Need-is-end-or-beside-requires Inv-loop μ-loop
+is-end-or-beside-requires c κs = c .before .before .pre
 
-module _ (c : tie.After-is-end-or-left Inv-loop μ-loop) where
+module _ (c : tie.After-is-end-or-beside Inv-loop μ-loop) where
   abbrev at-loop : tie.At-loop Inv-loop μ-loop
   at-loop = c .before .before
 
@@ -27,8 +27,8 @@ module _ (c : tie.After-is-end-or-left Inv-loop μ-loop) where
   at-start = at-loop .before
 
   iteration : Iteration (aside-at (at-start .args .xs .now) (at-start .args .ys .now) (at-start .args .a) (at-start .args .b)) 0
-      (at-loop .loop .c) (c .is-end-or-left .result)
-  iteration = record { passed = at-loop .loop .inv; found = c .is-end-or-left .ensures }
+      (at-loop .loop .c) (c .is-end-or-beside .result)
+  iteration = record { passed = at-loop .loop .inv; found = c .is-end-or-beside .ensures }
 
 returns : tie.Need-returns Inv-loop μ-loop
 returns c = one-failed (iteration (c .before)) (below (at-start (c .before) .args .n) _) (omega arith) (c .if1 .taken)
@@ -52,7 +52,7 @@ is-supporting-edge-spec =
     Inv-loop
     μ-loop
     loop-holds
-    is-end-or-left-requires
+    is-end-or-beside-requires
     returns
     add-c
     loop-less

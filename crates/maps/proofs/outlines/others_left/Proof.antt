@@ -11,7 +11,7 @@ use Rattle.finite.specs.Tests.{_⇒_}
 use Rattle.finite.specs.Bounded.{all}
 use Rattle.finite.specs.Lists.{all-in}
 use Rattle.model.specs.declared.Map.{Map}
-use Rattle.model.specs.Plane.{left-of}
+use Rattle.model.specs.Plane.{beside}
 use Rattle.model.specs.Maps.{owner, point, edge-link}
 use Rattle.model.specs.Outline.{next-corner, corners-from, outline}
 use Rattle.model.specs.Sound.{others-left}
@@ -20,13 +20,13 @@ use Rattle.finite.specs.Loops.{Round, Corner, round-begun, corner-failed, came-
 use Rattle.maps.proofs.outlines.others_left.Statement.{statement}
 use Rattle.maps.proofs.outlines.others_left.Tie as tie
 
--- every point is an end of the edge that leaves corner a, or lies strictly left of it
+-- every point is an end of the edge that leaves corner a, or lies beside it
 abbrev here : Map → ℕ → Bool
 here m a =
     all (m .count)
     (λ c.
     not (eqb c a) && not (eqb c (next-corner m a)) ⇒
-    left-of (point m a) (point m (next-corner m a)) (point m c))
+    beside (point m a) (point m (next-corner m a)) (point m c))
 
 begun : (m : Map) → 2 ≤ m .count →
     Round (here m) (next-corner m) (owner (m .reference)) (m .count) 0 (owner (m .reference)) (others-left m)

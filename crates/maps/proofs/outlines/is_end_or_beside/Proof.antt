@@ -1,4 +1,4 @@
--- `maps::outlines::is_end_or_left` meets its contract, one return for each way through its tests.
+-- `maps::outlines::is_end_or_beside` meets its contract, one return for each way through its tests.
 -- Assumes nothing.
 use borrow.Author.Needs.{needs}
 use mathlib.Core.Path.{sym, subst, _∙_}
@@ -6,9 +6,9 @@ use borrow.Author.Tests.{eq-eqb, ne-eqb}
 use lib.Dec.{T}
 use Rattle.finite.specs.Tests.{and-both}
 use Rattle.model.specs.declared.Point.{Point}
-use Rattle.model.specs.Plane.{in-range, left-of}
-use Rattle.maps.proofs.outlines.is_end_or_left.Statement.{statement}
-use Rattle.maps.proofs.outlines.is_end_or_left.Tie as tie
+use Rattle.model.specs.Plane.{in-range, beside}
+use Rattle.maps.proofs.outlines.is_end_or_beside.Statement.{statement}
+use Rattle.maps.proofs.outlines.is_end_or_beside.Tie as tie
 
 returns : tie.Need-returns
 returns c = rw (eq-eqb _ _ (c .if1 .taken))
@@ -25,8 +25,8 @@ point-at-requires-2 c κs = search needs
 point-at-requires-3 : tie.Need-point-at-requires-3
 point-at-requires-3 c κs = search needs
 
-is-left-of-requires : tie.Need-is-left-of-requires
-is-left-of-requires c κs =
+is-beside-requires : tie.Need-is-beside-requires
+is-beside-requires c κs =
     let pa = c .before .before .point-at in
     let pb = c .before .point-at2 in
     let pc = c .point-at3 in
@@ -43,11 +43,11 @@ returns-3 c =
     let first = second .before in
     let s = first .before in
     rw (ne-eqb _ _ (s .before .if1 .left), ne-eqb _ _ (s .if2 .left))
-    (c .is-left-of .ensures
-    ∙ (λ i. left-of (first .point-at .ensures i) (second .point-at2 .ensures i) (third .point-at3 .ensures i)))
+    (c .is-beside .ensures
+    ∙ (λ i. beside (first .point-at .ensures i) (second .point-at2 .ensures i) (third .point-at3 .ensures i)))
 
-pub is-end-or-left-spec : {M : Type 1} → statement M
-is-end-or-left-spec =
+pub is-end-or-beside-spec : {M : Type 1} → statement M
+is-end-or-beside-spec =
     tie.close
     (tie.spec
     returns
@@ -55,5 +55,5 @@ is-end-or-left-spec =
     point-at-requires
     point-at-requires-2
     point-at-requires-3
-    is-left-of-requires
+    is-beside-requires
     returns-3)

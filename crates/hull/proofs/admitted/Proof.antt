@@ -1,4 +1,4 @@
--- `hull::offer_to_sound` meets its contract, one condition after another. Assumes nothing.
+-- `hull::admitted` meets its contract, one condition after another. Assumes nothing.
 use borrow.Author.Needs.{needs}
 use mathlib.Core.Path.{_≡_, sym, _∙_}
 use mathlib.Core.Bool.{true, false}
@@ -8,11 +8,10 @@ use Rattle.finite.specs.Tests.{of-true}
 use Rattle.model.specs.Plane.{in-range}
 use Rattle.model.specs.Maps.{point}
 use Rattle.model.specs.Arrival.{is-repeated}
-use Rattle.model.proofs.Sound.{sound-holds}
 use Rattle.hull.proofs.Indices.{place-ranged}
 use Rattle.hull.proofs.Cases.{full, out-of-range, repeated, in-line, arrives}
-use Rattle.hull.proofs.offer_to_sound.Statement.{statement}
-use Rattle.hull.proofs.offer_to_sound.Tie as tie
+use Rattle.hull.proofs.admitted.Statement.{statement}
+use Rattle.hull.proofs.admitted.Tie as tie
 
 -- the conditions that were passed
 room : (c : tie.Else1) → c .before .args .map .count < 512
@@ -29,7 +28,7 @@ refused-requires : tie.Need-refused-requires
 refused-requires c κs = search needs
 
 returns : tie.Need-returns
-returns c = c .refused .ensures ∙ full _ _ (c .before .before .pre) (c .before .if1 .taken)
+returns c = c .refused .ensures ∙ full _ _ (c .before .if1 .taken)
 
 in-range-requires : tie.Need-in-range-requires
 in-range-requires c κs = search needs
@@ -41,7 +40,7 @@ returns-2 : tie.Need-returns-2
 returns-2 c =
     let d = c .before .before in
     c .refused2 .ensures
-    ∙ out-of-range _ _ (d .before .before .pre) (room (d .before))
+    ∙ out-of-range _ _ (room (d .before))
     (sym (d .in-range .ensures) ∙ not-true _ (c .before .if2 .taken))
 
 is-repeated-requires : tie.Need-is-repeated-requires
@@ -55,7 +54,7 @@ returns-3 c =
     let d = c .before .before in
     let e = d .before in
     c .refused3 .ensures
-    ∙ repeated _ _ (e .before .before .before .pre) (room (e .before .before)) (ranged e)
+    ∙ repeated _ _ (room (e .before .before)) (ranged e)
     (sym (d .is-repeated .ensures) ∙ c .before .if3 .taken)
 
 is-in-line-requires : tie.Need-is-in-line-requires
@@ -64,7 +63,7 @@ is-in-line-requires c κs =
     let e = c .before .before in
     let s = e .before .before .before in
     record {
-      places = place-ranged (sound-holds (s .args .map) (s .pre));
+      places = place-ranged (s .pre);
       offered = of-true _ (ranged e);
     }
 
@@ -76,7 +75,7 @@ returns-4 c =
     let d = c .before .before in
     let e = d .before .before .before in
     c .refused4 .ensures
-    ∙ in-line _ _ (e .before .before .before .pre) (room (e .before .before)) (ranged e) (fresh (d .before))
+    ∙ in-line _ _ (room (e .before .before)) (ranged e) (fresh (d .before))
     (sym (d .is-in-line .ensures) ∙ c .before .if4 .taken)
 
 arrive-requires : tie.Need-arrive-requires
@@ -84,7 +83,7 @@ arrive-requires c κs =
     let e = c .before .before .before .before in
     let s = e .before .before .before in
     record {
-      is-sound = sound-holds (s .args .map) (s .pre);
+      is-sound = s .pre;
       room = room (e .before .before);
       offered = of-true _ (ranged e);
     }
@@ -94,11 +93,11 @@ returns-5 c =
     let d = c .before .before in
     let e = d .before .before .before in
     c .arrive .ensures
-    ∙ arrives _ _ (e .before .before .before .pre) (room (e .before .before)) (ranged e) (fresh (d .before))
+    ∙ arrives _ _ (room (e .before .before)) (ranged e) (fresh (d .before))
     (sym (d .is-in-line .ensures) ∙ c .before .if4 .left)
 
-pub offer-to-sound-spec : {M : Type 1} → statement M
-offer-to-sound-spec =
+pub admitted-spec : {M : Type 1} → statement M
+admitted-spec =
     tie.close
     (tie.spec
     refused-requires

@@ -1,0 +1,68 @@
+-- `engine::list_corners` meets its contract: the map is checked, then the room, and then the corners are
+-- written. Assumes nothing.
+use borrow.Author.Needs.{needs}
+use mathlib.Core.Path.{_∙_}
+use mathlib.Core.List.{[], _∷_}
+use native.Mathlib.Omega.{arith}
+use borrow.Author.Tests.{lt-ltb, le-ltb}
+use denote.Ref.{now}
+use Rattle.model.specs.declared.Refusal.{Refusal}
+use Rattle.model.specs.declared.Written.{Written}
+use Rattle.model.specs.Outline.{corners}
+use Rattle.model.specs.Reading.{unsound}
+use Rattle.model.proofs.Answers.{rule-applies, rule-passes, no-rule}
+use Rattle.model.proofs.Lent.{wrote-nothing, wrote-result}
+use Rattle.hull.proofs.CornerLoops.{corners-written}
+use Rattle.engine.proofs.Rules.{tested, found-sound}
+use Rattle.engine.proofs.list_corners.Statement.{statement}
+use Rattle.engine.proofs.list_corners.Tie as tie
+
+is-sound-requires : tie.Need-is-sound-requires
+is-sound-requires c κs = search needs
+
+returns : tie.Need-returns
+returns c =
+    let s = c .before .before .before .args in
+    wrote-nothing (unsound (s .map) ∷ []) (corners (s .map)) (now (s .lent)) Refusal.NotSound
+    (rule-applies Written.Refused _ _ _ (tested (c .before .is-sound .ensures) (c .if1 .taken)))
+
+corners-of-requires : tie.Need-corners-of-requires
+corners-of-requires c κs = found-sound (c .before .is-sound .ensures) (c .if1 .left)
+
+returns-2 : tie.Need-returns-2
+returns-2 c =
+    let d = c .before .before in
+    let s = d .before .before .before .args in
+    wrote-nothing (unsound (s .map) ∷ []) (corners (s .map)) (now (s .lent)) Refusal.ShortList
+    (rule-passes Written.Refused _ _ _ (tested (d .before .is-sound .ensures) (d .if1 .left))
+    (rule-applies Written.Refused _ _ _ (lt-ltb _ _ (omega (arith, c .before .corners-of .ensures .number, c .if2 .taken)))))
+
+write-corners-requires : tie.Need-write-corners-requires
+write-corners-requires c κs = search needs
+
+same-length : tie.Need-same-length
+same-length c = search needs
+
+returns-3 : tie.Need-returns-3
+returns-3 c =
+    let w = c .before .before in
+    let room = w .before .before in
+    let lists = room .before .corners-of .ensures in
+    let d = room .before .before in
+    let s = d .before .before .before .args in
+    wrote-result (unsound (s .map) ∷ []) (corners (s .map)) (now (s .lent)) _ _ (lists .number)
+    (rule-passes Written.Refused _ _ _ (tested (d .before .is-sound .ensures) (d .if1 .left))
+    (rule-passes Written.Refused _ _ _ (le-ltb _ _ (omega (arith, lists .number, room .if2 .left))) (no-rule Written.Refused _)))
+    (w .write-corners .ensures ∙ corners-written lists (now (s .lent)))
+
+pub list-corners-spec : {M : Type 1} → statement M
+list-corners-spec =
+    tie.close
+    (tie.spec
+    is-sound-requires
+    returns
+    corners-of-requires
+    returns-2
+    write-corners-requires
+    same-length
+    returns-3)

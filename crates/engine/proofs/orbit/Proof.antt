@@ -1,0 +1,68 @@
+-- `engine::orbit` meets its contract: the map and the dart are checked, and then its orbit is read.
+-- Assumes nothing.
+use borrow.Author.Needs.{needs}
+use mathlib.Core.Path.{refl, sym, ap, _∙_}
+use Rattle.orbits.specs.declared.DartSet.{DartSet}
+use Rattle.model.specs.declared.Orbit.{Orbit}
+use Rattle.model.specs.declared.Outcome.{Outcome}
+use Rattle.model.specs.Answers.{orbit-answer}
+use Rattle.model.specs.Reading.{dart-rules, no-orbit, orbit-call}
+use Rattle.model.proofs.Answers.{answered, outcome-refuses, outcome-serves}
+use Rattle.engine.proofs.Rules.{checked-sound, checked-present}
+use Rattle.engine.proofs.orbit.Statement.{statement}
+use Rattle.engine.proofs.orbit.Tie as tie
+
+-- an outcome with a set beside it
+abbrev beside : Outcome → DartSet → Orbit
+beside outcome darts = record { outcome = outcome; darts = darts }
+
+check-dart-requires : tie.Need-check-dart-requires
+check-dart-requires c κs = search needs
+
+enum-known-checked : tie.Need-enum-known-checked
+enum-known-checked c = search needs
+
+empty-requires : tie.Need-empty-requires
+empty-requires c κs = search needs
+
+enum-told : tie.Need-enum-told
+enum-told c = search needs
+
+orbit-of-requires : tie.Need-orbit-of-requires
+orbit-of-requires c κs =
+    let d = c .before .before in
+    let s = d .before .args in
+    let served = sym (c .enum-told .given .1) ∙ d .check-dart .ensures in
+    (checked-sound (s .map) (s .dart) served, checked-present (s .map) (s .dart) served)
+
+returns : tie.Need-returns
+unfolding orbit-answer
+returns c =
+    let d = c .before .before .before .before in
+    let s = d .before .args in
+    answered (orbit-call (s .map) (s .kind) (s .dart)) (λ r. refl)
+    (ap (beside _) (c .empty .ensures)
+    ∙ outcome-refuses no-orbit _ (dart-rules (s .map) (s .dart)) _
+    (sym (c .before .before .checked .given .1) ∙ d .check-dart .ensures))
+
+returns-2 : tie.Need-returns-2
+unfolding orbit-answer
+returns-2 c =
+    let d = c .before .before .before in
+    let s = d .before .args in
+    answered (orbit-call (s .map) (s .kind) (s .dart)) (λ r. refl)
+    (ap (beside Outcome.Served) (c .orbit-of .ensures)
+    ∙ outcome-serves no-orbit _ (dart-rules (s .map) (s .dart))
+    (sym (c .before .enum-told .given .1) ∙ d .check-dart .ensures))
+
+pub orbit-spec : {M : Type 1} → statement M
+orbit-spec =
+    tie.close
+    (tie.spec
+    check-dart-requires
+    enum-known-checked
+    empty-requires
+    enum-told
+    orbit-of-requires
+    returns
+    returns-2)

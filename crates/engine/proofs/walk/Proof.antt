@@ -1,0 +1,49 @@
+-- `engine::walk` meets its contract: the map and the dart are checked, and then walked from. Assumes nothing.
+use borrow.Author.Needs.{needs}
+use mathlib.Core.Path.{refl, sym, ap, _∙_}
+use Rattle.model.specs.declared.Walked.{Walked}
+use Rattle.model.specs.Answers.{walked-answer}
+use Rattle.model.specs.Reading.{dart-rules, walk-call}
+use Rattle.model.proofs.Answers.{answered, outcome-refuses, outcome-serves}
+use Rattle.engine.proofs.Rules.{checked-sound}
+use Rattle.engine.proofs.walk.Statement.{statement}
+use Rattle.engine.proofs.walk.Tie as tie
+
+check-dart-requires : tie.Need-check-dart-requires
+check-dart-requires c κs = search needs
+
+enum-known-checked : tie.Need-enum-known-checked
+enum-known-checked c = search needs
+
+enum-told : tie.Need-enum-told
+enum-told c = search needs
+
+walk-of-requires : tie.Need-walk-of-requires
+walk-of-requires c κs =
+    let d = c .before .before in
+    let s = d .before .args in
+    checked-sound (s .map) (s .dart) (sym (c .enum-told .given .1) ∙ d .check-dart .ensures) .links .fits
+
+returns : tie.Need-returns
+unfolding walked-answer
+returns c =
+    let d = c .before .before .before in
+    let s = d .before .args in
+    answered (walk-call (s .map) (s .dart)) (λ r. refl)
+    (outcome-refuses Walked.Refused _ (dart-rules (s .map) (s .dart)) _
+    (sym (c .before .checked .given .1) ∙ d .check-dart .ensures))
+
+returns-2 : tie.Need-returns-2
+unfolding walked-answer
+returns-2 c =
+    let d = c .before .before .before in
+    let s = d .before .args in
+    answered (walk-call (s .map) (s .dart)) (λ r. refl)
+    (ap Walked.Ended (c .walk-of .ensures)
+    ∙ outcome-serves Walked.Refused _ (dart-rules (s .map) (s .dart))
+    (sym (c .before .enum-told .given .1) ∙ d .check-dart .ensures))
+
+pub walk-spec : {M : Type 1} → statement M
+walk-spec =
+    tie.close
+    (tie.spec check-dart-requires enum-known-checked enum-told walk-of-requires returns returns-2)

@@ -1,0 +1,156 @@
+// The engine's entry points: every call that takes a map checks it for itself, and then calls the inner
+// function that knows a sound map. No entry asks anything of its caller, and each promises its answer,
+// its number and values, and what every lent list holds, for every argument.
+
+mod checks;
+
+use crate::checks::check_dart;
+use hull::admitted;
+use hull::listing::corners_of;
+use hull::listing::write_corners;
+use hull::query::placed;
+use maps::is_sound;
+use maps::traversal::counts_of;
+use maps::traversal::moved_by_edge;
+use maps::traversal::moved_by_point;
+use maps::traversal::orbit_of;
+use maps::traversal::walk_of;
+use model::Arrival;
+use model::Counted;
+use model::Kind;
+use model::Map;
+use model::Moved;
+use model::Offered;
+use model::Orbit;
+use model::Outcome;
+use model::Placed;
+use model::Point;
+use model::Refusal;
+use model::Walked;
+use model::Written;
+use orbits::DartSet;
+use orbits::Walker;
+use plane::in_range;
+ghost use mathlib.Core.List.{[], _∷_};
+ghost use Rattle.model.specs.Maps.{edge-link, point-link};
+ghost use Rattle.model.specs.Outline.{corners};
+ghost use Rattle.model.specs.Answers.{Answered};
+ghost use Rattle.model.specs.Reading.{counts-call, orbit-call, unsound, walk-call, walker-call};
+ghost use Rattle.model.specs.Offers.{offer-call};
+ghost use Rattle.model.specs.Placing.{place-call};
+ghost use Rattle.model.specs.Lent.{Wrote};
+
+// The map after a point is offered to it, and what became of the point: numbers 1 to 5. Where the point is
+// refused, the map is as it was.
+pub fn offer(map: Map, p: Point) -> Offered
+    ensures { λ r. ⌜ Answered (offer-call map p) r ⌝ }
+{
+    if !is_sound(map) {
+        return Offered {
+            map,
+            arrival: Arrival::Refused(Refusal::NotSound),
+        };
+    }
+    admitted(map, p)
+}
+
+// The orbit of a dart, of the kind that is named: numbers 1 and 6.
+pub fn orbit(map: Map, kind: Kind, dart: usize) -> Orbit
+    ensures { λ r. ⌜ Answered (orbit-call map kind dart) r ⌝ }
+{
+    let checked = check_dart(map, dart);
+    match checked {
+        Outcome::Refused(refusal) => Orbit {
+            outcome: Outcome::Refused(refusal),
+            darts: DartSet::empty(),
+        },
+        Outcome::Served => Orbit {
+            outcome: Outcome::Served,
+            darts: orbit_of(map, kind, dart),
+        },
+    }
+}
+
+// The numbers of darts, vertices, edges, faces and connected parts: number 1.
+pub fn counts(map: Map) -> Counted
+    ensures { λ r. ⌜ Answered (counts-call map) r ⌝ }
+{
+    if !is_sound(map) {
+        return Counted::Refused(Refusal::NotSound);
+    }
+    Counted::Numbers(counts_of(map))
+}
+
+// The walk from a dart: numbers 1 and 6.
+pub fn walk(map: Map, dart: usize) -> Walked
+    ensures { λ r. ⌜ Answered (walk-call map dart) r ⌝ }
+{
+    let checked = check_dart(map, dart);
+    match checked {
+        Outcome::Refused(refusal) => Walked::Refused(refusal),
+        Outcome::Served => Walked::Ended(walk_of(map, dart)),
+    }
+}
+
+// A walker started at a dart: numbers 1 and 6.
+pub fn walker_at(map: Map, dart: usize) -> Moved
+    ensures { λ r. ⌜ Answered (walker-call (λ d. d) map dart) r ⌝ }
+{
+    let checked = check_dart(map, dart);
+    match checked {
+        Outcome::Refused(refusal) => Moved::Refused(refusal),
+        Outcome::Served => Moved::At(Walker::starting_at(dart)),
+    }
+}
+
+// A walker moved by the edge link; the dart where it stands is checked: numbers 1 and 6.
+pub fn walker_by_edge(map: Map, walker: Walker) -> Moved
+    ensures { λ r. ⌜ Answered (walker-call (edge-link map) map (walker .dart)) r ⌝ }
+{
+    let checked = check_dart(map, walker.dart);
+    match checked {
+        Outcome::Refused(refusal) => Moved::Refused(refusal),
+        Outcome::Served => Moved::At(moved_by_edge(map, walker)),
+    }
+}
+
+// A walker moved by the point link; the dart where it stands is checked: numbers 1 and 6.
+pub fn walker_by_point(map: Map, walker: Walker) -> Moved
+    ensures { λ r. ⌜ Answered (walker-call (point-link map) map (walker .dart)) r ⌝ }
+{
+    let checked = check_dart(map, walker.dart);
+    match checked {
+        Outcome::Refused(refusal) => Moved::Refused(refusal),
+        Outcome::Served => Moved::At(moved_by_point(map, walker)),
+    }
+}
+
+// Where a query point lies: numbers 1 and 3.
+pub fn place(map: Map, p: Point) -> Placed
+    ensures { λ r. ⌜ Answered (place-call map p) r ⌝ }
+{
+    if !is_sound(map) {
+        return Placed::Refused(Refusal::NotSound);
+    }
+    if !in_range(p) {
+        return Placed::Refused(Refusal::OutOfRange);
+    }
+    placed(map, p)
+}
+
+// The corners in listing order, written into a lent list: numbers 1 and 10. A longer list keeps its tail,
+// and a refused call writes nothing.
+pub fn list_corners(map: Map, lent: &mut [usize]) -> Written
+    ensures { λ r. ⌜ Wrote (unsound map ∷ []) (corners map) (now (lent .entry)) (now (lent .exit)) r ⌝ }
+{
+    if !is_sound(map) {
+        return Written::Refused(Refusal::NotSound);
+    }
+    let list = corners_of(map);
+    let count = list.count;
+    if lent.len() < count {
+        return Written::Refused(Refusal::ShortList);
+    }
+    write_corners(list, lent);
+    Written::Length(count)
+}

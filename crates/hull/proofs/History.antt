@@ -1,7 +1,7 @@
 -- Demand 3 as one theorem: after every list of offers from the empty map all of its claims hold
 -- (`always-balanced`). What every offer keeps is the record `Invariant`; from it follow the claims, by the
 -- laws of sound maps. In the order of this page: the invariant; the start; one accepted offer; one offer;
--- the list; the claims. Assumes nothing.
+-- the list; the claims; a refused offer. Assumes nothing.
 use mathlib.Core.Path.{_≡_, refl, sym, ap, subst, _∙_}
 use mathlib.Core.Logic.{_≢_, ⊎-elim}
 use mathlib.Core.Bool.{Bool, cond}
@@ -10,7 +10,7 @@ use Prim.Native.Nat.{ℕ, suc, _+_, _*_, _≤_, _<_}
 use native.Mathlib.Omega.{arith}
 use lib.Dec.{T, ltb, lt→ltb}
 use lib.ListN.{length}
-use Rattle.finite.specs.Tests.{is-true, same-or-not}
+use Rattle.finite.specs.Tests.{is-true, is-false, same-or-not}
 use Rattle.finite.specs.Bounded.{one-if, table, table-onto, table-more, table-same, lt-or-ge}
 use Rattle.finite.specs.Lists.{elem, distinct, count-in, total, total-append}
 use Rattle.model.specs.declared.Point.{Point}
@@ -24,12 +24,12 @@ use Rattle.model.specs.Offers.{offer}
 use Rattle.model.specs.History.{Entry, Run, is-accepted, extended, run-from, run, offered-point, reported, reported-edges, edges-seen, is-outside, outside-arrivals, Balanced}
 use Rattle.maps.proofs.Darts.{point-twice}
 use Rattle.maps.proofs.Links.{counts-balance}
-use Rattle.maps.proofs.Outline.{outline-circuit, corners-on-it}
+use Rattle.maps.proofs.Outline.{outline-circuit, outline-next, corners-on-it}
 use Rattle.maps.proofs.Points.{point-new, point-old}
 use Rattle.maps.proofs.Empty.{empty-sound}
 use Rattle.maps.proofs.Alone.{alone-outline}
 use Rattle.maps.proofs.Pair.{pair-outline}
-use Rattle.hull.proofs.Outcomes.{Accepted, Decided, accepted, refused, Arrives, first, second, inside, outside, arrive-arrives, arrival-accepted, offer-decided}
+use Rattle.hull.proofs.Outcomes.{Accepted, Decided, accepted, refused, Arrives, first, second, inside, outside, arrive-arrives, arrival-accepted, offer-decided, refused-keeps}
 use Rattle.hull.proofs.Arrivals.{sound-convex, arrival-sound, outside-balance}
 
 -- what the visible edges reported come to
@@ -235,29 +235,41 @@ run-sound ps = invariant-run ps .is-sound
 
 -- ---- the claims
 
+-- an outline that has a member is one of two points or more
+outline-two : (m : Map) (a : ℕ) → T (elem a (outline m)) → 2 ≤ m .count
+unfolding elem
+outline-two m a on =
+    ⊎-elim
+    (λ (few : m .count < 2). absurd (subst (λ (t : List ℕ). T (elem a t)) (few-outline m few) on))
+    (λ (two : 2 ≤ m .count). two)
+    (lt-or-ge (m .count) 2)
+
 invariant-balanced : (r : Run) → Invariant r → Balanced r
-unfolding elem distinct
+unfolding distinct
 invariant-balanced r k =
     let s = k .is-sound in
+    let two = outline-two (r .map) in
     record {
       edge-undoes-itself = s .links .undone;
       point-undoes-itself = point-twice (r .map);
       same-points = k .same-points;
       counts-balance = counts-balance s;
       one-closed-walk = λ two. s .outlined two .one-walk;
+      reference-own = λ two. s .outlined two .reference-own;
+      reference-present = λ two. s .outlined two .reference-present;
       outline-is-it = λ two. s .outlined two .reference-closed;
-      corners-on-it = λ two j h. corners-on-it s two j;
+      corners-on-it = λ two j. (
+        λ on. (outline-circuit s two .below j on, corners-on-it s two j .0 on),
+        λ h. corners-on-it s two j .1 (h .1),
+      );
       corners-distinct =
           ⊎-elim
           (λ (few : r .map .count < 2). subst (λ (t : List ℕ). T (distinct t)) (sym (few-outline (r .map) few)) tt)
           (λ (two : 2 ≤ r .map .count). outline-circuit s two .all-distinct)
           (lt-or-ge (r .map .count) 2);
-      others-strictly-left =
-          λ a c on.
-          ⊎-elim
-          (λ (few : r .map .count < 2). absurd (subst (λ (t : List ℕ). T (elem a t)) (few-outline (r .map) few) on))
-          (λ (two : 2 ≤ r .map .count). sound-convex s two .left a c on)
-          (lt-or-ge (r .map .count) 2);
+      next-is-corner = λ a on. outline-next s (two a on) a on .1;
+      edge-to-next = λ a on. outline-next s (two a on) a on .0;
+      others-strictly-left = λ a c on. sound-convex s (two a on) .left a c on;
       reports-right = k .reports;
       arrivals-balance = k .balance;
     }
@@ -265,3 +277,11 @@ invariant-balanced r k =
 -- demand 3
 pub always-balanced : (ps : List Point) → Balanced (run ps)
 always-balanced ps = invariant-balanced (run ps) (invariant-run ps)
+
+-- "A refused offer, whatever its number, leaves the map as it was for the next one", and "adds nothing"
+-- to the history
+pub refused-adds-nothing : (r : Run) (p : Point) → ¬ T (is-accepted (offer (r .map) p .arrival)) → extended r p ≡ r
+unfolding extended
+refused-adds-nothing r p n =
+    rw (is-false (is-accepted (offer (r .map) p .arrival)) n)
+    (λ i. record { map = refused-keeps (r .map) p n i; history = r .history })

@@ -1,6 +1,7 @@
 -- Offers, and what is proved about every list of them. Nothing is assumed.
 --     Outcomes    an offer is accepted or refused, and by which condition
 --     Arrivals    an arrival leaves a sound map
+--     Changes     "Nothing else changes": `offer-changes`
 --     History     demand 3: `always-balanced`
 --     Theorems    what holds of offers and outlines, each under one name
 --     Indices     what the code takes for an index lies within its array
@@ -8,6 +9,7 @@
 --     Cases       from the answer that the code makes to the definition, case by case
 pub mod Outcomes
 pub mod Arrivals
+pub mod Changes
 pub mod History
 pub mod Theorems
 pub mod Indices

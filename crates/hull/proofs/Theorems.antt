@@ -1,5 +1,5 @@
 -- What holds of offers and outlines, each under one name, in the order of this page: an offer keeps a
--- map sound; the corners of an outside point; the links after an arrival; the outline is the hull.
+-- map sound; what an offer changes; the corners of an outside point; the outline is the hull.
 -- Demand 3 is proofs/History: `always-balanced`. The proofs are in the pages that are cited.
 -- Assumes nothing.
 use mathlib.Core.Path.{_≡_}
@@ -12,23 +12,28 @@ use Rattle.model.specs.declared.Map.{Map}
 use Rattle.model.specs.Maps.{point}
 use Rattle.model.specs.Outline.{next-corner, previous-corner, outline, sees, visible-edges}
 use Rattle.model.specs.Sound.{sound, Sound}
-use Rattle.model.specs.Arrival.{left-corner, right-corner, spliced}
+use Rattle.model.specs.Arrival.{left-corner, right-corner}
 use Rattle.model.specs.Offers.{offer}
+use Rattle.model.specs.Changes.{Changes}
 use Rattle.model.proofs.Sound.{sound-holds, sound-by}
 use Rattle.plane.proofs.Convex.{some-hidden}
 use Rattle.plane.proofs.Corners.{LeftCorner, RightCorner, left-corner-unique, right-corner-unique}
 use Rattle.plane.proofs.Hull.{Supports}
 use Rattle.plane.proofs.Hull as plane-hull
-use Rattle.maps.proofs.Outline.{outline-circuit}
-use Rattle.maps.proofs.Splice.{Splices}
-use Rattle.maps.proofs.Spliced.{spliced-splices}
 use Rattle.hull.proofs.Outcomes.{Accepted}
 use Rattle.hull.proofs.Arrivals.{sound-convex, offer-sound, left-is, right-is}
+use Rattle.hull.proofs.Changes.{offer-changes}
 
 -- ---- an offer keeps a map sound; a refused one gives the same map: Outcomes.`refused-keeps`
 
 pub sound-kept : (m : Map) (p : Point) → T (sound m) → T (sound (offer m p .map))
 sound-kept m p t = sound-by (offer m p .map) (offer-sound m p (sound-holds m t))
+
+-- ---- what an offer changes, at every place of the map; and no other sound map has these changes:
+-- Changes.`grown-only`
+
+pub nothing-else-changes : (m : Map) (p : Point) → Changes m p (offer m p .arrival) (offer m p .map)
+nothing-else-changes = offer-changes
 
 -- ---- where an edge is visible there is one left corner and one right, and some edge is hidden
 
@@ -42,13 +47,6 @@ module _ {m : Map} {p : Point} (a : Accepted m p) (two : 2 ≤ m .count) (some :
   unfolding sees
   right-corner-only c r =
       right-corner-unique (sound-convex (a .is-sound) two) p (a .general) c (right-corner m p) r (right-is a two some)
-
-  -- how the links after an outside arrival differ from those before: just as the document names it
-  pub outside-links : Splices m (spliced m p (left-corner m p) (right-corner m p)) (left-corner m p) (right-corner m p)
-  outside-links =
-      let helped = outline-circuit (a .is-sound) two .helped in
-      spliced-splices (a .is-sound) (a .room) p (left-corner m p) (right-corner m p)
-      (helped (left-corner m p) (left-is a two some .member)) (helped (right-corner m p) (right-is a two some .member))
 
 pub not-all-visible : {m : Map} → Sound m → 2 ≤ m .count → (p : Point) →
     (c : ℕ) × T (elem c (outline m)) × ¬ T (sees m p c)

@@ -6,13 +6,14 @@
 --     Circuits     lists of points round which edges lead
 --     Outline      the outline is the one circuit that is a closed walk
 --     Soundness    what makes a map sound, with an outline and without
+--     Same         two sound maps that agree at every place are the same
 --     Points       a map with one point more: its points
 --     Alone        a point that arrives alone: first, inside
 --     Splice       a circuit after a splice, over any two maps that differ so
 --     Edges        what `cut` and `join` change
 --     Spliced      an outside arrival is a splice, and leaves a sound map
 --     Pair         the second point
---     Empty        the empty map is sound
+--     Empty        the empty map is the sound map without points
 pub mod Checked
 pub mod Darts
 pub mod Links
@@ -20,6 +21,7 @@ pub mod Tables
 pub mod Circuits
 pub mod Outline
 pub mod Soundness
+pub mod Same
 pub mod Points
 pub mod Alone
 pub mod Splice

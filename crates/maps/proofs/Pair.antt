@@ -29,13 +29,13 @@ use Rattle.maps.proofs.Points.{with-point-sound}
 use Rattle.maps.proofs.Splice.{Splices, splice-links, splice-next-left, splice-next-new}
 
 -- with fewer than two points every dart is fixed
-all-fixed : {m : Map} → Sound m → m .count < 2 → (d : ℕ) → edge-link m d ≡ d
+pub all-fixed : {m : Map} → Sound m → m .count < 2 → (d : ℕ) → edge-link m d ≡ d
 all-fixed {m} s few =
     each-dart (λ d. edge-link m d ≡ d) (λ k. s .links .lone k (s .bare few .no-helper k))
     (λ k. s .links .absent (helper k) (λ t. s .bare few .no-helper k (present-helper m k t)))
 
 -- the helpers of points 0 and 1
-pair-helper : {m : Map} (p : Point) → Sound m → (j : ℕ) → j < 2 → T (has-helper (pair m p) j)
+pub pair-helper : {m : Map} (p : Point) → Sound m → (j : ℕ) → j < 2 → T (has-helper (pair m p) j)
 unfolding pair with-point has-helper
 pair-helper {m} p s j h =
     of-true (has-helper (pair m p) j)
@@ -51,7 +51,7 @@ pair-helper {m} p s j h =
     (same-or-not j 1))
 
 -- and no other
-pair-owned : {m : Map} (p : Point) → Sound m → m .count ≡ 1 → (j : ℕ) → T (has-helper (pair m p) j) → j < 2
+pub pair-owned : {m : Map} (p : Point) → Sound m → m .count ≡ 1 → (j : ℕ) → T (has-helper (pair m p) j) → j < 2
 unfolding pair with-point has-helper
 pair-owned {m} p s one j t =
     ⊎-elim (λ (e : j ≡ 1). omega arith)

@@ -18,7 +18,7 @@ use Rattle.model.specs.declared.Point.{Point}
 use Rattle.model.specs.declared.Map.{Map}
 use Rattle.model.specs.declared.Arrival.{Arrival}
 use Rattle.model.specs.Plane.{left-of}
-use Rattle.model.specs.Maps.{own, point, is-present, edge-link, point-link, dart-bound, empty-map}
+use Rattle.model.specs.Maps.{own, helper, is-own, point, is-present, edge-link, point-link, dart-bound, empty-map}
 use Rattle.model.specs.Outline.{next-corner, outline, visible-edges}
 use Rattle.model.specs.Reading.{darts, number-of}
 use Rattle.model.specs.Offers.{offer}
@@ -99,20 +99,30 @@ pub record Balanced (r : Run) : Type 0 where
   pub counts-balance :
       number-of (r .map) Kind.Vertex + number-of (r .map) Kind.Edge + number-of (r .map) Kind.Face ≡
       darts (r .map) + 2 * number-of (r .map) Kind.Part
-  -- "One closed walk means that just one exists, and it is the outline. The corners are the points
-  -- whose own darts lie on it."
+  -- "One closed walk means that just one exists, and it is the outline": the reference is a present own
+  -- dart, and its connected part is closed
   pub one-closed-walk :
       2 ≤ r .map .count →
       closed-walks (edge-link (r .map)) (point-link (r .map)) (dart-bound (r .map)) (is-present (r .map)) ≡ 1
+  pub reference-own : 2 ≤ r .map .count → T (is-own (r .map .reference))
+  pub reference-present : 2 ≤ r .map .count → T (is-present (r .map) (r .map .reference))
   pub outline-is-it :
       2 ≤ r .map .count →
       T (is-closed (edge-link (r .map)) (point-link (r .map)) (dart-bound (r .map)) (r .map .reference))
+  -- "The corners are the points whose own darts lie on it": no number stands in the outline that is no
+  -- point, and each corner stands there just once, so that its length is the number of corners
   pub corners-on-it :
-      2 ≤ r .map .count → (k : ℕ) → k < r .map .count →
+      2 ≤ r .map .count → (k : ℕ) →
       T (elem k (outline (r .map))) ↔
-      Reach (by-two (edge-link (r .map)) (point-link (r .map))) (r .map .reference) (own k)
-  -- each corner stands once in the outline, so that its length is the number of corners
+      ((k < r .map .count) × Reach (by-two (edge-link (r .map)) (point-link (r .map))) (r .map .reference) (own k))
   pub corners-distinct : T (distinct (outline (r .map)))
+  -- the edge from a corner to the next one, which is a corner too, links the own dart of the first with
+  -- the helper of the other
+  pub next-is-corner :
+      (a : ℕ) → T (elem a (outline (r .map))) → T (elem (next-corner (r .map) a) (outline (r .map)))
+  pub edge-to-next :
+      (a : ℕ) → T (elem a (outline (r .map))) →
+      edge-link (r .map) (own a) ≡ helper (next-corner (r .map) a)
   -- "Strictly left of the edge from corner a to corner b means positive orientation with (a, b)."
   pub others-strictly-left :
       (a c : ℕ) → T (elem a (outline (r .map))) → c < r .map .count → c ≢ a → c ≢ next-corner (r .map) a →

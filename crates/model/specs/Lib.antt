@@ -10,6 +10,7 @@
 --     Reading      orbits, counts, walks, the walker
 --     Arrival      a point offered to a sound map, and the map after it
 --     Offers       a point offered to any map
+--     Changes      what an offer changes, place by place
 --     History      a list of offers; demand 3 as one record
 --     Placing      where a query point lies
 --     Lent         results written into a lent list
@@ -28,6 +29,7 @@ pub mod Sound
 pub mod Reading
 pub mod Arrival
 pub mod Offers
+pub mod Changes
 pub mod History
 pub mod Placing
 pub mod Lent

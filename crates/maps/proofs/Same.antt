@@ -1,0 +1,47 @@
+-- Two sound maps that agree at every place are the same map: arrays of the declared length are fixed by
+-- what stands at each place. Assumes nothing.
+use mathlib.Core.Path.{_≡_, sym, ap, _∙_}
+use mathlib.Core.Bool.{false}
+use mathlib.Core.List.{List}
+use Prim.Native.Nat.{ℕ}
+use native.Mathlib.Omega.{arith}
+use lib.IntN.{pos}
+use lib.ListN.{length}
+use lib.Seq.{ext-getD}
+use Rattle.finite.specs.Lists.{getD-any}
+use Rattle.orbits.specs.Links.{link-of}
+use Rattle.model.specs.declared.Point.{Point}
+use Rattle.model.specs.declared.Map.{Map}
+use Rattle.model.specs.Maps.{point, has-helper, edge-link}
+use Rattle.model.specs.Sound.{Sound}
+
+-- lists of links that lead alike are the same
+same-links : (s t : List ℕ) → length s ≡ length t → ((d : ℕ) → link-of s d ≡ link-of t d) → s ≡ t
+same-links s t e alike =
+    ext-getD 0 s t e (λ d h. getD-any s d 0 d h ∙ (alike d ∙ getD-any t d d 0 (omega arith)))
+
+pub same-map : {m n : Map} → Sound m → Sound n → m .count ≡ n .count → ((k : ℕ) → point m k ≡ point n k) →
+    ((k : ℕ) → has-helper m k ≡ has-helper n k) → ((d : ℕ) → edge-link m d ≡ edge-link n d) →
+    m .reference ≡ n .reference → m ≡ n
+unfolding point has-helper edge-link
+same-map {m} {n} s t count points helped linked reference =
+    let xs : m .xs ≡ n .xs =
+    ext-getD (pos 0) (m .xs) (n .xs) (s .points .xs-whole ∙ sym (t .points .xs-whole))
+    (λ k h. ap (λ (p : Point). p .x) (points k)) in
+    let ys : m .ys ≡ n .ys =
+    ext-getD (pos 0) (m .ys) (n .ys) (s .points .ys-whole ∙ sym (t .points .ys-whole))
+    (λ k h. ap (λ (p : Point). p .y) (points k)) in
+    let helpers : m .helpers ≡ n .helpers =
+    ext-getD false (m .helpers) (n .helpers) (s .links .helpers-whole ∙ sym (t .links .helpers-whole))
+    (λ k h. helped k) in
+    let edge : m .edge ≡ n .edge =
+    same-links (m .edge) (n .edge) (s .links .edge-whole ∙ sym (t .links .edge-whole)) linked in
+    λ i.
+    record {
+      xs = xs i;
+      ys = ys i;
+      helpers = helpers i;
+      edge = edge i;
+      count = count i;
+      reference = reference i;
+    }

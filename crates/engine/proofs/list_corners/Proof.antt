@@ -6,6 +6,7 @@ use mathlib.Core.List.{[], _∷_}
 use native.Mathlib.Omega.{arith}
 use borrow.Author.Tests.{lt-ltb, le-ltb}
 use denote.Ref.{now}
+use lib.ListN.{length}
 use Rattle.model.specs.declared.Refusal.{Refusal}
 use Rattle.model.specs.declared.Written.{Written}
 use Rattle.model.specs.Outline.{corners}
@@ -35,7 +36,7 @@ returns-2 c =
     let s = d .before .before .before .args in
     wrote-nothing (unsound (s .map) ∷ []) (corners (s .map)) (now (s .lent)) Refusal.ShortList
     (rule-passes Written.Refused _ _ _ (tested (d .before .is-sound .ensures) (d .if1 .left))
-    (rule-applies Written.Refused _ _ _ (lt-ltb _ _ (omega (arith, c .before .corners-of .ensures .number, c .if2 .taken)))))
+    (rule-applies Written.Refused _ _ _ (lt-ltb (length (now (s .lent))) (length (corners (s .map))) (omega (arith, c .before .corners-of .ensures .number, c .if2 .taken)))))
 
 write-corners-requires : tie.Need-write-corners-requires
 write-corners-requires c κs = search needs
@@ -52,7 +53,7 @@ returns-3 c =
     let s = d .before .before .before .args in
     wrote-result (unsound (s .map) ∷ []) (corners (s .map)) (now (s .lent)) _ _ (lists .number)
     (rule-passes Written.Refused _ _ _ (tested (d .before .is-sound .ensures) (d .if1 .left))
-    (rule-passes Written.Refused _ _ _ (le-ltb _ _ (omega (arith, lists .number, room .if2 .left))) (no-rule Written.Refused _)))
+    (rule-passes Written.Refused _ _ _ (le-ltb (length (now (s .lent))) (length (corners (s .map))) (omega (arith, lists .number, room .if2 .left))) (no-rule Written.Refused _)))
     (w .write-corners .ensures ∙ corners-written lists (now (s .lent)))
 
 pub list-corners-spec : {M : Type 1} → statement M

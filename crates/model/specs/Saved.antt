@@ -1,12 +1,12 @@
--- The saved form, in the order of this page: numbers in bytes and back; the bytes of a map; a file
--- in form; the map of a file; loading.
+-- The saved form, in the order of this page: bytes; numbers in bytes and back; blocks of fields;
+-- the layout; the bytes of a map; a file in form; the map of a file; loading and saving.
 -- Document 01, "Saved form": "Big-endian: 4 bytes, the length of all that follows; version byte 1;
 -- 2 bytes, the number of points n; 2 bytes reference; n pairs x, y in 4 bytes each, two's
 -- complement; n helper bytes, 0 or 1; 2n edge links of 2 bytes. The whole is 9 + 13 × n bytes."
 -- Assumes nothing.
-use mathlib.Core.Bool.{Bool, not, cond, _&&_}
+use mathlib.Core.Bool.{Bool, false, not, cond, _&&_}
 use mathlib.Core.List.{List, [], _∷_, _++_, flatten}
-use Prim.Native.Nat.{ℕ, zero, suc, _+_, _-_, _*_, _/_, _%_, _^_}
+use Prim.Native.Nat.{ℕ, zero, suc, _+_, _-_, _*_, _/_, _%_, _^_, _<_}
 use lib.Dec.{ltb, leb, eqb}
 use lib.IntN.{ℤ, pos, negsuc}
 use lib.ListN.{length, getD}
@@ -27,15 +27,19 @@ use Rattle.model.specs.Lent.{written}
 abbrev pub version : ℕ
 version = 1
 
--- the last k bytes of n, highest first
-unfoldable pub big-endian : ℕ → ℕ → List ℕ
-big-endian zero n = []
-big-endian (suc k) n = n / 256 ^ k % 256 ∷ big-endian k n
+-- a list of bytes: past its end stands 0, a byte too
+pub record Bytes (s : List ℕ) : Type 0 where
+  pub small : (i : ℕ) → getD s i 0 < 256
 
--- the number in the k bytes from place i
+-- the last w bytes of v, highest first
+unfoldable pub big-endian : ℕ → ℕ → List ℕ
+big-endian zero v = []
+big-endian (suc w) v = v / 256 ^ w % 256 ∷ big-endian w v
+
+-- the number in the w bytes from a place on
 unfoldable pub number-at : List ℕ → ℕ → ℕ → ℕ
-number-at s i zero = 0
-number-at s i (suc k) = number-at s i k * 256 + getD s (i + k) 0
+number-at s at zero = 0
+number-at s at (suc w) = number-at s at w * 256 + getD s (at + w) 0
 
 -- two's complement in 4 bytes, and back
 unfoldable pub complement : ℤ → ℕ
@@ -45,55 +49,117 @@ complement (negsuc n) = 2 ^ 32 - suc n
 unfoldable pub signed : ℕ → ℤ
 signed n = cond (ltb n (2 ^ 31)) (pos n) (negsuc (2 ^ 32 - suc n))
 
--- where each field stands in a file of n points
-abbrev pub point-place : ℕ → ℕ
-point-place k = 9 + 8 * k
+-- a block of k fields of w bytes each: f i stands in field i
+unfoldable pub block : ℕ → ℕ → (ℕ → ℕ) → List ℕ
+block k w f = flatten (table k (λ i. big-endian w (f i)))
 
-abbrev pub helper-place : ℕ → ℕ → ℕ
-helper-place n k = 9 + 8 * n + k
+-- field i of the block of fields of w bytes that begins at a place
+abbrev pub field : List ℕ → ℕ → ℕ → ℕ → ℕ
+field s at w i = number-at s (at + w * i) w
 
-abbrev pub edge-place : ℕ → ℕ → ℕ
-edge-place n d = 9 + 9 * n + 2 * d
+-- where the numbers of the header stand, and how long it is: "4 bytes, the length of all that
+-- follows; version byte 1; 2 bytes, the number of points n; 2 bytes reference"
+abbrev pub version-place : ℕ
+version-place = 4
 
--- the whole, in bytes
+abbrev pub count-place : ℕ
+count-place = 5
+
+abbrev pub reference-place : ℕ
+reference-place = 7
+
+abbrev pub header-length : ℕ
+header-length = 9
+
+-- where the blocks begin in a file of n points: "n pairs x, y in 4 bytes each; n helper bytes; 2n
+-- edge links of 2 bytes"
+abbrev pub coordinates-place : ℕ
+coordinates-place = header-length
+
+abbrev pub helpers-place : ℕ → ℕ
+helpers-place n = header-length + 8 * n
+
+abbrev pub links-place : ℕ → ℕ
+links-place n = header-length + 9 * n
+
+-- "The whole is 9 + 13 × n bytes"
 abbrev pub saved-length : ℕ → ℕ
-saved-length n = 9 + 13 * n
+saved-length n = header-length + 13 * n
+
+-- the length of all that follows the length
+abbrev pub following : ℕ → ℕ
+following n = saved-length n - version-place
+
+-- coordinate 2k is x of point k, coordinate 2k + 1 its y
+unfoldable pub coordinate : Map → ℕ → ℤ
+coordinate m i = cond (eqb (i % 2) 0) (point m (i / 2) .x) (point m (i / 2) .y)
+
+-- the header of a map of n points with reference r
+unfoldable pub header : ℕ → ℕ → List ℕ
+header n r =
+    big-endian 4 (following n) ++ big-endian 1 version ++ big-endian 2 n ++ big-endian 2 r
 
 -- the bytes of a map
 unfoldable pub saved : Map → List ℕ
 saved m =
     let n = m .count in
-    big-endian 4 (saved-length n - 4) ++ version ∷ big-endian 2 n ++ big-endian 2 (m .reference)
-    ++ flatten
-    (table n (λ k. big-endian 4 (complement (point m k .x)) ++ big-endian 4 (complement (point m k .y))))
-    ++ table n (λ k. one-if (has-helper m k))
-    ++ flatten (table (own n) (λ d. big-endian 2 (edge-link m d)))
+    header n (m .reference) ++ block (2 * n) 4 (λ i. complement (coordinate m i))
+    ++ block n 1 (λ k. one-if (has-helper m k))
+    ++ block (2 * n) 2 (edge-link m)
 
 -- "2 bytes, the number of points n"
-abbrev pub points-in : List ℕ → ℕ
-points-in s = number-at s 5 2
+abbrev pub count-in-file : List ℕ → ℕ
+count-in-file s = number-at s count-place 2
+
+-- what stands in a file of n points: coordinate i, the helper byte of point k, the edge link of
+-- dart d
+abbrev pub coordinate-in-file : List ℕ → ℕ → ℤ
+coordinate-in-file s i = signed (field s coordinates-place 4 i)
+
+abbrev pub helper-in-file : List ℕ → ℕ → ℕ → ℕ
+helper-in-file s n k = field s (helpers-place n) 1 k
+
+abbrev pub link-in-file : List ℕ → ℕ → ℕ → ℕ
+link-in-file s n d = field s (links-place n) 2 d
 
 -- not number 7: "file under 9 bytes, length not matching n and the bytes lent, n above 512, version
 -- not 1, or helper byte above 1"
 unfoldable pub file-in-form : List ℕ → Bool
 file-in-form s =
-    leb 9 (length s) && leb (points-in s) point-limit
-    && eqb (length s) (saved-length (points-in s))
-    && eqb (number-at s 0 4 + 4) (length s)
-    && eqb (getD s 4 0) version
-    && all (points-in s) (λ k. leb (getD s (helper-place (points-in s) k) 0) 1)
+    let n = count-in-file s in
+    leb header-length (length s) && leb n point-limit && eqb (length s) (saved-length n)
+    && eqb (number-at s 0 4) (following n)
+    && eqb (number-at s version-place 1) version
+    && all n (λ k. leb (helper-in-file s n k) 1)
+
+-- f before n, and g from n on
+abbrev pub until : {A : Type 0} → ℕ → (ℕ → A) → (ℕ → A) → ℕ → A
+until n f g k = cond (ltb k n) (f k) (g k)
+
+-- the arrays of a file of n points: the coordinates in direction d, 0 for x and 1 for y; which
+-- points have helpers; the edge links. A place without a point holds 0, 0 and no helper, and a dart
+-- without a point is left where it is.
+abbrev pub coordinates-in-file : List ℕ → ℕ → ℕ → List ℤ
+coordinates-in-file s n d =
+    table point-limit (until n (λ k. coordinate-in-file s (2 * k + d)) (λ k. pos 0))
+
+abbrev pub helpers-in-file : List ℕ → ℕ → List Bool
+helpers-in-file s n = table point-limit (until n (λ k. eqb (helper-in-file s n k) 1) (λ k. false))
+
+abbrev pub links-in-file : List ℕ → ℕ → List ℕ
+links-in-file s n = table dart-limit (until (own n) (link-in-file s n) (λ d. d))
 
 -- the map whose fields stand in the file
 unfoldable pub map-in : List ℕ → Map
 map-in s =
-    let n = points-in s in
+    let n = count-in-file s in
     record {
-      xs = table point-limit (λ k. cond (ltb k n) (signed (number-at s (point-place k) 4)) (pos 0));
-      ys = table point-limit (λ k. cond (ltb k n) (signed (number-at s (point-place k + 4) 4)) (pos 0));
-      helpers = table point-limit (λ k. ltb k n && eqb (getD s (helper-place n k) 0) 1);
-      edge = table dart-limit (λ d. cond (ltb d (own n)) (number-at s (edge-place n d) 2) d);
+      xs = coordinates-in-file s n 0;
+      ys = coordinates-in-file s n 1;
+      helpers = helpers-in-file s n;
+      edge = links-in-file s n;
       count = n;
-      reference = number-at s 7 2;
+      reference = number-at s reference-place 2;
     }
 
 -- "loading looks at 7 before 1"

@@ -1,0 +1,96 @@
+-- Files in form: what the test tells and what it wants; how the code finds its answer; and when two
+-- maps are equal.
+-- Document 01, number 7: "file under 9 bytes, length not matching n and the bytes lent, n above
+-- 512, version not 1, or helper byte above 1". Assumes nothing.
+use mathlib.Core.Path.{_≡_, sym}
+use mathlib.Core.Bool.{false}
+use mathlib.Core.List.{List}
+use Prim.Native.Nat.{ℕ, _≤_, _<_}
+use native.Mathlib.Omega.{arith}
+use lib.Dec.{T, leb, eqb, eqb→eq, leb→le, le→leb}
+use lib.ListN.{length}
+use Rattle.finite.specs.Tests.{and-left, and-right, and-both, is-false, equal-by, same-test}
+use Rattle.finite.specs.Bounded.{all, all-at, all-by}
+use Rattle.model.specs.declared.Map.{Map}
+use Rattle.model.specs.Maps.{point-limit}
+use Rattle.model.specs.Saved.{version, number-at, version-place, header-length, saved-length}
+use Rattle.model.specs.Saved.{following}
+use Rattle.model.specs.Saved.{count-in-file, helper-in-file, file-in-form}
+
+-- what a file in form has
+pub record Form (s : List ℕ) : Type 0 where
+  pub few : count-in-file s ≤ point-limit
+  pub whole : length s ≡ saved-length (count-in-file s)
+  pub length-right : number-at s 0 4 ≡ following (count-in-file s)
+  pub version-right : number-at s version-place 1 ≡ version
+  pub helpers-right : (k : ℕ) → k < count-in-file s → helper-in-file s (count-in-file s) k ≤ 1
+
+pub form-holds : (s : List ℕ) → T (file-in-form s) → Form s
+unfolding file-in-form
+form-holds s t =
+    record {
+      few = leb→le (count-in-file s) point-limit (search (and-left, and-right));
+      whole = eqb→eq (length s) (saved-length (count-in-file s)) (search (and-left, and-right));
+      length-right =
+          eqb→eq (number-at s 0 4) (following (count-in-file s)) (search (and-left, and-right));
+      version-right = eqb→eq (number-at s version-place 1) version (search (and-left, and-right));
+      helpers-right =
+          λ k l.
+          leb→le (helper-in-file s (count-in-file s) k) 1
+          (all-at (count-in-file s) (λ j. leb (helper-in-file s (count-in-file s) j) 1)
+          (search (and-left, and-right)) k l);
+    }
+
+pub form-by : (s : List ℕ) → Form s → T (file-in-form s)
+unfolding file-in-form
+form-by s f =
+    let w = f .whole in
+    let n = count-in-file s in
+    let long : T (leb header-length (length s)) = le→leb header-length (length s) (omega arith) in
+    let few : T (leb (count-in-file s) point-limit) =
+    le→leb (count-in-file s) point-limit (f .few) in
+    let whole : T (eqb (length s) (saved-length (count-in-file s))) =
+    equal-by (length s) (saved-length (count-in-file s)) w in
+    let length-right : T (eqb (number-at s 0 4) (following (count-in-file s))) =
+    equal-by (number-at s 0 4) (following (count-in-file s)) (f .length-right) in
+    let version-right : T (eqb (number-at s version-place 1) version) =
+    equal-by (number-at s version-place 1) version (f .version-right) in
+    let helpers-right :
+    T (all (count-in-file s) (λ k. leb (helper-in-file s (count-in-file s) k) 1)) =
+    all-by (count-in-file s) (λ k. leb (helper-in-file s (count-in-file s) k) 1)
+    (λ k l. le→leb (helper-in-file s (count-in-file s) k) 1 (f .helpers-right k l)) in
+    search and-both
+
+-- no form, no file in form
+pub not-in-form : (s : List ℕ) → (Form s → ⊥) → false ≡ file-in-form s
+not-in-form s n = sym (is-false (file-in-form s) (λ t. n (form-holds s t)))
+
+-- with all else in form, the helper bytes decide
+pub helpers-decide : (s : List ℕ) → count-in-file s ≤ point-limit →
+    length s ≡ saved-length (count-in-file s) →
+    number-at s 0 4 ≡ following (count-in-file s) → number-at s version-place 1 ≡ version →
+    all (count-in-file s) (λ k. leb (helper-in-file s (count-in-file s) k) 1) ≡ file-in-form s
+helpers-decide s few whole l v =
+    same-test (all (count-in-file s) (λ k. leb (helper-in-file s (count-in-file s) k) 1))
+    (file-in-form s)
+    (λ t.
+    form-by s
+    (record {
+      few = few;
+      whole = whole;
+      length-right = l;
+      version-right = v;
+      helpers-right =
+          λ k b. leb→le (helper-in-file s (count-in-file s) k) 1
+          (all-at (count-in-file s) (λ j. leb (helper-in-file s (count-in-file s) j) 1) t k b);
+    }))
+    (λ t.
+    all-by (count-in-file s) (λ k. leb (helper-in-file s (count-in-file s) k) 1)
+    (λ k b. le→leb (helper-in-file s (count-in-file s) k) 1 (form-holds s t .helpers-right k b)))
+
+-- maps with equal fields are equal
+pub same-map : {a b : Map} → a .xs ≡ b .xs → a .ys ≡ b .ys → a .helpers ≡ b .helpers →
+    a .edge ≡ b .edge →
+    a .count ≡ b .count → a .reference ≡ b .reference → a ≡ b
+same-map x y h e c r =
+    λ i. record { xs = x i; ys = y i; helpers = h i; edge = e i; count = c i; reference = r i }

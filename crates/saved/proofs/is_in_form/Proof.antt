@@ -1,0 +1,74 @@
+-- `saved::is_in_form` meets its contract: each test that fails is one of the form's, and with all
+-- others passed the helper bytes decide. Assumes nothing.
+use mathlib.Core.Path.{ap, _∙_}
+use Prim.Native.Nat.{ℕ}
+use native.Mathlib.Omega.{arith}
+use lib.Dec.{leb}
+use Rattle.finite.specs.Bounded.{all}
+use Rattle.model.specs.Saved.{helper-in-file}
+use Rattle.saved.proofs.Form.{not-in-form, helpers-decide}
+use borrow.Author.Needs.{needs}
+use Rattle.saved.proofs.is_in_form.Statement.{statement}
+use Rattle.saved.proofs.is_in_form.Tie as tie
+
+returns : tie.Need-returns
+returns c = not-in-form _ (λ f. omega (arith, f .few, f .whole, f .length-right, f .version-right))
+
+number-at-requires : tie.Need-number-at-requires
+number-at-requires c κs = search needs
+
+returns-2 : tie.Need-returns-2
+returns-2 c =
+    not-in-form _ (λ f. omega (arith, f .few, f .whole, f .length-right, f .version-right))
+
+saved-length-requires : tie.Need-saved-length-requires
+saved-length-requires c κs = search needs
+
+returns-3 : tie.Need-returns-3
+returns-3 c =
+    not-in-form _ (λ f. omega (arith, f .few, f .whole, f .length-right, f .version-right))
+
+number-at-requires-2 : tie.Need-number-at-requires-2
+number-at-requires-2 c κs = search needs
+
+sub-if4 : tie.Need-sub-if4
+sub-if4 c = search needs
+
+returns-4 : tie.Need-returns-4
+returns-4 c =
+    not-in-form _ (λ f. omega (arith, f .few, f .whole, f .length-right, f .version-right))
+
+number-at-requires-3 : tie.Need-number-at-requires-3
+number-at-requires-3 c κs = search needs
+
+returns-5 : tie.Need-returns-5
+returns-5 c =
+    not-in-form _ (λ f. omega (arith, f .few, f .whole, f .length-right, f .version-right))
+
+helpers-in-form-requires : tie.Need-helpers-in-form-requires
+helpers-in-form-requires c κs = search needs
+
+returns-6 : tie.Need-returns-6
+returns-6 c =
+    let n-read = c .before .before .before .before .before .before .before .before in
+    let file = n-read .before .before .before .args .file .now in
+    c .helpers-in-form .ensures
+    ∙ ap (λ (n : ℕ). all n (λ k. leb (helper-in-file file n k) 1)) (n-read .number-at .ensures .0)
+    ∙ helpers-decide file (omega arith) (omega arith) (omega arith) (omega arith)
+
+pub is-in-form-spec : {M : Type 1} → statement M
+is-in-form-spec =
+    tie.close
+    (tie.spec
+    returns
+    number-at-requires
+    returns-2
+    saved-length-requires
+    returns-3
+    number-at-requires-2
+    sub-if4
+    returns-4
+    number-at-requires-3
+    returns-5
+    helpers-in-form-requires
+    returns-6)

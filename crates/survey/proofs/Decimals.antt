@@ -1,0 +1,86 @@
+-- Numbers in decimal, in the order of this page: one digit; one digit more, where there are digits
+-- enough; how many digits there are at most; the same of a number that is spelt. Assumes nothing.
+use mathlib.Core.Path.{_≡_, refl, sym, ap, _∙_}
+use mathlib.Core.Logic.{⊎-elim}
+use mathlib.Core.Bool.{true, false, true≢false}
+use mathlib.Core.List.{List, [], _∷_, _++_}
+use Prim.Native.Nat.{ℕ, zero, suc, _+_, _/_, _%_, _^_, _≤_, _<_}
+use native.Mathlib.Omega.{arith}
+use borrow.Author.Tests.{lt-ltb, le-ltb, ltb-true}
+use lib.IntN.{ℤ, pos, negsuc, natAbs}
+use lib.Signed.{ltZ}
+use lib.ListN.{length, length-append}
+use Rattle.finite.specs.Bounded.{lt-or-ge}
+use Rattle.model.specs.Spelling.{decimal, digit-zero, minus, spelt}
+
+module _ (k n : ℕ) where
+  pub decimal-one : n < 10 → decimal (suc k) n ≡ (digit-zero + n) ∷ []
+  unfolding decimal
+  decimal-one h = rw (lt-ltb n 10 h)
+
+  pub decimal-front : 10 ≤ n → decimal (suc k) n ≡ decimal k (n / 10) ++ (digit-zero + n % 10) ∷ []
+  unfolding decimal
+  decimal-front h = rw (le-ltb n 10 h)
+
+-- a number below 10^k needs no more than k digits
+pub decimal-enough : (k n : ℕ) → n < 10 ^ suc k → decimal (suc (suc k)) n ≡ decimal (suc k) n
+decimal-enough zero n h =
+    let l : n < 10 = h in decimal-one 1 n l ∙ sym (decimal-one 0 n l)
+decimal-enough (suc k) n h =
+    ⊎-elim
+    (λ (l : n < 10). decimal-one (suc (suc k)) n l ∙ sym (decimal-one (suc k) n l))
+    (λ (l : 10 ≤ n).
+    decimal-front (suc (suc k)) n l ∙
+    ap (λ (s : List ℕ). s ++ (digit-zero + n % 10) ∷ []) (decimal-enough k (n / 10) (omega arith)) ∙
+    sym (decimal-front (suc k) n l))
+    (lt-or-ge n 10)
+
+pub decimal-more : (k n : ℕ) → 10 ≤ n → n < 10 ^ suc (suc k) →
+    decimal (suc (suc k)) n ≡ decimal (suc (suc k)) (n / 10) ++ (digit-zero + n % 10) ∷ []
+decimal-more k n h l =
+    decimal-front (suc k) n h ∙
+    ap (λ (s : List ℕ). s ++ (digit-zero + n % 10) ∷ []) (sym (decimal-enough k (n / 10) (omega
+    arith)))
+
+pub decimal-length : (k n : ℕ) → length (decimal k n) ≤ k
+unfolding decimal
+decimal-length zero n = omega arith
+decimal-length (suc k) n =
+    ⊎-elim
+    (λ (l : n < 10). rw (decimal-one k n l) (omega arith))
+    (λ (l : 10 ≤ n).
+    rw (decimal-front k n l, length-append) (omega (arith, decimal-length k (n / 10))))
+    (lt-or-ge n 10)
+
+-- ---- as it is spelt
+
+module _ (n : ℕ) where
+  pub spelt-one : n < 10 → spelt (pos n) ≡ (digit-zero + n) ∷ []
+  unfolding spelt
+  spelt-one h = decimal-one 19 n h
+
+  pub spelt-more : 10 ≤ n → n < 2 ^ 64 → spelt (pos n) ≡ spelt (pos (n / 10)) ++ (digit-zero + n
+      % 10) ∷ []
+  unfolding spelt
+  spelt-more h l = decimal-more 18 n h (omega arith)
+
+  pub length-one : n < 10 → length (spelt (pos n)) ≡ 1
+  length-one h = ap length (spelt-one h)
+
+  pub length-more : 10 ≤ n → n < 2 ^ 64 → length (spelt (pos n)) ≡ length (spelt (pos (n / 10))) + 1
+  length-more h l = ap length (spelt-more h l) ∙ length-append (spelt (pos (n / 10))) _
+
+  pub spelt-length : length (spelt (pos n)) ≤ 20
+  unfolding spelt
+  spelt-length = decimal-length 20 n
+
+-- the sign, and the magnitude
+pub spelt-negative : (z : ℤ) → ltZ z (pos 0) ≡ true → spelt z ≡ minus ∷ spelt (pos (natAbs z))
+unfolding spelt
+spelt-negative (pos n) e = absurd (omega (arith, ltb-true n 0 e))
+spelt-negative (negsuc n) e = refl
+
+pub spelt-plain : (z : ℤ) → ltZ z (pos 0) ≡ false → spelt z ≡ spelt (pos (natAbs z))
+unfolding spelt
+spelt-plain (pos n) e = refl
+spelt-plain (negsuc n) e = absurd (true≢false e)

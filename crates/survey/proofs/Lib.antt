@@ -1,0 +1,13 @@
+pub mod Digits
+pub mod Signs
+pub mod Tests
+pub mod Places
+pub mod Separators
+pub mod Texts
+pub mod Overwriting
+pub mod Decimals
+pub mod Magnitudes
+pub mod Values
+pub mod Printed
+pub mod RoundTrip
+pub mod Reports

@@ -1,0 +1,117 @@
+-- What stands before and after the first of a byte in a list, in the order of this page: both as
+-- parts of the list; what a search from place to place finds; a line as two numbers.
+-- Assumes nothing.
+use mathlib.Core.Path.{_≡_, refl, sym, ap, _∙_}
+use mathlib.Core.Logic.{⊎-elim}
+use mathlib.Core.Bool.{Bool, true, false}
+use mathlib.Core.List.{List, [], _∷_}
+use Prim.Native.Nat.{ℕ, suc, _+_, _-_, _≤_, _<_}
+use native.Mathlib.Numerals.{add-one}
+use native.Mathlib.Omega.{arith}
+use borrow.Author.Tests.{eq-eqb, ne-eqb}
+use lib.ListN.{length, getD, take, drop, drop-of-length-le}
+use lib.Seq.{drop-cons, take-length, slice}
+use Rattle.finite.specs.Tests.{same-or-not}
+use Rattle.finite.specs.Lists.{before, beyond}
+use Rattle.model.specs.Refusals.{unless}
+use Rattle.model.specs.Spelling.{space}
+use Rattle.model.specs.Text.{is-number, line-read}
+use Rattle.survey.specs.Numbers.{named, number-read}
+
+-- the first byte is the one that is sought, or not
+module _ (x y : ℕ) (s : List ℕ) where
+  pub before-found : x ≡ y → before x (y ∷ s) ≡ []
+  unfolding before
+  before-found e = rw (eq-eqb x y e)
+
+  pub before-other : (x ≡ y → ⊥) → before x (y ∷ s) ≡ y ∷ before x s
+  unfolding before
+  before-other n = rw (ne-eqb x y n)
+
+  pub beyond-found : x ≡ y → beyond x (y ∷ s) ≡ s
+  unfolding beyond
+  beyond-found e = rw (eq-eqb x y e)
+
+  pub beyond-other : (x ≡ y → ⊥) → beyond x (y ∷ s) ≡ beyond x s
+  unfolding beyond
+  beyond-other n = rw (ne-eqb x y n)
+
+pub before-part : (x : ℕ) (s : List ℕ) → before x s ≡ take (length (before x s)) s
+unfolding before
+before-part x [] = refl
+before-part x (y ∷ s) =
+    ⊎-elim
+    (λ (e : x ≡ y). rw (before-found x y s e))
+    (λ (n : x ≡ y → ⊥). rw (before-other x y s n) (ap (λ (l : List ℕ). y ∷ l) (before-part x s)))
+    (same-or-not x y)
+
+pub beyond-part : (x : ℕ) (s : List ℕ) → beyond x s ≡ drop (suc (length (before x s))) s
+unfolding before beyond
+beyond-part x [] = refl
+beyond-part x (y ∷ s) =
+    ⊎-elim
+    (λ (e : x ≡ y). rw (beyond-found x y s e, before-found x y s e))
+    (λ (n : x ≡ y → ⊥). rw (beyond-other x y s n, before-other x y s n) (beyond-part x s))
+    (same-or-not x y)
+
+pub before-short : (x : ℕ) (s : List ℕ) → length (before x s) ≤ length s
+unfolding before
+before-short x [] = omega arith
+before-short x (y ∷ s) =
+    ⊎-elim
+    (λ (e : x ≡ y). rw (before-found x y s e) (omega arith))
+    (λ (n : x ≡ y → ⊥). rw (before-other x y s n) (omega (arith, before-short x s)))
+    (same-or-not x y)
+
+-- ---- a search from place `at` on
+
+-- the first x from place `at` on
+abbrev pub first-place : ℕ → List ℕ → ℕ → ℕ
+first-place x s at = at + length (before x (drop at s))
+
+pub place-here : (x : ℕ) (s : List ℕ) (i : ℕ) → i < length s → getD s i 0 ≡ x →
+    first-place x s i ≡ i
+place-here x s i h e =
+    rw (drop-cons s i 0, before-found x (getD s i 0) (drop (suc i) s) (sym e)) (omega arith)
+
+pub place-later : (x : ℕ) (s : List ℕ) (i : ℕ) → i < length s → (getD s i 0 ≡ x → ⊥) →
+    first-place x s (i + 1) ≡ first-place x s i
+place-later x s i h n =
+    rw (
+      drop-cons s i 0 h,
+      before-other x (getD s i 0) (drop (suc i) s) (λ e. n (sym e)),
+      add-one,
+    ) (omega arith)
+
+pub place-past : (x : ℕ) (s : List ℕ) (i : ℕ) → length s ≤ i → first-place x s i ≡ i
+unfolding before
+place-past x s i h = let none : drop i s ≡ [] = drop-of-length-le s h in rw none (omega arith)
+
+-- what stands before and after the place that a search from 0 on finds
+module _ (x : ℕ) (s : List ℕ) (p : ℕ) (found : p ≡ first-place x s 0) where
+  is-length : p ≡ length (before x s)
+  is-length = omega (arith, found)
+
+  pub before-slice : slice 0 p s ≡ before x s
+  before-slice = rw is-length (sym (before-part x s))
+
+  pub beyond-slice : slice (p + 1) (length s) s ≡ beyond x s
+  beyond-slice = rw (add-one, take-length, is-length) (sym (beyond-part x s))
+
+  pub beyond-none : length s ≤ p → beyond x s ≡ []
+  beyond-none h =
+      let past : length s ≤ suc (length (before x s)) = omega (arith, is-length) in
+      beyond-part x s ∙ drop-of-length-le s past
+
+-- ---- a line is two numbers
+
+pub line-is : (s : List ℕ) → line-read s ≡ named (number-read (before space s)) (number-read
+    (beyond space s))
+unfolding line-read unless named number-read
+line-is s = go (is-number (before space s)) (is-number (beyond space s)) refl refl
+  where
+    go : (a b : Bool) → is-number (before space s) ≡ a → is-number (beyond space s) ≡ b →
+        line-read s ≡ named (number-read (before space s)) (number-read (beyond space s))
+    go true true e f = rw (e, f)
+    go true false e f = rw (e, f)
+    go false b e f = rw e

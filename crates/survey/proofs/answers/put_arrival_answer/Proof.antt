@@ -1,0 +1,160 @@
+-- `survey::answers::put_arrival_answer` meets its contract, arrival by arrival. Assumes nothing.
+use mathlib.Core.Path.{ap, _∙_}
+use mathlib.Core.List.{List}
+use Prim.Native.Nat.{ℕ}
+use Rattle.model.specs.declared.Arrival.{Arrival}
+use Rattle.model.specs.Spelling.{bytes}
+use Rattle.model.specs.Answers.{arrival-answer}
+use Rattle.model.specs.Report.{printed}
+use Rattle.survey.proofs.Overwriting.{room-as, wrote-as}
+use Rattle.survey.proofs.Printed.{first-line, second-line, inside-line, outside-line, refused-arrival}
+use borrow.Author.Needs.{needs}
+use Rattle.survey.proofs.answers.put_arrival_answer.Statement.{statement}
+use Rattle.survey.proofs.answers.put_arrival_answer.Tie as tie
+
+enum-told : tie.Need-enum-told
+enum-told c = search needs
+
+slice-aggregate-put-line : tie.Need-slice-aggregate-put-line
+slice-aggregate-put-line c = search needs
+
+abbrev line : Arrival → List ℕ
+line a = printed (arrival-answer a)
+
+put-line-requires : tie.Need-put-line-requires
+unfolding bytes
+put-line-requires c κs =
+    let told = c .before .before in
+    room-as (ap line (told .enum-told .given .1) ∙ first-line) (told .before .before .before .pre)
+
+enum-told-2 : tie.Need-enum-told-2
+enum-told-2 c = search needs
+
+slice-aggregate-put-line-2 : tie.Need-slice-aggregate-put-line-2
+slice-aggregate-put-line-2 c = search needs
+
+put-line-requires-2 : tie.Need-put-line-requires-2
+unfolding bytes
+put-line-requires-2 c κs =
+    let told = c .before .before in
+    room-as (ap line (told .enum-told2 .given .1) ∙ second-line) (told .before .before .before .pre)
+
+enum-told-3 : tie.Need-enum-told-3
+enum-told-3 c = search needs
+
+slice-aggregate-put-line-3 : tie.Need-slice-aggregate-put-line-3
+slice-aggregate-put-line-3 c = search needs
+
+put-line-requires-3 : tie.Need-put-line-requires-3
+unfolding bytes
+put-line-requires-3 c κs =
+    let told = c .before .before in
+    room-as (ap line (told .enum-told3 .given .1) ∙ inside-line) (told .before .before .before .pre)
+
+enum-known-arrival : tie.Need-enum-known-arrival
+enum-known-arrival c = search needs
+
+slice-aggregate-put-answer : tie.Need-slice-aggregate-put-answer
+slice-aggregate-put-answer c = search needs
+
+slice-aggregate-put-answer-2 : tie.Need-slice-aggregate-put-answer-2
+slice-aggregate-put-answer-2 c = search needs
+
+put-answer-requires : tie.Need-put-answer-requires
+unfolding bytes
+put-answer-requires c κs =
+    let told = c .before .before .before .before in
+    let v = told .arrival .given .0 in
+    room-as (ap line (told .arrival .given .1) ∙ outside-line (v .0) (v .1 .0) (v .1 .1 .0))
+    (told .before .before .before .pre)
+
+enum-known-arrival-2 : tie.Need-enum-known-arrival-2
+enum-known-arrival-2 c = search needs
+
+put-refused-requires : tie.Need-put-refused-requires
+put-refused-requires c κs =
+    let told = c .before .before in
+    room-as (ap line (told .arrival2 .given .1) ∙ refused-arrival (told .arrival2 .given .0 .0))
+    (told .before .before .before .pre)
+
+same-length : tie.Need-same-length
+same-length c = search needs
+
+returns : tie.Need-returns
+unfolding bytes
+returns c =
+    let call = c .before .before in
+    let told = call .before .before .before in
+    wrote-as (ap line (told .enum-told .given .1) ∙ first-line) (call .put-line .ensures)
+
+same-length-2 : tie.Need-same-length-2
+same-length-2 c = search needs
+
+returns-2 : tie.Need-returns-2
+unfolding bytes
+returns-2 c =
+    let call = c .before .before in
+    let told = call .before .before .before in
+    wrote-as (ap line (told .enum-told2 .given .1) ∙ second-line) (call .put-line2 .ensures)
+
+same-length-3 : tie.Need-same-length-3
+same-length-3 c = search needs
+
+returns-3 : tie.Need-returns-3
+unfolding bytes
+returns-3 c =
+    let call = c .before .before in
+    let told = call .before .before .before in
+    wrote-as (ap line (told .enum-told3 .given .1) ∙ inside-line) (call .put-line3 .ensures)
+
+same-length-4 : tie.Need-same-length-4
+same-length-4 c = search needs
+
+returns-4 : tie.Need-returns-4
+unfolding bytes
+returns-4 c =
+    let call = c .before .before in
+    let told = call .before .before .before .before .before in
+    let v = told .arrival .given .0 in
+    wrote-as (ap line (told .arrival .given .1) ∙ outside-line (v .0) (v .1 .0) (v .1 .1 .0))
+    (call .put-answer .ensures)
+
+same-length-5 : tie.Need-same-length-5
+same-length-5 c = search needs
+
+returns-5 : tie.Need-returns-5
+returns-5 c =
+    let call = c .before .before in
+    let told = call .before .before .before in
+    wrote-as (ap line (told .arrival2 .given .1) ∙ refused-arrival (told .arrival2 .given .0 .0))
+    (call .put-refused .ensures)
+
+pub put-arrival-answer-spec : {M : Type 1} → statement M
+put-arrival-answer-spec =
+    tie.close
+    (tie.spec
+    enum-told
+    slice-aggregate-put-line
+    put-line-requires
+    enum-told-2
+    slice-aggregate-put-line-2
+    put-line-requires-2
+    enum-told-3
+    slice-aggregate-put-line-3
+    put-line-requires-3
+    enum-known-arrival
+    slice-aggregate-put-answer
+    slice-aggregate-put-answer-2
+    put-answer-requires
+    enum-known-arrival-2
+    put-refused-requires
+    same-length
+    returns
+    same-length-2
+    returns-2
+    same-length-3
+    returns-3
+    same-length-4
+    returns-4
+    same-length-5
+    returns-5)

@@ -1,0 +1,59 @@
+-- `survey::writing::number_length` meets its contract: a negative number has a minus before its
+-- digits. Assumes nothing.
+use Rattle.survey.proofs.Magnitudes.{signed-spelling, plain-spelling}
+use mathlib.Core.Path.{sym, ap, _∙_}
+use native.Mathlib.Omega.{arith}
+use lib.ListN.{length}
+use Rattle.survey.proofs.Decimals.{spelt-length}
+use borrow.Author.Needs.{needs}
+use Rattle.survey.proofs.writing.number_length.Statement.{statement}
+use Rattle.survey.proofs.writing.number_length.Tie as tie
+
+magnitude-requires : tie.Need-magnitude-requires
+magnitude-requires c κs = search needs
+
+natural-length-requires : tie.Need-natural-length-requires
+natural-length-requires c κs = search needs
+
+add-result : tie.Need-add-result
+add-result c = omega (
+  arith,
+  c .natural-length .ensures,
+  spelt-length (c .before .magnitude
+      .result),
+)
+
+magnitude-requires-2 : tie.Need-magnitude-requires-2
+magnitude-requires-2 c κs = search needs
+
+natural-length-requires-2 : tie.Need-natural-length-requires-2
+natural-length-requires-2 c κs = search needs
+
+returns : tie.Need-returns
+returns c =
+    let sign = c .before .before in
+    omega (
+      arith,
+      c .natural-length .ensures,
+      ap length (signed-spelling (sign .before .fits .z) (c .before .magnitude .ensures) (sign
+          .if1 .taken)),
+    )
+
+returns-2 : tie.Need-returns-2
+returns-2 c =
+    let sign = c .before .before in
+    c .natural-length2 .ensures
+    ∙ sym (ap length (plain-spelling (sign .before .fits .z) (c .before .magnitude2 .ensures)
+    (sign .if1 .left)))
+
+pub number-length-spec : {M : Type 1} → statement M
+number-length-spec =
+    tie.close
+    (tie.spec
+    magnitude-requires
+    natural-length-requires
+    add-result
+    magnitude-requires-2
+    natural-length-requires-2
+    returns
+    returns-2)

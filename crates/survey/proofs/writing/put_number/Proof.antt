@@ -1,0 +1,79 @@
+-- `survey::writing::put_number` meets its contract: a negative number has a minus before its
+-- digits. Assumes nothing.
+use mathlib.Core.Path.{refl}
+use mathlib.Core.List.{[], _∷_}
+use Rattle.model.specs.Spelling.{minus}
+use Rattle.survey.proofs.Magnitudes.{signed-spelling, plain-spelling}
+use Rattle.survey.proofs.Overwriting.{room-first, room-second, wrote-then, room-as, wrote-as}
+use borrow.Author.Needs.{needs}
+use Rattle.survey.proofs.writing.put_number.Statement.{statement}
+use Rattle.survey.proofs.writing.put_number.Tie as tie
+
+put-byte-requires : tie.Need-put-byte-requires
+put-byte-requires c κs =
+    let sign = c .before in
+    let begin = sign .before .before in
+    room-first (minus ∷ []) _ (room-as (signed-spelling (begin .fits .z) refl (sign .if1 .taken))
+    (begin .pre))
+
+magnitude-requires : tie.Need-magnitude-requires
+magnitude-requires c κs = search needs
+
+put-natural-requires : tie.Need-put-natural-requires
+put-natural-requires c κs =
+    let call = c .before .before .before .before in
+    let sign = call .before .before in
+    let begin = sign .before .before in
+    room-second (call .put-byte .ensures) _
+    (room-as (signed-spelling (begin .fits .z) (c .magnitude .ensures) (sign .if1 .taken)) (begin
+    .pre))
+
+magnitude-requires-2 : tie.Need-magnitude-requires-2
+magnitude-requires-2 c κs = search needs
+
+put-natural-requires-2 : tie.Need-put-natural-requires-2
+put-natural-requires-2 c κs =
+    let sign = c .before .before in
+    let begin = sign .before .before in
+    room-as (plain-spelling (begin .fits .z) (c .magnitude2 .ensures) (sign .if1 .left)) (begin
+    .pre)
+
+same-length : tie.Need-same-length
+same-length c = search needs
+
+returns : tie.Need-returns
+returns c =
+    let last = c .before .before in
+    let found = last .before in
+    let call = found .before .before .before .before in
+    let sign = call .before .before in
+    let begin = sign .before .before in
+    let whole = signed-spelling (begin .fits .z) (found .magnitude .ensures) (sign .if1 .taken) in
+    wrote-as whole (wrote-then (call .put-byte .ensures) (room-as whole (begin .pre)) (last
+    .put-natural .ensures))
+
+same-length-2 : tie.Need-same-length-2
+same-length-2 c = search needs
+
+returns-2 : tie.Need-returns-2
+returns-2 c =
+    let last = c .before .before in
+    let found = last .before in
+    let sign = found .before .before in
+    let begin = sign .before .before in
+    wrote-as (plain-spelling (begin .fits .z) (found .magnitude2 .ensures) (sign .if1 .left))
+    (last .put-natural2 .ensures)
+
+pub put-number-spec : {M : Type 1} → statement M
+put-number-spec =
+    tie.close
+    (tie.spec
+    put-byte-requires
+    magnitude-requires
+    put-natural-requires
+    magnitude-requires-2
+    put-natural-requires-2
+    same-length
+    returns
+    same-length-2
+    returns-2)

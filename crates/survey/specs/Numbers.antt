@@ -1,0 +1,36 @@
+-- What a spelling stands for, in the order of this page: digits without a sign; a number. Document
+-- 01, "The text program": "A number is an optional minus and 1 to 7 digits, no leading zero save 0
+-- itself, no -0." Assumes nothing.
+use mathlib.Core.Bool.{Bool, not, cond, _&&_, _||_}
+use mathlib.Core.List.{List}
+use Prim.Native.Nat.{ℕ}
+use lib.Dec.{leb, eqb}
+use lib.ListN.{length, getD}
+use Rattle.finite.specs.Lists.{all-in}
+use Rattle.model.specs.declared.Line.{Line}
+use Rattle.model.specs.declared.Refusal.{Refusal}
+use Rattle.model.specs.Spelling.{digit-zero}
+use Rattle.model.specs.Text.{digit-limit, is-digit, value-after, is-number, number-value}
+use Rattle.survey.specs.declared.numbers.Magnitude.{Magnitude}
+use Rattle.survey.specs.declared.numbers.Number.{Number}
+
+-- "no leading zero save 0 itself"
+unfoldable pub no-leading-zero : List ℕ → Bool
+no-leading-zero d = not (eqb (getD d 0 0) digit-zero) || eqb (length d) 1
+
+-- "1 to 7 digits, no leading zero save 0 itself"
+unfoldable pub is-magnitude : List ℕ → Bool
+is-magnitude d =
+    leb 1 (length d) && leb (length d) digit-limit && all-in is-digit d && no-leading-zero d
+
+unfoldable pub magnitude-read : List ℕ → Magnitude
+magnitude-read d = cond (is-magnitude d) (Magnitude.Value (value-after 0 d)) Magnitude.Malformed
+
+unfoldable pub number-read : List ℕ → Number
+number-read s = cond (is-number s) (Number.Value (number-value s)) Number.Malformed
+
+-- the point of two numbers, or number 8
+unfoldable pub named : Number → Number → Line
+named (Number.Value x) (Number.Value y) = Line.Named (record { x = x; y = y })
+named (Number.Value x) Number.Malformed = Line.Refused Refusal.BadLine
+named Number.Malformed y = Line.Refused Refusal.BadLine

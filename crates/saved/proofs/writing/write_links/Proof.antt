@@ -48,7 +48,7 @@ loop-again : tie.Need-loop-again Inv-loop μ-loop
 loop-again c =
     let s = c .before .before .before .before .before .before .loop in
     let p = c .before .before in
-    let found = p .before .before .edge-link in (
+    let found = p .before .before .link-of in (
       one-field-put (s .inv .0) (2 * s .d) (omega arith) (omega arith) (found .result)
           (found .ensures) (p .put-number .last .0) (p .put-number .ensures),
       omega arith,

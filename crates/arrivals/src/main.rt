@@ -145,7 +145,7 @@ fn changed(map: Map, i: usize) -> Map {
 
 // Offers a point, prints its arrival, and gives the map after it.
 fn offered(n: usize, map: Map, p: Point) -> Map {
-    let o = hull::offer(map, p);
+    let o = engine::offer(map, p);
     let arrival = o.arrival;
     let after = o.map;
     io::print_decimal(STDOUT_FILENO, n as u64);

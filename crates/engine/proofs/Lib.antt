@@ -1,3 +1,3 @@
 -- What the proofs of the entry points cite. Nothing is assumed.
---     Rules    from what a check answered to the rule of the call, and to what an inner function requires
+--     Rules    from what a check found to the rule of the call, and to what is required
 pub mod Rules

@@ -1,18 +1,16 @@
 -- More laws of chains and cycles of numbers, in the order of this page: relations along a chain and
 -- round a cycle, and the place where a test changes; the ring of numbers that a cycle is.
 -- Assumes nothing.
-use mathlib.Core.Path.{_≡_, refl, sym, ap, subst}
-use mathlib.Core.Logic.{_≢_, ⊎-elim}
+use mathlib.Core.Path.{_≡_, sym, ap, subst}
+use mathlib.Core.Logic.{⊎-elim}
 use mathlib.Core.Bool.{Bool, not}
 use mathlib.Core.List.{List, [], _∷_, _++_, append-nil, map, map-append}
 use Prim.Native.Nat.{ℕ, zero, suc, _+_, _≤_, _<_}
 use native.Mathlib.Nat.{not-suc-le-zero, le-of-suc-le-suc}
-use native.Mathlib.Omega.{arith}
-use lib.Dec.{T, T-not, not-T, eqb, eqb→eq}
+use lib.Dec.{T, T-not, eqb, eqb→eq}
 use lib.ListN.{length}
-use Rattle.finite.specs.Tests.{and-left, and-right, and-both, decide, is-true, is-false, equal-by}
-use Rattle.finite.specs.Bounded.{one-if}
-use Rattle.finite.specs.Lists.{elem, count-in, distinct, ring, elem-head, elem-tail, elem-cases, elem-one, elem-append, elem-append-left, elem-append-right}
+use Rattle.finite.specs.Tests.{and-left, decide, is-true, is-false, equal-by}
+use Rattle.finite.specs.Lists.{elem, distinct, ring, elem-head, elem-tail, elem-cases, elem-one, elem-append, elem-append-left}
 use Rattle.finite.specs.ListLaws.{elem-cut, elem-swap}
 use Rattle.finite.specs.Cycles.{Chain, Cycle, cycle-rotate}
 

@@ -37,10 +37,6 @@ pub distinct-head : (x : ℕ) (s : List ℕ) → T (distinct (x ∷ s)) → ¬ T
 unfolding distinct
 distinct-head x s t = T-not (elem x s) (and-left (not (elem x s)) (distinct s) t)
 
-pub distinct-tail : (x : ℕ) (s : List ℕ) → T (distinct (x ∷ s)) → T (distinct s)
-unfolding distinct
-distinct-tail x s t = and-right (not (elem x s)) (distinct s) t
-
 pub distinct-cons : (x : ℕ) (s : List ℕ) → ¬ T (elem x s) → T (distinct s) → T (distinct (x ∷ s))
 unfolding distinct
 distinct-cons x s new t = and-both (not (elem x s)) (distinct s) (not-T (elem x s) new) t

@@ -32,9 +32,10 @@ module _ (m : Map) where
         lowest-of (point m) lowest (ring (next-corner m) (owner (m .reference)) ahead a) ≡
         lowest-of (point m) (owner (m .reference)) (outline m)
 
-  pub seeking-first : 2 ≤ m .count → Seeking (owner (m .reference)) (owner (m .reference)) (m .count)
+  pub seeking-first : {ahead : ℕ} → ahead ≡ m .count → 2 ≤ m .count →
+      Seeking (owner (m .reference)) (owner (m .reference)) ahead
   unfolding outline corners-from
-  seeking-first two = record { so-far = rw (le-ltb (m .count) 2 two) }
+  seeking-first all two = rw all (record { so-far = rw (le-ltb (m .count) 2 two) })
 
   module _ {lowest lowest′ a b ahead : ℕ} (u : Seeking lowest a ahead) (more : 0 < ahead)
       (l : lowest′ ≡ lower-at (m .xs) (m .ys) lowest a) (to : b ≡ next-corner m a) where
@@ -49,10 +50,11 @@ module _ (m : Map) where
     seeking-last e = step 0 (rw to (ring-last (next-corner m) (owner (m .reference)) ahead a more (sym to ∙ e)))
 
     -- .. or another one
-    pub seeking-more : b ≢ owner (m .reference) → Seeking lowest′ b (ahead - 1)
-    seeking-more n =
-        step (ahead - 1)
-        (rw to (ring-more (next-corner m) (owner (m .reference)) ahead a more (λ e. n (to ∙ e))))
+    pub seeking-more : {on : ℕ} → on ≡ ahead - 1 → b ≢ owner (m .reference) → Seeking lowest′ b on
+    seeking-more one-less n =
+        rw one-less
+        (step (ahead - 1)
+        (rw to (ring-more (next-corner m) (owner (m .reference)) ahead a more (λ e. n (to ∙ e)))))
 
   pub seeking-end : Sound m → 2 ≤ m .count → {lowest a ahead : ℕ} → Seeking lowest a ahead → ahead ≤ 0 →
       lowest ≡ lowest-corner m
@@ -69,9 +71,10 @@ module _ (m : Map) (start : ℕ) where
     pub few : listed + ahead ≤ m .count
     pub so-far : take listed places ++ ring (next-corner m) start ahead a ≡ corners-from m start
 
-  pub listing-first : {places : List ℕ} → length places ≡ point-limit → Listing places 0 start (m .count)
+  pub listing-first : {places : List ℕ} {ahead : ℕ} → length places ≡ point-limit → ahead ≡ m .count →
+      Listing places 0 start ahead
   unfolding corners-from
-  listing-first e = record { whole = e; few = omega arith; so-far = refl }
+  listing-first e all = rw all (record { whole = e; few = omega arith; so-far = refl })
 
   module _ {places : List ℕ} {listed a b ahead : ℕ} (u : Listing places listed a ahead) (more : 0 < ahead)
       (room : listed < point-limit) (to : b ≡ next-corner m a) where
@@ -93,9 +96,10 @@ module _ (m : Map) (start : ℕ) where
     pub listing-last : b ≡ start → Listing (set places listed a) (listed + 1) b 0
     listing-last e = grown 0 more (rw to (ring-last (next-corner m) start ahead a more (sym to ∙ e)))
 
-    pub listing-more : b ≢ start → Listing (set places listed a) (listed + 1) b (ahead - 1)
-    listing-more n =
-        grown (ahead - 1) (omega arith) (rw to (ring-more (next-corner m) start ahead a more (λ e. n (to ∙ e))))
+    pub listing-more : {on : ℕ} → on ≡ ahead - 1 → b ≢ start → Listing (set places listed a) (listed + 1) b on
+    listing-more one-less n =
+        rw one-less
+        (grown (ahead - 1) (omega arith) (rw to (ring-more (next-corner m) start ahead a more (λ e. n (to ∙ e)))))
 
 pub listing-end : {m : Map} → Sound m → 2 ≤ m .count → {start : ℕ} → start ≡ lowest-corner m →
     {places : List ℕ} {listed a ahead : ℕ} → Listing m start places listed a ahead → ahead ≤ 0 →

@@ -1,12 +1,16 @@
 -- Offers, and what is proved about every list of them. Nothing is assumed.
---     Outcomes    an offer is accepted or refused, and by which condition
---     Arrivals    an arrival leaves a sound map
---     Changes     "Nothing else changes": `offer-changes`
---     History     demand 3: `always-balanced`
---     Theorems    what holds of offers and outlines, each under one name
---     Indices     what the code takes for an index lies within its array
---     Seeing      the way round an outline on which a point looks for its corners
---     Cases       from the answer that the code makes to the definition, case by case
+--     Outcomes       an offer is accepted or refused, and by which condition
+--     Arrivals       an arrival leaves a sound map
+--     Changes        what an offer changes, place by place
+--     History        demand 3: `always-balanced`
+--     Theorems       what holds of offers and outlines, each under one name
+--     Indices        what the code takes for an index lies within its array
+--     Seeing         the way round an outline on which a point looks for its corners
+--     Cases          from the answer that the code makes to the definition, case by case
+--     Corners        the listing is the rotated outline; the lowest corner is the only one
+--     CornerLoops    the loops that look for, list and write the corners
+--     Views          placing by one look at each edge
+--     Placing        what each verdict on a query point means
 pub mod Outcomes
 pub mod Arrivals
 pub mod Changes

@@ -30,16 +30,12 @@ pub fn corners_of(map: Map) -> CornerList
     let first = lowest_corner(map);
     let mut listed = 0;
     let mut a = first;
-    // no more corners than this are still to be listed, a the first of them
-    let mut ahead = count;
-    while 0 < ahead {
+    for _ in 0..count {
         places[listed] = a;
         listed += 1;
         a = next_corner(&map.edge, a);
         if a == first {
-            ahead = 0;
-        } else {
-            ahead -= 1;
+            break;
         }
     }
     CornerList {
@@ -57,14 +53,12 @@ fn lowest_corner(map: Map) -> usize
     let start = map.reference / 2;
     let mut lowest = start;
     let mut a = start;
-    let mut ahead = map.count;
-    while 0 < ahead {
+    let count = map.count;
+    for _ in 0..count {
         lowest = lower_of(&map.xs, &map.ys, lowest, a);
         a = next_corner(&map.edge, a);
         if a == start {
-            ahead = 0;
-        } else {
-            ahead -= 1;
+            break;
         }
     }
     lowest

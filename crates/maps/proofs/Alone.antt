@@ -4,7 +4,7 @@
 -- Assumes nothing.
 use mathlib.Core.Path.{_≡_, refl, sym, ap, subst, _∙_}
 use mathlib.Core.Logic.{_≢_, _⊎_, inl, inr, ⊎-elim}
-use Prim.Native.Nat.{ℕ, suc, _≤_, _<_}
+use Prim.Native.Nat.{ℕ, _≤_, _<_}
 use native.Mathlib.Omega.{arith}
 use lib.Dec.{T}
 use Rattle.finite.specs.Bounded.{lt-or-ge, below-suc}
@@ -28,30 +28,6 @@ use Rattle.maps.proofs.Points.{point-new, point-old, with-point-sound}
 -- ---- what the new map has of the old one
 
 module _ (m : Map) (p : Point) where
-  pub alone-count : alone m p .count ≡ suc (m .count)
-  unfolding alone with-point
-  alone-count = refl
-
-  pub alone-reference : alone m p .reference ≡ m .reference
-  unfolding alone with-point
-  alone-reference = refl
-
-  pub alone-has-helper : has-helper (alone m p) ≡ has-helper m
-  unfolding alone with-point has-helper
-  alone-has-helper = refl
-
-  pub alone-edge-link : edge-link (alone m p) ≡ edge-link m
-  unfolding alone with-point edge-link
-  alone-edge-link = refl
-
-  pub alone-point-link : point-link (alone m p) ≡ point-link m
-  unfolding alone with-point point-link has-helper
-  alone-point-link = refl
-
-  pub alone-next-corner : next-corner (alone m p) ≡ next-corner m
-  unfolding alone with-point next-corner edge-link
-  alone-next-corner = refl
-
   -- an old dart is present, and so is the new one
   pub alone-present-old : (d : ℕ) → T (is-present m d) → T (is-present (alone m p) d)
   unfolding alone with-point has-helper

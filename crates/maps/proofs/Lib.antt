@@ -6,7 +6,7 @@
 --     Circuits     lists of points round which edges lead
 --     Outline      the outline is the one circuit that is a closed walk
 --     Soundness    what makes a map sound, with an outline and without
---     Same         two sound maps that agree at every place are the same
+--     Same         two sound maps that agree at every place are equal
 --     Points       a map with one point more: its points
 --     Alone        a point that arrives alone: first, inside
 --     Splice       a circuit after a splice, over any two maps that differ so
@@ -14,6 +14,8 @@
 --     Spliced      an outside arrival is a splice, and leaves a sound map
 --     Pair         the second point
 --     Empty        the empty map is the sound map without points
+--     Orbits       orbits of a sound map: members, size; they part the present darts
+--     Walks        walks in a sound map: home on the outline, else loose
 pub mod Checked
 pub mod Darts
 pub mod Links

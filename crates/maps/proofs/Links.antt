@@ -16,7 +16,7 @@ use Rattle.orbits.proofs.Balance.{balance}
 use Rattle.model.specs.declared.Kind.{Kind}
 use Rattle.model.specs.declared.Map.{Map}
 use Rattle.model.specs.Maps.{own, helper, owner, has-helper, is-present, edge-link, point-link, face-link, dart-bound}
-use Rattle.model.specs.Outline.{next-corner, previous-corner}
+use Rattle.model.specs.Outline.{next-corner}
 use Rattle.model.specs.Reading.{links-of, number-of, darts}
 use Rattle.model.specs.Sound.{Sound}
 use Rattle.maps.proofs.Darts.{own-or-helper, present-helper, present-dart, point-twice, point-present}
@@ -93,21 +93,9 @@ module _ {m : Map} (s : Sound m) where
       absurd (omega (arith, s .links .crossing (own a) moves)))
       (λ e. e) (own-or-helper (edge-link m (own a)))
 
-  pub moved-helper : (a : ℕ) → edge-link m (helper a) ≢ helper a → edge-link m (helper a) ≡ own (previous-corner m a)
-  unfolding previous-corner
-  moved-helper a moves =
-      ⊎-elim (λ e. e)
-      (λ (e : edge-link m (helper a) ≡ helper (owner (edge-link m (helper a)))).
-      absurd (omega (arith, s .links .crossing (helper a) moves)))
-      (own-or-helper (edge-link m (helper a)))
-
   pub next-another : (a : ℕ) → edge-link m (own a) ≢ own a → next-corner m a ≢ a
   unfolding next-corner
   next-another a moves = omega (arith, s .links .leaving (own a) moves)
-
-  pub previous-another : (a : ℕ) → edge-link m (helper a) ≢ helper a → previous-corner m a ≢ a
-  unfolding previous-corner
-  previous-another a moves = omega (arith, s .links .leaving (helper a) moves)
 
   -- the edge link of a dart that is moved is moved
   pub moved-back : (d : ℕ) → edge-link m d ≢ d → edge-link m (edge-link m d) ≢ edge-link m d
@@ -117,8 +105,3 @@ module _ {m : Map} (s : Sound m) where
   next-owned a moves =
       moved-helper-owned (next-corner m a)
       (subst (λ (d : ℕ). edge-link m d ≢ d) (moved-own a moves) (moved-back (own a) moves))
-
-  pub previous-owned : (a : ℕ) → edge-link m (helper a) ≢ helper a → T (has-helper m (previous-corner m a))
-  previous-owned a moves =
-      moved-own-owned (previous-corner m a)
-      (subst (λ (d : ℕ). edge-link m d ≢ d) (moved-helper a moves) (moved-back (helper a) moves))

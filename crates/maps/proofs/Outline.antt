@@ -8,7 +8,7 @@
 -- own darts are reached to such points, no two to the same. So it comes back, and `ring` runs
 -- through all of them.
 use mathlib.Core.Path.{_≡_, refl, sym, ap, subst, _∙_}
-use mathlib.Core.Logic.{_≢_, _↔_, _⊎_}
+use mathlib.Core.Logic.{_≢_, _↔_}
 use mathlib.Core.Bool.{Bool}
 use mathlib.Core.List.{List, [], _∷_, _++_}
 use Prim.Native.Nat.{ℕ, _≤_}
@@ -29,7 +29,7 @@ use Rattle.model.specs.declared.Map.{Map}
 use Rattle.model.specs.Maps.{own, helper, owner, is-present, edge-link, point-link, dart-bound}
 use Rattle.model.specs.Outline.{next-corner, previous-corner, outline}
 use Rattle.model.specs.Sound.{Sound}
-use Rattle.maps.proofs.Darts.{owner-own, own-dart, own-injective, own-or-helper, present-owner, present-dart, point-helper}
+use Rattle.maps.proofs.Darts.{owner-own, own-dart, own-injective, present-owner, present-dart, point-helper}
 use Rattle.maps.proofs.Links.{Linked, sound-linked, links, DartOf, links-keep, links-symmetric, edge-injective, moved-own, moved-own-owned, next-owned, next-another}
 use Rattle.maps.proofs.Circuits.{Edge, Circuit, circuit-next, circuit-previous, circuit-both-ways, circuit-rotate, circuit-outline, circuit-iff, circuit-dart, circuit-closed-part}
 
@@ -155,10 +155,6 @@ module _ {m : Map} (s : Sound m) (two : 2 ≤ m .count) where
   -- its darts are just what is reached from the reference: those of the corners
   pub outline-reach : (d : ℕ) → Reach (links m) (m .reference) d ↔ T (elem (owner d) (outline m))
   outline-reach d = circuit-iff linked outline-circuit (m .reference) d outline-first
-
-  pub outline-darts : (d : ℕ) → Reach (links m) (m .reference) d →
-      (a : ℕ) × T (elem a (outline m)) × ((d ≡ own a) ⊎ (d ≡ helper a))
-  outline-darts d r = (owner d, outline-reach d .0 r, own-or-helper d)
 
   -- "The corners are the points whose own darts lie on it."
   pub corners-on-it : (k : ℕ) → T (elem k (outline m)) ↔ Reach (links m) (m .reference) (own k)

@@ -13,7 +13,6 @@ use lib.Seq.{getD-set-same, getD-set-other}
 use Rattle.finite.specs.Tests.{same-or-not, of-true}
 use Rattle.finite.specs.Lists.{elem, distinct, elem-head, elem-tail, elem-cases, elem-one}
 use Rattle.finite.specs.Cycles.{Chain, Cycle}
-use Rattle.orbits.specs.Links.{link-of}
 use Rattle.model.specs.declared.Point.{Point}
 use Rattle.model.specs.declared.Map.{Map}
 use Rattle.model.specs.Plane.{in-range}
@@ -65,10 +64,6 @@ pair-owned {m} p s one j t =
     (same-or-not j 1)
 
 module _ {m : Map} (s : Sound m) (one : m .count ≡ 1) (p : Point) where
-  pair-link : (d : ℕ) → edge-link (pair m p) d ≡ link-of (join 2 1 (join 0 3 (m .edge))) d
-  unfolding pair with-point edge-link
-  pair-link d = refl
-
   few : m .count < 2
   few = omega arith
 

@@ -20,6 +20,12 @@ same-links : (s t : List ℕ) → length s ≡ length t → ((d : ℕ) → link-
 same-links s t e alike =
     ext-getD 0 s t e (λ d h. getD-any s d 0 d h ∙ (alike d ∙ getD-any t d d 0 (omega arith)))
 
+-- maps with equal fields are equal
+pub same-fields : {m n : Map} → m .xs ≡ n .xs → m .ys ≡ n .ys → m .helpers ≡ n .helpers → m .edge ≡ n .edge →
+    m .count ≡ n .count → m .reference ≡ n .reference → m ≡ n
+same-fields x y h e c r =
+    λ i. record { xs = x i; ys = y i; helpers = h i; edge = e i; count = c i; reference = r i }
+
 pub same-map : {m n : Map} → Sound m → Sound n → m .count ≡ n .count → ((k : ℕ) → point m k ≡ point n k) →
     ((k : ℕ) → has-helper m k ≡ has-helper n k) → ((d : ℕ) → edge-link m d ≡ edge-link n d) →
     m .reference ≡ n .reference → m ≡ n
@@ -36,12 +42,4 @@ same-map {m} {n} s t count points helped linked reference =
     (λ k h. helped k) in
     let edge : m .edge ≡ n .edge =
     same-links (m .edge) (n .edge) (s .links .edge-whole ∙ sym (t .links .edge-whole)) linked in
-    λ i.
-    record {
-      xs = xs i;
-      ys = ys i;
-      helpers = helpers i;
-      edge = edge i;
-      count = count i;
-      reference = reference i;
-    }
+    same-fields xs ys helpers edge count reference

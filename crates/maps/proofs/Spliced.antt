@@ -10,7 +10,7 @@ use mathlib.Core.List.{List, [], _∷_, _++_}
 use Prim.Native.Nat.{ℕ, suc, _+_, _≤_, _<_}
 use native.Mathlib.Omega.{arith}
 use lib.Dec.{T}
-use lib.ListN.{length, set, length-set, length-append}
+use lib.ListN.{length, set, length-set}
 use lib.Seq.{getD-set-same, getD-set-other}
 use Rattle.finite.specs.Tests.{same-or-not, of-true}
 use Rattle.finite.specs.Lists.{elem, elem-head, elem-cases, elem-one, elem-append, elem-append-left, elem-append-right}
@@ -302,13 +302,3 @@ module _ {m : Map} (s : Sound m) (two : 2 ≤ m .count) (room : m .count < point
           rw (spliced-point-old k (old n))
           (s .outlined two .left a k on (old n) not-start (λ j. not-end (j ∙ sym (spliced-next a i)))))
           (same-or-not k (m .count)))
-
-  -- corners after + visible edges = corners before + 2
-  pub spliced-length : length (outline (spliced m p l r)) + suc (length lost) ≡ length (r ∷ between ++ l ∷ lost) + 2
-  spliced-length =
-      omega (
-        arith,
-        ap length spliced-outline,
-        length-append (r ∷ between) (l ∷ []),
-        length-append (r ∷ between) (l ∷ lost),
-      )

@@ -11,7 +11,7 @@ use Rattle.finite.specs.Tests.{of-true}
 use Rattle.model.specs.declared.Refusal.{Refusal}
 use Rattle.model.specs.declared.Outcome.{Outcome}
 use Rattle.model.specs.Refusals.{Rule, unless, Refuses, at-once, later, NoneApplies, none, nor}
-use Rattle.model.specs.Answers.{Answer, refused, Call, answer-of, outcome-by, Answered}
+use Rattle.model.specs.Answers.{refused, Call, answer-of, outcome-by, Answered}
 
 -- ---- one rule after another
 

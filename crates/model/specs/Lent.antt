@@ -11,7 +11,7 @@ use lib.ListN.{length, drop}
 use Rattle.model.specs.declared.Refusal.{Refusal}
 use Rattle.model.specs.declared.Map.{Map}
 use Rattle.model.specs.declared.Written.{Written}
-use Rattle.model.specs.Refusals.{Rule, _when_, unless}
+use Rattle.model.specs.Refusals.{Rule, _when_}
 use Rattle.model.specs.Answers.{Call, answer-of, Answered, written-answer}
 use Rattle.model.specs.Outline.{corners}
 use Rattle.model.specs.Reading.{unsound}

@@ -4,7 +4,7 @@ use mathlib.Core.List.{List, _∷_}
 use Rattle.model.specs.declared.Point.{Point}
 use Rattle.model.specs.declared.Map.{Map}
 use Rattle.model.specs.declared.Offered.{Offered}
-use Rattle.model.specs.Refusals.{Rule, unless}
+use Rattle.model.specs.Refusals.{Rule}
 use Rattle.model.specs.Answers.{Call, answer-of, arrival-answer}
 use Rattle.model.specs.Reading.{unsound}
 use Rattle.model.specs.Arrival.{admission-rules, refusing, arrive}

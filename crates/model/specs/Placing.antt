@@ -13,7 +13,7 @@ use Rattle.model.specs.declared.Refusal.{Refusal}
 use Rattle.model.specs.declared.Point.{Point}
 use Rattle.model.specs.declared.Map.{Map}
 use Rattle.model.specs.declared.Placed.{Placed}
-use Rattle.model.specs.Refusals.{_when_, unless}
+use Rattle.model.specs.Refusals.{_when_}
 use Rattle.model.specs.Answers.{Call, answer-of, placed-answer}
 use Rattle.model.specs.Plane.{in-range, same-point, left-of, visible-from, strictly-between}
 use Rattle.model.specs.Maps.{point}

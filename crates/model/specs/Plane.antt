@@ -12,7 +12,7 @@ use Rattle.integers.specs.Order.{eqZ}
 use Rattle.model.specs.declared.Refusal.{Refusal}
 use Rattle.model.specs.declared.Point.{Point}
 use Rattle.model.specs.declared.Oriented.{Oriented}
-use Rattle.model.specs.Refusals.{_when_, unless}
+use Rattle.model.specs.Refusals.{_when_}
 use Rattle.model.specs.Answers.{Call, answer-of, oriented-answer}
 
 -- "from -1,000,000 to 1,000,000"

@@ -19,7 +19,7 @@ use Rattle.model.specs.declared.Counts.{Counts}
 use Rattle.model.specs.declared.Counted.{Counted}
 use Rattle.model.specs.declared.Walked.{Walked}
 use Rattle.model.specs.declared.Moved.{Moved}
-use Rattle.model.specs.Refusals.{Rule, _when_, unless}
+use Rattle.model.specs.Refusals.{Rule, _when_}
 use Rattle.model.specs.Answers.{Call, answer-of, orbit-answer, counted-answer, walked-answer, moved-answer}
 use Rattle.model.specs.Maps.{is-present, edge-link, point-link, face-link, dart-bound}
 use Rattle.model.specs.Sound.{sound}

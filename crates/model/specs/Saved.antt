@@ -17,7 +17,7 @@ use Rattle.model.specs.declared.Map.{Map}
 use Rattle.model.specs.declared.Outcome.{Outcome}
 use Rattle.model.specs.declared.Loaded.{Loaded}
 use Rattle.model.specs.declared.Written.{Written}
-use Rattle.model.specs.Refusals.{_when_, unless}
+use Rattle.model.specs.Refusals.{_when_}
 use Rattle.model.specs.Answers.{Call, answer-of, outcome-answer}
 use Rattle.model.specs.Maps.{point-limit, own, point, has-helper, edge-link, empty-map}
 use Rattle.model.specs.Reading.{unsound}

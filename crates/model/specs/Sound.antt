@@ -2,7 +2,10 @@
 -- in its order, with `sound` their conjunction; as statements, the record `Sound` of the points, the
 -- links and the outline. That the two agree is `sound-holds` and `sound-by` of proofs/Sound. Sound is
 -- wider than what offers can build: the reference may be any own dart of the outline, inner chains
--- are arbitrary, and inner points may be in line. Assumes nothing.
+-- are arbitrary, and inner points may be in line.
+-- Two sentences hold by construction and have no test: the point link is made from the helpers, so it
+-- joins 2k and 2k + 1 where the helper is present, fixes 2k else, and taken twice comes back; and dart 2k
+-- is present for every point k by the definition of present darts. Assumes nothing.
 use mathlib.Core.Path.{_≡_}
 use mathlib.Core.Logic.{_≢_}
 use mathlib.Core.Bool.{Bool, not, _&&_, _||_}

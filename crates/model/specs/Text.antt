@@ -10,7 +10,7 @@ use lib.ListN.{length, getD}
 use Rattle.finite.specs.Lists.{all-in, before, beyond}
 use Rattle.model.specs.declared.Refusal.{Refusal}
 use Rattle.model.specs.declared.Line.{Line}
-use Rattle.model.specs.Refusals.{_when_, unless}
+use Rattle.model.specs.Refusals.{_when_}
 use Rattle.model.specs.Answers.{Call, answer-of, line-answer}
 use Rattle.model.specs.Spelling.{line-feed, space, minus, digit-zero}
 

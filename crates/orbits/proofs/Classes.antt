@@ -13,12 +13,12 @@ use lib.ListN.{length}
 use lib.Dec.{T, T-not, not-T, eqb, ltb, ltb→lt, nltb→le}
 use Rattle.finite.specs.Tests.{and-left, and-right, and-both, decide, same-test, differ-by, differ-use}
 use Rattle.finite.specs.Bounded.{all-at, all-by, count}
-use Rattle.finite.specs.Counting.{count-same, count-mono, count-one-more, count-injection, least-passing}
+use Rattle.finite.specs.Counting.{count-same, count-one-more, count-injection, least-passing}
 use Rattle.finite.specs.Lists.{elem, first-in, distinct, members, all-elem, all-of-elem, length-distinct, elem-members, elem-members-by, distinct-members, length-members, first-found}
 use Rattle.orbits.specs.Reach.{Reach, here, by-one, by-two, reached, reaches}
-use Rattle.orbits.specs.Classes.{is-least, classes, is-fixed, is-closed, closed-walks}
-use Rattle.orbits.proofs.Reach.{Dart, Keeps, Symmetric, reach-dart, reach-trans, reach-sym, reaches-sound, reaches-complete, by-one-link, by-first-link, by-second-link}
-use Rattle.orbits.proofs.Permutations.{Permutes, same-permutes, orbit-keeps, orbit-by, part-keeps, part-symmetric, part-by}
+use Rattle.orbits.specs.Classes.{is-least, classes, is-fixed, is-closed}
+use Rattle.orbits.proofs.Reach.{Dart, Keeps, Symmetric, reach-dart, reach-trans, reach-sym, reaches-sound, reaches-complete, by-one-link}
+use Rattle.orbits.proofs.Permutations.{Permutes, same-permutes, orbit-keeps, orbit-by}
 
 -- ---- least darts
 
@@ -72,11 +72,6 @@ classes-count : (next : ℕ → List ℕ) (n : ℕ) (present : ℕ → Bool) →
 unfolding classes
 classes-count next n present = refl
 
-pub classes-small : (next : ℕ → List ℕ) (n : ℕ) (present : ℕ → Bool) → classes next n present ≤ count n present
-unfolding classes
-classes-small next n present =
-    count-mono n (stands next n present) present (λ a h t. and-left (present a) (is-least next n a) t)
-
 -- a dart that stands for its class under links that reach more stands for it under fewer
 stands-finer : {n : ℕ} {present : ℕ → Bool} {next other : ℕ → List ℕ} {a : ℕ} →
     Keeps n present next → Keeps n present other → ((b : ℕ) → Dart n present a → Reach next a b → Reach other a b) →
@@ -107,13 +102,6 @@ module _ {n : ℕ} {present : ℕ → Bool} {f e : ℕ → ℕ} (p : Permutes n 
       same-classes (orbit-keeps p) (orbit-keeps (same-permutes p same))
       (λ a b h r. orbit-by p h (λ d k. rw (same d k) (by-one-link e d)) r)
       (λ a b h r. orbit-by (same-permutes p same) h (λ d k. rw (← (same d k)) (by-one-link f d)) r)
-
-  pub same-parts : {g : ℕ → ℕ} → Permutes n present g → classes (by-two f g) n present ≡ classes (by-two e g) n present
-  same-parts {g} q =
-      same-classes (part-keeps p q) (part-keeps (same-permutes p same) q)
-      (λ a b h r. part-by p q h (λ d k. rw (same d k) (by-first-link e g d)) (λ d k. by-second-link e g d) r)
-      (λ a b h r.
-      part-by (same-permutes p same) q h (λ d k. rw (← (same d k)) (by-first-link f g d)) (λ d k. by-second-link f g d) r)
 
 -- ---- representatives
 
@@ -307,40 +295,9 @@ module _ {n : ℕ} {present : ℕ → Bool} {f g : ℕ → ℕ} (k : Keeps n pre
         (λ d t. both-move f g d .1 (m d (reaches-sound (by-two f g) n a d t))),
   )
 
-  -- so from each of its darts
-  pub closed-same : {a b : ℕ} → Dart n present a → Reach (by-two f g) a b →
-      T (is-closed f g n a) → T (is-closed f g n b)
-  closed-same h r t = closed-iff (reach-dart k h r) .1 (λ d s. closed-iff h .0 t d (reach-trans r s))
-
 -- ---- the number of closed walks
 
 module _ {n : ℕ} {present : ℕ → Bool} {f g : ℕ → ℕ} (p : Permutes n present f) (q : Permutes n present g) where
   closed-dart : {d : ℕ} → Dart n (λ a. present a && is-closed f g n a) d → Dart n present d
   closed-dart {d} h =
       record { below = h .below; is-present = and-left (present d) (is-closed f g n d) (h .is-present) }
-
-  -- a link that stays in the part permutes the darts of the closed parts
-  closed-permutes : {e : ℕ → ℕ} → Permutes n present e → ((d : ℕ) → Reach (by-two f g) d (e d)) →
-      Permutes n (λ a. present a && is-closed f g n a) e
-  closed-permutes {e} r within =
-      record {
-        stays = λ {d} h.
-            let k = r .stays (closed-dart h) in
-            let t = and-right (present d) (is-closed f g n d) (h .is-present) in
-            record {
-              below = k .below;
-              is-present =
-                  and-both (present (e d)) (is-closed f g n (e d)) (k .is-present)
-                  (closed-same (part-keeps p q) (closed-dart h) (within d) t);
-            };
-        injective = λ {c} {d} h k u. r .injective (closed-dart h) (closed-dart k) u;
-      }
-
-  -- every list with one dart of each closed part is as long as there are closed walks
-  pub closed-walks-represented : {s : List ℕ} →
-      Represents n (λ a. present a && is-closed f g n a) (by-two f g) s → length s ≡ closed-walks f g n present
-  unfolding closed-walks
-  closed-walks-represented r =
-      classes-represented
-      (part-symmetric (closed-permutes p (by-first-link f g)) (closed-permutes q (by-second-link f g)))
-      r

@@ -39,10 +39,6 @@ only-member [] x y e m n = absurd m
 only-member (a ∷ []) x y e m n = elem-one x a m ∙ sym (elem-one y a n)
 only-member (a ∷ b ∷ s) x y e m n = absurd (omega arith)
 
-some-member : (s : List ℕ) → length s ≡ 1 → (x : ℕ) × T (elem x s)
-some-member [] e = absurd (omega arith)
-some-member (a ∷ s) e = (a, elem-head a s)
-
 module _ {n : ℕ} {present : ℕ → Bool} {f g : ℕ → ℕ} (w : Symmetric n present (by-two f g)) where
   closed-dart : {a : ℕ} → Dart n present a → ClosedPart f g a → Dart n (in-closed f g n present) a
   closed-dart {a} h c =
@@ -106,13 +102,6 @@ module _ {n : ℕ} {present : ℕ → Bool} {f g : ℕ → ℕ} (w : Symmetric n
               reach-trans (x .2)
               (rw (only-member least-closed (x .0) (y .0) one-of (x .1) (y .1)) (reach-sym w k (y .2)));
         }
-
-    -- and there is one
-    pub some-closed : (a : ℕ) × OneClosed n present f g a
-    some-closed =
-        let x = some-member least-closed one-of in
-        let h = represented .darts (x .0) (x .1) in
-        (x .0, one-closed-at (dart-of h) (closed-of h))
 
 -- ---- links that agree on a part reach the same in it
 

@@ -1,12 +1,13 @@
 -- The theory of orbits, and the laws that the functions of this crate cite. Nothing is assumed.
 --     Reach             the list of what is reached is right: `reaches-iff`
 --     Permutations      transpositions; iterates; every dart comes back; orbits are symmetric
---     Classes           classes by their least members: `classes-represented`, `join-lowers-classes`
+--     Classes           classes by least members: `classes-represented`, `join-lowers-classes`
 --     Transpositions    a transposition joins two orbits, or cuts one
 --     Building          every permutation is built by transpositions
 --     Genus             the genus of two permutations (for free maps: request #113)
 --     Balance           any two involutions balance: V + E + F = D + 2 × parts
 --     Walks             how a walk ends, and after how many moves
+--     Moves             the moves of a walk; a walk round a ring comes home
 --     Rings             the orbit of a dart as a list without repetition
 --     ClosedWalks       when just one closed walk exists
 --     Links             reading links from lists; compositions

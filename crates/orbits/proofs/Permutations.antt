@@ -11,9 +11,9 @@ use mathlib.Core.List.{List}
 use Prim.Native.Nat.{ℕ, zero, suc, _≤_, _<_}
 use native.Mathlib.Nat.{not-suc-le-zero, le-refl}
 use native.Mathlib.Omega.{arith}
-use lib.Dec.{T, eqb, leb, leb→le, nleb→lt}
+use lib.Dec.{eqb}
 use borrow.Author.Tests.{ne-eqb, eq-eqb}
-use Rattle.finite.specs.Tests.{decide, same-or-not}
+use Rattle.finite.specs.Tests.{same-or-not}
 use Rattle.finite.specs.Bounded.{count}
 use Rattle.finite.specs.Counting.{pigeonhole}
 use Rattle.finite.specs.Lists.{elem-one}
@@ -141,19 +141,6 @@ unfolding iterate
 iterate-reach f zero d = here
 iterate-reach f (suc k) d = reach-trans (iterate-reach f k d) (by-one-link f (iterate f k d))
 
--- where a comes back after m steps, all that it reaches it reaches in fewer
-pub reach-iterate : (f : ℕ → ℕ) (m a b : ℕ) → 0 < m → iterate f m a ≡ a → Reach (by-one f) a b →
-    (k : ℕ) × (k < m) × (iterate f k a ≡ b)
-unfolding iterate
-reach-iterate f m a b p e here = (0, p, refl)
-reach-iterate f m a b p e (there {b = c} r l) =
-    let i = reach-iterate f m a c p e r in
-    let at : iterate f (suc (i .0)) a ≡ b = ap f (i .2) ∙ sym (elem-one b (f c) l) in
-    ⊎-elim
-    (λ (h : suc (i .0) ≡ m). (0, p, sym e ∙ (ap (λ (k : ℕ). iterate f k a) (sym h) ∙ at)))
-    (λ (h : suc (i .0) ≢ m). (suc (i .0), omega arith, at))
-    (same-or-not (suc (i .0)) m)
-
 module _ {n : ℕ} {present : ℕ → Bool} {f : ℕ → ℕ} (p : Permutes n present f) where
   pub iterate-dart : {a : ℕ} (k : ℕ) → Dart n present a → Dart n present (iterate f k a)
   unfolding iterate
@@ -178,23 +165,6 @@ module _ {n : ℕ} {present : ℕ → Bool} {f : ℕ → ℕ} (p : Permutes n pr
       (λ k l. (iterate-dart k h .below, iterate-dart k h .is-present)) in
       let m = iterates-meet (two .0) (two .1) h (two .2) (two .4) in
       (m .0, m .1, omega arith, m .3)
-
-  -- so a dart that has not come back yet has made fewer steps
-  pub not-back-within : {a : ℕ} (k : ℕ) → Dart n present a →
-      ((i : ℕ) → 0 < i → i ≤ k → iterate f i a ≢ a) → k < count n present
-  not-back-within k h away =
-      let m = comes-back h in
-      ⊎-elim
-      (λ (t : T (leb (m .0) k)). absurd (away (m .0) (m .1) (leb→le (m .0) k t) (m .3)))
-      (λ (t : T (not (leb (m .0) k))). omega (arith, nleb→lt (m .0) k t))
-      (decide (leb (m .0) k))
-
-  pub orbit-iterates : {a b : ℕ} → Dart n present a → Reach (by-one f) a b →
-      (k : ℕ) × (k < count n present) × (iterate f k a ≡ b)
-  orbit-iterates {a} {b} h r =
-      let m = comes-back h in
-      let i = reach-iterate f (m .0) a b (m .1) (m .3) r in
-      (i .0, omega arith, i .2)
 
   pub orbit-keeps : Keeps n present (by-one f)
   orbit-keeps = record { stays = λ {d} c h e. by-one-each (Dart n present) f d c e (p .stays h) }

@@ -12,12 +12,10 @@ use native.Mathlib.Omega.{arith}
 use lib.Dec.{T}
 use lib.ListN.{getD, set, length-set}
 use lib.Seq.{getD-set-same, getD-set-other}
-use borrow.Author.Tests.{eqb-true, eqb-false}
 use Rattle.finite.specs.Tests.{of-true, same-or-not}
 use Rattle.finite.specs.Bounded.{any, lt-or-ge}
 use Rattle.finite.specs.Counting.{count-small, count-less, count-one-more}
 use Rattle.orbits.specs.Reach.{Reach, here, by-two}
-use Rattle.orbits.specs.Classes.{is-fixed}
 use Rattle.orbits.specs.Sets.{dart-limit, set-of, no-darts, with-dart}
 use Rattle.orbits.specs.Links.{link-of, test-of, Followable}
 use Rattle.orbits.specs.Queue.{Queue, Grown, LinksSeen, Ready, Visited, Put, queued}

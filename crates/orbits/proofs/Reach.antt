@@ -5,7 +5,7 @@
 -- Assumes nothing.
 use mathlib.Core.Path.{_≡_}
 use mathlib.Core.Logic.{_⊎_, inl, inr, ⊎-elim, _↔_}
-use mathlib.Core.Bool.{Bool, true, not}
+use mathlib.Core.Bool.{Bool, not}
 use mathlib.Core.List.{List, [], _∷_, flatMap}
 use Prim.Native.Nat.{ℕ, zero, suc, _+_, _≤_, _<_}
 use native.Mathlib.Nat.{le-refl}
@@ -74,13 +74,6 @@ pub reach-holds {ℓ} : {n : ℕ} {present : ℕ → Bool} {next : ℕ → List 
 reach-holds Q k d step here q = q
 reach-holds Q k d step (there {b = b} {c = c} r e) q =
     step b c (reach-dart k d r) e (reach-holds Q k d step r q)
-
--- where each link can be gone by other links, so can a path
-pub reach-by : {n : ℕ} {present : ℕ → Bool} {next other : ℕ → List ℕ} {a b : ℕ} →
-    Keeps n present next → Dart n present a →
-    ((d c : ℕ) → Dart n present d → T (elem c (next d)) → Reach other d c) → Reach next a b → Reach other a b
-reach-by {other = other} {a = a} k d step r =
-    reach-holds (Reach other a) k d (λ b c h e q. reach-trans q (step b c h e)) r here
 
 -- ---- the test
 
@@ -219,11 +212,6 @@ module _ {n : ℕ} {present : ℕ → Bool} {next : ℕ → List ℕ} (keeps : K
   pub reaches-wider : {a m : ℕ} → Dart n present a → n ≤ m → (b : ℕ) → reaches next n a b ≡ reaches next m a b
   reaches-wider d l =
       reaches-same (keeps-stays d (le-refl n)) (keeps-stays d l) (λ b r. r) (λ b r. r)
-
--- where the links keep all that is below n, every number below n counts as a dart
-pub keeps-below : {n : ℕ} {next : ℕ → List ℕ} →
-    ((d c : ℕ) → d < n → T (elem c (next d)) → c < n) → Keeps n (λ d. true) next
-keeps-below f = record { stays = λ {d} c h e. record { below = f d c (h .below) e; is-present = tt } }
 
 -- ---- links that lead back
 

@@ -16,7 +16,7 @@ use lib.ListN.{length, length-append}
 use lib.Signed.{_≤ℤ_, _<ℤ_}
 use Rattle.integers.specs.Order.{order, negℤ-splits, <ℤ-weaken, ≡-≤ℤ}
 use Rattle.finite.specs.Tests.{and-left, decide, same-or-not}
-use Rattle.finite.specs.Bounded.{any, any-by, lt-or-ge}
+use Rattle.finite.specs.Bounded.{any, lt-or-ge}
 use Rattle.finite.specs.Counting.{count-small}
 use Rattle.finite.specs.Lists.{elem, distinct, ring, length-distinct, all-in, elem-head, elem-tail, all-elem, some-fails}
 use Rattle.finite.specs.Cycles.{Chain, Cycle}
@@ -127,23 +127,6 @@ module _ {n : ℕ} {P : ℕ → Point} {next prev : ℕ → ℕ} where
         subst (λ (x : ℕ). T (left-of (P (prev a)) (P x) (P c))) (next-prev a m)
         (C .left (prev a) c (prev-member a m) h d (λ k. e (k ∙ next-prev a m)))
 
-    -- what leads from corner to corner as `next` and `prev` do, over points that agree, is as good
-    pub convex-agrees : (P′ : ℕ → Point) (next′ prev′ : ℕ → ℕ) → ((c : ℕ) → c < n → P′ c ≡ P c) →
-        ((a : ℕ) → T (elem a s) → Link next′ prev′ a (next a)) → Convex n P′ next′ prev′ s
-    convex-agrees P′ next′ prev′ same links =
-        record {
-          all-distinct = C .all-distinct;
-          below = C .below;
-          two = C .two;
-          round =
-              cycle-change (Link next prev) (Link next′ prev′) s
-              (λ a b i j e. subst (Link next′ prev′ a) (e .0) (links a i)) (C .round);
-          left =
-              λ a c m h d e.
-              rw (links a m .0, same a (C .below a m), same (next a) (next-below a m), same c h)
-              (C .left a c m h d (λ k. e (k ∙ sym (links a m .0))));
-        }
-
 -- ---- a point apart from the numbered ones
 
 -- in line with no two of them
@@ -158,12 +141,6 @@ in-line-swap : (a b c : Point) → T (in-line a b c) → T (in-line b a c)
 in-line-swap a b c t =
     zero-in-line b a c
     (omega (arith, order, in-line-zero a b c t, orientation-swap b a c, negℤ-splits (orientation a b c)))
-
--- .. as a test
-pub general-by : (n : ℕ) (P : ℕ → Point) (q : Point) →
-    ¬ T (any n (λ j. any j (λ i. in-line (P i) (P j) q))) → GeneralPosition n P q
-general-by n P q none i j h k t =
-    none (any-by n (λ j. any j (λ i. in-line (P i) (P j) q)) j k (any-by j (λ i. in-line (P i) (P j) q) i h t))
 
 pub general-both : (n : ℕ) (P : ℕ → Point) (q : Point) → GeneralPosition n P q → (i j : ℕ) → i < n → j < n → i ≢ j →
     ¬ T (in-line (P i) (P j) q)

@@ -131,6 +131,3 @@ hidden-left a b c n v =
     ⊎-elim (λ t. t)
     (⊎-elim (λ t. absurd (v (left-visible a b c (cyclic-back a c b t)))) (λ t. absurd (n t)))
     (nondegeneracy a b c)
-
-pub left-hidden : (a b c : Point) → T (left-of a b c) → ¬ T (visible-from a b c)
-left-hidden a b c t v = omega (arith, order, left-positive a b c t, visible-negative a b c v)

@@ -1,12 +1,14 @@
 -- The plane: identities first, then convex outlines. Nothing is assumed. Each uses those above it.
 --     Orientation    identities of the orientation, and what its tests say of its sign
 --     Bounds         points in range: coordinates and orientation are bounded
---     Fan            the sum of orientations round a list of points does not depend on the base point
+--     Fan            the sum of orientations round points is the same from every base point
 --     Knuth          Knuth's five axioms, and what they give within an angle
 --     Convex         a convex outline; not all of its edges are visible from a point
 --     Corners        the left and the right corner: there is one of each
 --     Split          the outline split at the two corners: hidden edges, then visible ones
 --     Hull           an outline edge is a supporting edge, and the other way round
+--     Aligned        points in line: the dot product, and which of three lies between
+--     Heights        the order by the smallest y, then the smallest x
 pub mod Orientation
 pub mod Bounds
 pub mod Fan

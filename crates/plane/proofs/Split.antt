@@ -18,7 +18,7 @@ use Rattle.finite.specs.ListLaws.{elem-cut, elem-swap, distinct-apart, count-in
 use Rattle.finite.specs.CycleLaws.{chain-front, chain-carry}
 use Rattle.model.specs.declared.Point.{Point}
 use Rattle.plane.proofs.Convex.{Link, Convex, GeneralPosition, sees, convex-swap}
-use Rattle.plane.proofs.Corners.{LeftCorner, RightCorner, left-not-right, left-corner-unique, right-corner-unique, left-corner-seen, right-corner-seen}
+use Rattle.plane.proofs.Corners.{LeftCorner, RightCorner, left-not-right, left-corner-unique, right-corner-unique}
 
 -- s rotated is `r ∷ middle`, where the test p fails, then `l ∷ inner`, where it passes
 pub record Split (next prev : ℕ → ℕ) (p : ℕ → Bool) (s : List ℕ) (l r : ℕ) : Type 0 where
@@ -47,11 +47,6 @@ module _ {next prev : ℕ → ℕ} {p : ℕ → Bool} {s : List ℕ} {l r : ℕ}
   pub split-member : (a : ℕ) → T (elem a (remaining ++ split .inner)) → T (elem a s)
   split-member a m =
       rw (split .cut) (elem-swap a (split .back) (split .front) (rw remaining-rotated m))
-
-  pub member-split : (a : ℕ) → T (elem a s) → T (elem a (remaining ++ split .inner))
-  member-split a m =
-      subst (λ (t : List ℕ). T (elem a t)) remaining-rotated
-      (elem-swap a (split .front) (split .back) (rw (split .cut) at m))
 
   pub split-length : length remaining + length (split .inner) ≡ length s
   split-length =
@@ -180,10 +175,3 @@ module _ {n : ℕ} {P : ℕ → Point} {next prev : ℕ → ℕ} {s : List ℕ} 
   visible-split l r L R =
       split-between C (sees P next q) l r L R (λ a A. left-corner-unique C q general a l A L)
       (λ a A. right-corner-unique C q general a r A R)
-
-  pub visible-split-seen : (y : ℕ) → T (elem y s) → T (sees P next q y) →
-      (l : ℕ) × (r : ℕ) × Split next prev (sees P next q) s l r
-  visible-split-seen y m t =
-      let l = left-corner-seen C q y m t in
-      let r = right-corner-seen C q y m t in
-      (l .0, r .0, visible-split (l .0) (r .0) (l .1) (r .1))

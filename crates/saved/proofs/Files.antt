@@ -37,7 +37,8 @@ use Rattle.saved.proofs.Digits.{number-small, complement-small, signed-
 use Rattle.saved.proofs.Digits.{complement-signed, bytes-back}
 use Rattle.saved.proofs.Blocks.{block-same, block-back}
 use Rattle.saved.proofs.Tables.{until-table, until-at}
-use Rattle.saved.proofs.Form.{Form, form-holds, form-by, same-map}
+use Rattle.saved.proofs.Form.{Form, form-holds, form-by}
+use Rattle.maps.proofs.Same.{same-fields}
 use Rattle.saved.proofs.Places.{length-saved, length-read, version-read, count-read}
 use Rattle.saved.proofs.Places.{reference-read, coordinate-read, helper-read, link-read}
 
@@ -186,7 +187,7 @@ module _ {m : Map} (s : Sound m) where
   pub map-back : map-in (saved m) ≡ m
   unfolding map-in
   map-back =
-      same-map
+      same-fields
       (coordinates-back (m .xs) (s .points .xs-whole) 0 (omega arith) (x-coordinate m))
       (coordinates-back (m .ys) (s .points .ys-whole) 1 (omega arith) (y-coordinate m))
       helpers-back

@@ -1,5 +1,4 @@
--- Files in form: what the test tells and what it wants; how the code finds its answer; and when two
--- maps are equal.
+-- Files in form: what the test tells and what it wants; how the code finds its answer.
 -- Document 01, number 7: "file under 9 bytes, length not matching n and the bytes lent, n above
 -- 512, version not 1, or helper byte above 1". Assumes nothing.
 use mathlib.Core.Path.{_≡_, sym}
@@ -11,7 +10,6 @@ use lib.Dec.{T, leb, eqb, eqb→eq, leb→le, le→leb}
 use lib.ListN.{length}
 use Rattle.finite.specs.Tests.{and-left, and-right, and-both, is-false, equal-by, same-test}
 use Rattle.finite.specs.Bounded.{all, all-at, all-by}
-use Rattle.model.specs.declared.Map.{Map}
 use Rattle.model.specs.Maps.{point-limit}
 use Rattle.model.specs.Saved.{version, number-at, version-place, header-length, saved-length}
 use Rattle.model.specs.Saved.{following}
@@ -87,10 +85,3 @@ helpers-decide s few whole l v =
     (λ t.
     all-by (count-in-file s) (λ k. leb (helper-in-file s (count-in-file s) k) 1)
     (λ k b. le→leb (helper-in-file s (count-in-file s) k) 1 (form-holds s t .helpers-right k b)))
-
--- maps with equal fields are equal
-pub same-map : {a b : Map} → a .xs ≡ b .xs → a .ys ≡ b .ys → a .helpers ≡ b .helpers →
-    a .edge ≡ b .edge →
-    a .count ≡ b .count → a .reference ≡ b .reference → a ≡ b
-same-map x y h e c r =
-    λ i. record { xs = x i; ys = y i; helpers = h i; edge = e i; count = c i; reference = r i }

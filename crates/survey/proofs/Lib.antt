@@ -1,6 +1,18 @@
+-- Reading and writing texts, and the laws that the functions cite. Nothing is assumed.
+--     Digits         digits read one after another
+--     Signs          a number is a sign and a magnitude
+--     Places         parts of a text by their places
+--     Separators     before and after the first of a byte
+--     Texts          the lines of a text by their places
+--     Overwriting    writing at a place of a lent list, one thing after another
+--     Decimals       numbers in decimal
+--     Magnitudes     the magnitude of a signed machine number
+--     Values         values printed one after another
+--     Printed        the printed lines of answers, and their lengths
+--     RoundTrip      numbers are read as they are written, and written as they are read
+--     Reports        the report by places of the text
 pub mod Digits
 pub mod Signs
-pub mod Tests
 pub mod Places
 pub mod Separators
 pub mod Texts

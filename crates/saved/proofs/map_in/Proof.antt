@@ -4,7 +4,8 @@ use mathlib.Core.Path.{ap, _∙_}
 use Prim.Native.Nat.{ℕ}
 use native.Mathlib.Omega.{arith}
 use Rattle.model.specs.Saved.{coordinates-in-file, helpers-in-file, links-in-file, map-in}
-use Rattle.saved.proofs.Form.{Form, form-holds, same-map}
+use Rattle.saved.proofs.Form.{Form, form-holds}
+use Rattle.maps.proofs.Same.{same-fields}
 use Rattle.saved.proofs.map_in.Statement.{statement}
 use Rattle.saved.proofs.map_in.Tie as tie
 
@@ -45,7 +46,7 @@ returns c =
     let n-read = c .before .before .before .before .before in
     let file = n-read .before .before .args .file .now in
     let n = n-read .number-at .ensures .0 in
-    same-map
+    same-fields
     (c .before .before .before .before .coordinates-in .ensures ∙ ap
     (λ (k : ℕ). coordinates-in-file file k 0) n)
     (c .before .before .before .coordinates-in2 .ensures ∙ ap

@@ -1,6 +1,6 @@
 -- `survey::numbers::is_magnitude` meets its contract: after each `&&` stands the conjunction of the
 -- tests so far. Assumes nothing.
-use Rattle.survey.proofs.Tests.{both-found, one-found}
+use Rattle.finite.specs.Loops.{both-asked, one-asked}
 use mathlib.Core.Path.{_≡_, sym, _∙_}
 use mathlib.Core.Logic.{⊎-elim}
 use mathlib.Core.Bool.{_&&_}
@@ -34,18 +34,18 @@ first-three : (c : tie.Joined2) → let s = c .before .before .before .args .s .
 first-three c =
     let found = first-two (c .before) in
     ⊎-elim
-    (λ w. w .2 ∙ both-found found (w .0 .taken) (w .1 .ensures))
-    (λ w. w .1 ∙ one-found _ found (w .0 .left))
+    (λ w. w .2 ∙ both-asked found (w .0 .taken) (w .1 .ensures))
+    (λ w. w .1 ∙ one-asked _ found (w .0 .left))
     (c .if2 .came)
 
 returns : tie.Need-returns
 unfolding is-magnitude
-returns c = both-found (first-three (c .before .before)) (c .before .if3 .taken) (c
+returns c = both-asked (first-three (c .before .before)) (c .before .if3 .taken) (c
     .has-no-leading-zero .ensures)
 
 returns-2 : tie.Need-returns-2
 unfolding is-magnitude
-returns-2 c = one-found _ (first-three (c .before)) (c .if3 .left)
+returns-2 c = one-asked _ (first-three (c .before)) (c .if3 .left)
 
 pub is-magnitude-spec : {M : Type 1} → statement M
 is-magnitude-spec =

@@ -229,7 +229,7 @@ invariant-run : (ps : List Point) → Invariant (run ps)
 unfolding run
 invariant-run ps = invariant-from (record { map = empty-map; history = [] }) invariant-start ps
 
--- every list of offers from the empty map ends in a sound map
+-- every list of offers from the empty map ends in a sound map (for request #107)
 pub run-sound : (ps : List Point) → Sound (run ps .map)
 run-sound ps = invariant-run ps .is-sound
 

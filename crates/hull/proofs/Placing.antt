@@ -117,6 +117,7 @@ module _ {m : Map} (s : Sound m) (two : 2 ≤ m .count) (p : Point) where
       ap (count-in (strictly-sees m p)) (sym (r .3)) ∙ count-in-swap (strictly-sees m p) (r .1) (r .0)
       ∙ ap (count-in (strictly-sees m p)) (r .2)
 
+  -- what an arrival sees is the same now (request #106 changes that, and drops this)
   pub strictly-visible-is : strictly-visible m p ≡ visible-edges m p
   unfolding visible-edges sees sees-edge
   strictly-visible-is = strictly-visible-outline

@@ -17,7 +17,7 @@ use Rattle.finite.specs.Counting.{least-passing}
 use Rattle.finite.specs.Lists.{elem, distinct, ring, elem-head, elem-cases}
 use Rattle.finite.specs.Cycles.{Chain, Cycle}
 use Rattle.finite.specs.ListLaws.{distinct-cons}
-use Rattle.finite.specs.CycleLaws.{cycle-holds, ring-of-cycle}
+use Rattle.finite.specs.CycleLaws.{cycle-holds}
 use Rattle.orbits.specs.Reach.{Reach, here, by-one}
 use Rattle.orbits.proofs.Reach.{Dart, reach-dart, reach-trans, by-one-link}
 use Rattle.orbits.proofs.Permutations.{Permutes, iterate, iterate-after, comes-back, orbit-keeps}
@@ -130,7 +130,3 @@ module _ {n : ℕ} {present : ℕ → Bool} {f : ℕ → ℕ} (p : Permutes n pr
 
   pub ringed-darts : {t : List ℕ} → Ringed f a t → (x : ℕ) → T (elem x (a ∷ t)) → Dart n present x
   ringed-darts r x m = reach-dart (orbit-keeps p) h (ringed-reach r x m)
-
--- `ring` runs through it
-pub ringed-ring : (f : ℕ → ℕ) (k a : ℕ) (t : List ℕ) → Ringed f a t → length (a ∷ t) ≤ k → ring f a k a ≡ a ∷ t
-ringed-ring f k a t r l = ring-of-cycle f a t k (r .cycle) (r .all-distinct) l

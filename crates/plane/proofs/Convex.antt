@@ -63,7 +63,7 @@ module _ {n : ℕ} {P : ℕ → Point} {next prev : ℕ → ℕ} where
         omega (arith, ap length (k .2), length-append (k .0) (a ∷ k .1), length-append (k .1) (k .0)),
       )
 
-  -- the ring that `next` makes from the first corner is the list
+  -- the ring that `next` makes from the first corner is the list (for request #103)
   pub convex-ring : (a : ℕ) (t : List ℕ) → Convex n P next prev (a ∷ t) → ring next a n a ≡ a ∷ t
   convex-ring a t D =
       ring-of-cycle next a t n

@@ -3,6 +3,7 @@
 // its number and values, and what every lent list holds, for every argument.
 
 mod checks;
+pub mod files;
 
 use crate::checks::check_dart;
 use hull::admitted;

@@ -1,0 +1,57 @@
+// Saving a map into a lent list, and loading the map of a file.
+
+use maps::empty_map;
+use maps::is_sound;
+use model::Loaded;
+use model::Map;
+use model::Outcome;
+use model::Refusal;
+use model::Written;
+use saved::is_in_form;
+use saved::map_in;
+use saved::saved_length;
+use saved::write_map;
+ghost use mathlib.Core.List.{[], _∷_};
+ghost use Rattle.model.specs.Answers.{Answered};
+ghost use Rattle.model.specs.Reading.{unsound};
+ghost use Rattle.model.specs.Lent.{Wrote};
+ghost use Rattle.model.specs.Saved.{load-call, saved};
+
+// The bytes of a map, written into a lent list: numbers 1 and 10. A longer list keeps its tail, and a
+// refused call writes nothing.
+pub fn save(map: Map, lent: &mut [u8]) -> Written
+    ensures { λ r. ⌜ Wrote (unsound map ∷ []) (saved map) (now (lent .entry)) (now (lent .exit)) r ⌝ }
+{
+    if !is_sound(map) {
+        return Written::Refused(Refusal::NotSound);
+    }
+    let length = saved_length(map.count);
+    if lent.len() < length {
+        return Written::Refused(Refusal::ShortList);
+    }
+    write_map(map, lent);
+    Written::Length(length)
+}
+
+// The map of a file: number 7, and then number 1. A refused call has the empty map beside its refusal.
+pub fn load(file: &[u8]) -> Loaded
+    ensures { λ r. ⌜ Answered (load-call (now (file .entry))) r ⌝ }
+{
+    if !is_in_form(file) {
+        return Loaded {
+            outcome: Outcome::Refused(Refusal::BadFile),
+            map: empty_map(),
+        };
+    }
+    let map = map_in(file);
+    if !is_sound(map) {
+        return Loaded {
+            outcome: Outcome::Refused(Refusal::NotSound),
+            map: empty_map(),
+        };
+    }
+    Loaded {
+        outcome: Outcome::Served,
+        map,
+    }
+}

@@ -4,6 +4,7 @@
 
 mod checks;
 pub mod files;
+pub mod texts;
 
 use crate::checks::check_dart;
 use hull::admitted;

@@ -19,6 +19,7 @@ pub mod Theorems
 pub mod Indices
 pub mod Seeing
 pub mod Cases
+pub mod Admissions
 pub mod Corners
 pub mod CornerLoops
 pub mod Views

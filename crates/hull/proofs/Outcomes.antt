@@ -45,7 +45,7 @@ pub data Decided (m : Map) (p : Point) : Offered → Type 0 where
 
 module _ (m : Map) (p : Point) where
   -- where no rule applies every condition of refusal fails
-  accepted-by : NoneApplies (offer-rules m p) → Accepted m p
+  pub accepted-by : NoneApplies (offer-rules m p) → Accepted m p
   unfolding is-repeated is-in-line
   accepted-by (nor unsound (nor full (nor far (nor repeated (nor in-a-line none))))) =
       record {

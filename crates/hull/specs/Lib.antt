@@ -4,6 +4,7 @@
 --     Listing     a list of corners, and a lent list with room for it
 --     Viewing     how a query point lies to an edge, and what is found in turn
 pub mod Requires
+pub mod Admission
 pub mod Sight
 pub mod Listing
 pub mod Viewing

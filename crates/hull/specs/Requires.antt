@@ -28,6 +28,10 @@ visible-at xs ys a b p = sees-edge (point-at xs ys a) (point-at xs ys b) p
 abbrev pub in-line-with : List ℤ → List ℤ → ℕ → Point → Bool
 in-line-with xs ys j p = any j (λ i. in-line (point-at xs ys i) (point-at xs ys j) p)
 
+-- p is in line with two of the first points
+abbrev pub in-line-among : List ℤ → List ℤ → ℕ → Point → Bool
+in-line-among xs ys count p = any count (λ j. in-line-with xs ys j p)
+
 -- edge links of which that of dart d is to be cut
 pub record Cuttable (edge : List ℕ) (d : ℕ) : Type 0 where
   pub whole : length edge ≡ dart-limit

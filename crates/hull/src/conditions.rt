@@ -7,7 +7,7 @@ use model::Point;
 use plane::are_in_line;
 ghost use mathlib.Core.Path.{_≡_};
 ghost use Rattle.model.specs.Arrival.{is-in-line, is-repeated};
-ghost use Rattle.hull.specs.Requires.{Ranged, in-line-with};
+ghost use Rattle.hull.specs.Requires.{Ranged, in-line-among, in-line-with};
 
 // Whether p is equal to a point of the map.
 pub fn is_repeated(map: Map, p: Point) -> bool
@@ -23,8 +23,16 @@ pub fn is_in_line(map: Map, p: Point) -> bool
     ensures { λ r. ⌜ r ≡ is-in-line map p ⌝ }
 {
     let count = map.count;
+    is_in_line_among(&map.xs, &map.ys, count, p)
+}
+
+// Whether p is in line with two of the first points.
+pub fn is_in_line_among<'a>(xs: &'a [i64], ys: &'a [i64], count: usize, p: Point) -> bool
+    requires { ⌜ Ranged (now xs) (now ys) p ⌝ }
+    ensures { λ r. ⌜ r ≡ in-line-among (now (xs .entry)) (now (ys .entry)) count p ⌝ }
+{
     for j in 0..count {
-        if is_in_line_with(&map.xs, &map.ys, j, p) {
+        if is_in_line_with(xs, ys, j, p) {
             return true;
         }
     }

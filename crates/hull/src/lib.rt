@@ -1,6 +1,7 @@
 // The arrival of a point in a map, and the outline that it leaves: why an offered point is refused, or
 // how it arrives.
 
+pub mod admission;
 mod change;
 mod conditions;
 pub mod listing;
@@ -59,7 +60,7 @@ fn refused(map: Map, refusal: Refusal) -> Offered
 }
 
 // The arrival of a point that is not refused.
-fn arrive(map: Map, p: Point) -> Offered
+pub fn arrive(map: Map, p: Point) -> Offered
     requires { ⌜ RoomFor map p ⌝ }
     ensures { λ r. ⌜ r ≡ arrive map p ⌝ }
 {

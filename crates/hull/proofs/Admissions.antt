@@ -1,0 +1,101 @@
+-- From what the coordinates of a sound map say of a point to the offer, in the order of this page: a point
+-- that is refused; one that is accepted; the numbers that an outside arrival reports are small.
+-- Assumes nothing.
+use mathlib.Core.Path.{_≡_, sym, ap, _∙_}
+use mathlib.Core.Bool.{Bool, true, false, not, cond}
+use mathlib.Core.List.{List, [], _∷_}
+use Prim.Native.Nat.{ℕ, zero, suc, _+_, _≤_, _<_}
+use native.Mathlib.Omega.{arith}
+use lib.Dec.{T, T-not, ltb, eqb}
+use lib.ListN.{length}
+use Rattle.finite.specs.Tests.{is-true}
+use Rattle.finite.specs.Bounded.{one-if}
+use Rattle.finite.specs.Lists.{count-in, ring}
+use Rattle.model.specs.declared.Refusal.{Refusal}
+use Rattle.model.specs.declared.Outcome.{Outcome}
+use Rattle.model.specs.declared.Point.{Point}
+use Rattle.model.specs.declared.Map.{Map}
+use Rattle.model.specs.declared.Offered.{Offered}
+use Rattle.model.specs.Maps.{point-limit, owner, point}
+use Rattle.model.specs.Sound.{sound, Sound}
+use Rattle.model.specs.Outline.{next-corner, outline, corners-from, visible-edges, sees}
+use Rattle.model.specs.Refusals.{nor}
+use Rattle.model.specs.Reading.{unsound}
+use Rattle.model.specs.Arrival.{arrive, refusing, admission-rules, is-repeated, is-in-line, left-corner, right-corner}
+use Rattle.model.specs.Offers.{offer}
+use Rattle.model.proofs.Sound.{sound-by}
+use Rattle.model.proofs.Answers.{rule-passes, outcome-refuses, outcome-serves, served-none}
+use Rattle.hull.specs.Admission.{RangedPlaces, admission-by}
+use Rattle.hull.specs.Requires.{RoomFor}
+use Rattle.hull.proofs.Indices.{place-ranged, spliceable}
+use Rattle.hull.proofs.Outcomes.{Accepted, accepted-by}
+
+not-sound : {m : Map} → Sound m → not (sound m) ≡ false
+not-sound {m} s = ap not (is-true (sound m) (sound-by m s))
+
+pub ranged-places : {m : Map} → Sound m → RangedPlaces (m .xs) (m .ys)
+unfolding point
+ranged-places s = record { places = place-ranged s }
+
+module _ {m : Map} (s : Sound m) (p : Point) where
+  pub admission-refused : (r : Refusal) → Outcome.Refused r ≡ admission-by (m .xs) (m .ys) (m .count) p →
+      offer m p ≡ refusing m r
+  unfolding admission-by is-repeated is-in-line point offer
+  admission-refused r e =
+      sym (rule-passes (refusing m) (unsound m) (admission-rules m p) (arrive m p) (not-sound s)
+      (outcome-refuses (refusing m) (arrive m p) (admission-rules m p) r e))
+
+  module _ (e : Outcome.Served ≡ admission-by (m .xs) (m .ys) (m .count) p) where
+    pub admission-served : offer m p ≡ arrive m p
+    unfolding admission-by is-repeated is-in-line point offer
+    admission-served =
+        sym (rule-passes (refusing m) (unsound m) (admission-rules m p) (arrive m p) (not-sound s)
+        (outcome-serves (refusing m) (arrive m p) (admission-rules m p) e))
+
+    pub admission-accepted : Accepted m p
+    unfolding admission-by is-repeated is-in-line point
+    admission-accepted =
+        accepted-by m p (nor (λ t. T-not (sound m) t (sound-by m s)) (served-none (admission-rules m p) e))
+
+-- what an arrival requires
+pub accepted-room : {m : Map} {p : Point} → Accepted m p → RoomFor m p
+accepted-room a = record { is-sound = a .is-sound; room = a .room; offered = a .ranged }
+
+-- ---- how large the numbers are that an arrival reports
+
+count-in-most : (p : ℕ → Bool) (s : List ℕ) → count-in p s ≤ length s
+unfolding count-in one-if
+count-in-most p [] = omega arith
+count-in-most p (x ∷ s) = go (p x) (count-in-most p s)
+  where
+    go : (b : Bool) → count-in p s ≤ length s → one-if b + count-in p s ≤ suc (length s)
+    go true h = omega arith
+    go false h = omega arith
+
+ring-most : (f : ℕ → ℕ) (start k a : ℕ) → length (ring f start k a) ≤ k
+unfolding ring
+ring-most f start zero a = omega arith
+ring-most f start (suc k) a = go (eqb (f a) start) (ring-most f start k (f a))
+  where
+    go : (b : Bool) → length (ring f start k (f a)) ≤ k →
+        suc (length (cond b [] (ring f start k (f a)))) ≤ suc k
+    go true h = omega arith
+    go false h = omega arith
+
+outline-most : (m : Map) → length (outline m) ≤ m .count
+unfolding outline corners-from
+outline-most m = go (ltb (m .count) 2) (ring-most (next-corner m) (owner (m .reference)) (m .count) (owner (m .reference)))
+  where
+    go : (b : Bool) → length (corners-from m (owner (m .reference))) ≤ m .count →
+        length (cond b [] (corners-from m (owner (m .reference)))) ≤ m .count
+    go true h = omega arith
+    go false h = h
+
+pub visible-most : (m : Map) (p : Point) → visible-edges m p ≤ m .count
+unfolding visible-edges
+visible-most m p = omega (arith, count-in-most (sees m p) (outline m), outline-most m)
+
+pub corners-below : {m : Map} {p : Point} → Accepted m p → 2 ≤ m .count →
+    (left-corner m p < point-limit) × (right-corner m p < point-limit)
+corners-below a two =
+    let s = spliceable (accepted-room a) two in (s .left-below, s .right-below)

@@ -1,0 +1,93 @@
+-- What becomes of a line, as a sound map's coordinates have it, is what the definitions offer, in the
+-- order of this page: a refused line; an accepted one, and what its arrival reports; the code's way to it.
+-- Assumes nothing.
+use mathlib.Core.Path.{_≡_, ap, subst, _∙_}
+use mathlib.Core.List.{List}
+use Prim.Native.Nat.{ℕ, _≤_}
+use lib.IntN.{ℤ}
+use native.Mathlib.Omega.{arith}
+use Rattle.model.specs.declared.Refusal.{Refusal}
+use Rattle.model.specs.declared.Outcome.{Outcome}
+use Rattle.model.specs.declared.Point.{Point}
+use Rattle.model.specs.declared.Map.{Map}
+use Rattle.model.specs.declared.Line.{Line}
+use Rattle.model.specs.declared.Offered.{Offered}
+use Rattle.model.specs.Maps.{point-limit}
+use Rattle.model.specs.Sound.{Sound}
+use Rattle.model.specs.Arrival.{arrive, refusing}
+use Rattle.model.specs.Outline.{visible-edges}
+use Rattle.model.specs.Offers.{offer}
+use Rattle.model.specs.Report.{offer-line}
+use Rattle.hull.specs.Admission.{admission-by}
+use Rattle.hull.proofs.Admissions.{admission-refused, admission-served, admission-accepted, visible-most, corners-below}
+use Rattle.hull.proofs.Outcomes.{Accepted, Arrives, first, second, inside, outside, arrive-arrives}
+use Rattle.hull.proofs.Arrivals.{arrival-sound}
+use Rattle.reports.specs.declared.deciding.Verdict.{Verdict}
+use Rattle.reports.specs.Verdicts.{verdict-on, verdict-by}
+use Rattle.reports.specs.Packing as packing
+use Rattle.reports.specs.Packing.{Packable}
+
+outcome-refused : (p : Point) (r : Refusal) (o : Outcome) → Verdict.Refused r ≡ verdict-on p o → Outcome.Refused r ≡ o
+unfolding verdict-on
+outcome-refused p r Outcome.Served e = absurd (let z : _≡_ {A = ℕ} 0 1 = cc in omega arith)
+outcome-refused p r (Outcome.Refused q) e = cc
+
+outcome-served : (p q : Point) (o : Outcome) → Verdict.Accepted q ≡ verdict-on p o → (p ≡ q) × (Outcome.Served ≡ o)
+unfolding verdict-on
+outcome-served p q Outcome.Served e = (cc, cc)
+outcome-served p q (Outcome.Refused r) e = absurd (let z : _≡_ {A = ℕ} 0 1 = cc in omega arith)
+
+module _ {m : Map} (s : Sound m) where
+  pub line-refused : (line : Line) (r : Refusal) →
+      Verdict.Refused r ≡ verdict-by (m .xs) (m .ys) (m .count) line → offer-line m line ≡ refusing m r
+  unfolding verdict-by offer-line
+  line-refused (Line.Named p) r e = admission-refused s p r (outcome-refused p r _ e)
+  line-refused (Line.Refused q) r e = cc
+
+  pub line-accepted : (line : Line) (q : Point) →
+      Verdict.Accepted q ≡ verdict-by (m .xs) (m .ys) (m .count) line →
+      (offer-line m line ≡ arrive m q) × Accepted m q
+  unfolding verdict-by offer-line
+  line-accepted (Line.Named p) q e =
+      let o = outcome-served p q (admission-by (m .xs) (m .ys) (m .count) p) e in
+      let both : (offer m p ≡ arrive m p) × Accepted m p =
+      (admission-served s p (o .1), admission-accepted s p (o .1)) in
+      (both .0 ∙ ap (arrive m) (o .0), subst (Accepted m) (o .0) (both .1))
+  line-accepted (Line.Refused r) q e = absurd (let z : _≡_ {A = ℕ} 0 1 = cc in omega arith)
+
+-- ---- the arrival of an accepted point
+
+pub arrive-sound : {m : Map} {p : Point} → Accepted m p → Sound (arrive m p .map)
+arrive-sound {m} {p} a = arrival-sound m p a (arrive m p) (arrive-arrives m p)
+
+packable-by : {m : Map} {p : Point} → Accepted m p → (o : Offered) → Arrives m p o → Packable (o .arrival)
+packable-by a o (first e) = packing.first
+packable-by a o (second e) = packing.second
+packable-by a o (inside two e) = packing.inside
+packable-by {m} {p} a o (outside two n) =
+    let few : visible-edges m p ≤ point-limit = omega (arith, visible-most m p, a .room) in
+    packing.outside
+    (record {
+      left-below = corners-below a two .0;
+      right-below = corners-below a two .1;
+      visible-most = few;
+    })
+
+pub arrive-packable : {m : Map} {p : Point} → Accepted m p → Packable (arrive m p .arrival)
+arrive-packable {m} {p} a = packable-by a (arrive m p) (arrive-arrives m p)
+
+-- ---- what the code finds
+
+module _ (xs ys : List ℤ) (count : ℕ) (line : Line) where
+  module _ {p : Point} {o : Outcome} (named : line ≡ Line.Named p) (asked : o ≡ admission-by xs ys count p) where
+    pub found-accepted : o ≡ Outcome.Served → Verdict.Accepted p ≡ verdict-by xs ys count line
+    unfolding verdict-by verdict-on
+    found-accepted e = rw (named, ← asked, e)
+
+    pub found-refused : {r : Refusal} → o ≡ Outcome.Refused r → Verdict.Refused r ≡ verdict-by xs ys count line
+    unfolding verdict-by verdict-on
+    found-refused e = rw (named, ← asked, e)
+
+  pub found-malformed : {r : Refusal} → line ≡ Line.Refused r → Verdict.Refused r ≡ verdict-by xs ys count line
+  unfolding verdict-by
+  found-malformed e = rw e

@@ -1,0 +1,128 @@
+-- `reports::deciding::refuse_lines` meets its contract. The loop's invariant: what is decided and what is
+-- ahead make up the report. The measure is what is left of the text. Assumes nothing.
+use borrow.Author.Needs.{needs}
+use mathlib.Core.Path.{_≡_, sym, _∙_}
+use mathlib.Core.Bool.{true, false}
+use Prim.Native.Nat.{_-_, _≤_}
+use native.Mathlib.Omega.{arith}
+use borrow.Author.Tests.{not-true, not-false}
+use denote.Ref.{now}
+use lib.ListN.{length}
+use Rattle.survey.specs.Places.{at-end}
+use Rattle.hull.proofs.Admissions.{ranged-places}
+use Rattle.reports.specs.Packing.{refused}
+use Rattle.reports.specs.Deciding.{Reports}
+use Rattle.reports.proofs.Decisions.{place-free, place-further, refuse-next, stops-before, stops-at-end}
+use Rattle.reports.proofs.deciding.refuse_lines.Statement.{statement}
+use Rattle.reports.proofs.deciding.refuse_lines.Tie as tie
+
+abbrev Inv-loop : tie.InvT-loop
+Inv-loop text at line answers₀ map count place₀ number₀ answers place number =
+    Reports text map answers number place × (at ≤ place)
+
+abbrev μ-loop : tie.MeasureT-loop
+μ-loop text at line answers₀ map count place₀ number₀ answers place number = length text - place
+
+loop-holds : tie.Need-loop-holds Inv-loop μ-loop
+loop-holds c = (c .before .pre, omega arith)
+
+is-ended-requires : tie.Need-is-ended-requires Inv-loop μ-loop
+is-ended-requires c κs = search needs
+
+line-from-requires : tie.Need-line-from-requires Inv-loop μ-loop
+line-from-requires c κs = search needs
+
+-- where an iteration begins
+abbrev in-loop : tie.After-line-from Inv-loop μ-loop → tie.Then1 Inv-loop μ-loop
+in-loop c = c .before .before .before .before .before .before
+
+-- there is a line
+there : (c : tie.Then1 Inv-loop μ-loop) →
+    let l = c .before .before in at-end (now (l .before .before .args .text)) (l .loop .place) ≡ false
+there c = sym (c .before .is-ended .ensures) ∙ not-true _ (c .if1 .taken)
+
+verdict-on-requires : tie.Need-verdict-on-requires Inv-loop μ-loop
+verdict-on-requires c κs = ranged-places (in-loop c .before .before .loop .inv .0 .is-sound)
+
+enum-known-found : tie.Need-enum-known-found Inv-loop μ-loop
+enum-known-found c = search needs
+
+returns : tie.Need-returns Inv-loop μ-loop
+returns c =
+    let call = c .before .before .before in
+    let test = in-loop (call .before) in
+    let l = test .before .before in
+    stops-before (l .loop .inv .0) (l .loop .inv .1) (there test) (c .before .found .given .1)
+    (call .verdict-on .ensures) (call .before .line-from .ensures)
+
+enum-known-found-2 : tie.Need-enum-known-found-2 Inv-loop μ-loop
+enum-known-found-2 c = search needs
+
+packed-requires : tie.Need-packed-requires Inv-loop μ-loop
+packed-requires c κs = refused _
+
+-- where a refused line was found
+abbrev at-test : tie.After-packed Inv-loop μ-loop → tie.Then1 Inv-loop μ-loop
+at-test c = in-loop (c .before .before .before .before .before)
+
+mul-answers : tie.Need-mul-answers Inv-loop μ-loop
+mul-answers c =
+    let test = at-test c in omega (arith, place-free (test .before .before .loop .inv .0) (there test))
+
+element-write-answers : tie.Need-element-write-answers Inv-loop μ-loop
+element-write-answers c =
+    let test = at-test c in omega (arith, place-free (test .before .before .loop .inv .0) (there test))
+
+next-from-requires : tie.Need-next-from-requires Inv-loop μ-loop
+next-from-requires c κs = search needs
+
+add-number : tie.Need-add-number Inv-loop μ-loop
+add-number c =
+    let test = at-test (c .before) in omega (arith, place-free (test .before .before .loop .inv .0) (there test))
+
+loop-less : tie.Need-loop-less Inv-loop μ-loop
+loop-less c =
+    let test = at-test (c .before) in
+    let l = test .before .before in
+    let on = place-further (l .loop .inv .0) (there test) in
+    omega (arith, on .0, on .1, c .next-from .ensures)
+
+loop-again : tie.Need-loop-again Inv-loop μ-loop
+loop-again c =
+    let kept = c .before in
+    let told = kept .before .before in
+    let call = told .before .before in
+    let test = at-test kept in
+    let l = test .before .before in
+    let on = place-further (l .loop .inv .0) (there test) in
+    (refuse-next (l .loop .inv .0) (there test) _ (told .found2 .given .1) (call .verdict-on .ensures)
+    (call .before .line-from .ensures) (kept .packed .ensures) (c .next-from .ensures),
+    omega (arith, on .0, c .next-from .ensures, l .loop .inv .1))
+
+returns-2 : tie.Need-returns-2 Inv-loop μ-loop
+returns-2 c =
+    let l = c .before .before in
+    stops-at-end (l .loop .inv .0) (l .loop .inv .1) _
+    (sym (c .before .is-ended .ensures) ∙ not-false _ (c .if1 .left))
+
+pub refuse-lines-spec : {M : Type 1} → statement M
+refuse-lines-spec =
+    tie.close
+    (tie.spec
+    Inv-loop
+    μ-loop
+    loop-holds
+    is-ended-requires
+    line-from-requires
+    verdict-on-requires
+    enum-known-found
+    returns
+    enum-known-found-2
+    packed-requires
+    mul-answers
+    element-write-answers
+    next-from-requires
+    add-number
+    loop-less
+    loop-again
+    returns-2)

@@ -1,0 +1,47 @@
+-- `reports::deciding::verdict_on` meets its contract, by what the line names and what the rules came to.
+-- Assumes nothing.
+use borrow.Author.Needs.{needs}
+use Rattle.reports.proofs.Verdicts.{found-accepted, found-refused, found-malformed}
+use Rattle.reports.proofs.deciding.verdict_on.Statement.{statement}
+use Rattle.reports.proofs.deciding.verdict_on.Tie as tie
+
+enum-known-line : tie.Need-enum-known-line
+enum-known-line c = search needs
+
+admission-requires : tie.Need-admission-requires
+admission-requires c κs = search needs
+
+enum-told : tie.Need-enum-told
+enum-told c = search needs
+
+enum-known-outcome : tie.Need-enum-known-outcome
+enum-known-outcome c = search needs
+
+enum-known-line-2 : tie.Need-enum-known-line-2
+enum-known-line-2 c = search needs
+
+returns : tie.Need-returns
+returns c =
+    let call = c .before .before in
+    found-accepted _ _ _ _ (call .before .before .line .given .1) (call .admission .ensures) (c .enum-told .given .1)
+
+returns-2 : tie.Need-returns-2
+returns-2 c =
+    let call = c .before .before .before in
+    found-refused _ _ _ _ (call .before .before .line .given .1) (call .admission .ensures) (c .before .outcome .given .1)
+
+returns-3 : tie.Need-returns-3
+returns-3 c = found-malformed _ _ _ _ (c .before .line2 .given .1)
+
+pub verdict-on-spec : {M : Type 1} → statement M
+verdict-on-spec =
+    tie.close
+    (tie.spec
+    enum-known-line
+    admission-requires
+    enum-told
+    enum-known-outcome
+    enum-known-line-2
+    returns
+    returns-2
+    returns-3)

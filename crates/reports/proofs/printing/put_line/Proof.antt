@@ -1,0 +1,163 @@
+-- `reports::printing::put_line` meets its contract, one kind of line after another. Assumes nothing.
+use borrow.Author.Needs.{needs}
+use mathlib.Core.Path.{_≡_, sym, ap, _∙_}
+use Prim.Native.Nat.{_-_}
+use denote.Ref.{now}
+use Rattle.model.specs.Spelling.{bytes}
+use Rattle.survey.specs.Printing.{arrival-line}
+use Rattle.survey.proofs.Overwriting.{room-as, wrote-as}
+use Rattle.reports.specs.Packing.{unpacked}
+use Rattle.reports.specs.Lines.{answer-at, report-line}
+use Rattle.reports.proofs.ReportLines.{header-is, long-is, answer-is, corners-is, counts-is}
+use Rattle.reports.proofs.printing.put_line.Statement.{statement}
+use Rattle.reports.proofs.printing.put_line.Tie as tie
+
+slice-aggregate-put-word : tie.Need-slice-aggregate-put-word
+slice-aggregate-put-word c = search needs
+
+put-word-requires : tie.Need-put-word-requires
+unfolding bytes
+put-word-requires c κs =
+    let test = c .before .before in
+    room-as (sym (header-is _ _ _ _ (test .if1 .taken))) (test .before .before .before .before .pre)
+
+same-length : tie.Need-same-length
+same-length c = search needs
+
+returns : tie.Need-returns
+unfolding bytes
+returns c =
+    let call = c .before .before in
+    wrote-as (sym (header-is _ _ _ _ (call .before .before .before .if1 .taken))) (call .put-word .ensures)
+
+put-refused-requires : tie.Need-put-refused-requires
+put-refused-requires c κs =
+    let test = c .before in
+    room-as (sym (long-is _ _ _ _ (test .before .if1 .left) (test .if2 .taken)))
+    (test .before .before .before .before .before .pre)
+
+same-length-2 : tie.Need-same-length-2
+same-length-2 c = search needs
+
+returns-2 : tie.Need-returns-2
+returns-2 c =
+    let call = c .before .before in
+    let test = call .before .before in
+    wrote-as (sym (long-is _ _ _ _ (test .before .if1 .left) (test .if2 .taken))) (call .put-refused .ensures)
+
+sub-i : tie.Need-sub-i
+sub-i c = search needs
+
+answer-at-requires : tie.Need-answer-at-requires
+answer-at-requires c κs = search needs
+
+unpacked-requires : tie.Need-unpacked-requires
+unpacked-requires c κs = search needs
+
+-- the line of the answer that was read
+line-read : (c : tie.After-unpacked) →
+    let test = c .before .before .before in
+    let s = test .before .before .before .before .before .before .before .args in
+    report-line (now (s .answers)) (now (s .corners)) (s .ends) (s .j)
+    ≡ arrival-line (s .j - 1) (c .unpacked .result)
+line-read c =
+    let test = c .before .before .before in
+    let else2 = test .before .before in
+    sym (ap (arrival-line _) (c .unpacked .ensures ∙ ap unpacked (c .before .answer-at .ensures))
+    ∙ answer-is _ _ _ _ (else2 .before .if1 .left) (else2 .if2 .left) (test .if3 .taken))
+
+put-arrival-requires : tie.Need-put-arrival-requires
+put-arrival-requires c κs =
+    room-as (line-read c) (c .before .before .before .before .before .before .before .before .before .before .pre)
+
+same-length-3 : tie.Need-same-length-3
+same-length-3 c = search needs
+
+returns-3 : tie.Need-returns-3
+returns-3 c =
+    let call = c .before .before in
+    wrote-as (line-read (call .before)) (call .put-arrival .ensures)
+
+slice-aggregate-put-answer : tie.Need-slice-aggregate-put-answer
+slice-aggregate-put-answer c = search needs
+
+put-answer-requires : tie.Need-put-answer-requires
+unfolding bytes
+put-answer-requires c κs =
+    let test = c .before .before in
+    let else3 = test .before .before in
+    let else2 = else3 .before .before in
+    room-as
+    (sym (corners-is _ _ _ _ (else2 .before .if1 .left) (else2 .if2 .left) (else3 .if3 .left) (test .if4 .taken)))
+    (else2 .before .before .before .before .before .pre)
+
+same-length-4 : tie.Need-same-length-4
+same-length-4 c = search needs
+
+returns-4 : tie.Need-returns-4
+unfolding bytes
+returns-4 c =
+    let call = c .before .before in
+    let test = call .before .before .before in
+    let else3 = test .before .before in
+    let else2 = else3 .before .before in
+    wrote-as
+    (sym (corners-is _ _ _ _ (else2 .before .if1 .left) (else2 .if2 .left) (else3 .if3 .left) (test .if4 .taken)))
+    (call .put-answer .ensures)
+
+slice-aggregate-put-answer-2 : tie.Need-slice-aggregate-put-answer-2
+slice-aggregate-put-answer-2 c = search needs
+
+slice-aggregate-put-answer-3 : tie.Need-slice-aggregate-put-answer-3
+slice-aggregate-put-answer-3 c = search needs
+
+put-answer-requires-2 : tie.Need-put-answer-requires-2
+unfolding bytes
+put-answer-requires-2 c κs =
+    let else4 = c .before .before .before .before in
+    let else3 = else4 .before .before in
+    let else2 = else3 .before .before in
+    room-as
+    (sym (counts-is _ _ _ _ (else2 .before .if1 .left) (else2 .if2 .left) (else3 .if3 .left) (else4 .if4 .left)))
+    (else2 .before .before .before .before .before .pre)
+
+same-length-5 : tie.Need-same-length-5
+same-length-5 c = search needs
+
+returns-5 : tie.Need-returns-5
+unfolding bytes
+returns-5 c =
+    let call = c .before .before in
+    let else4 = call .before .before .before .before .before in
+    let else3 = else4 .before .before in
+    let else2 = else3 .before .before in
+    wrote-as
+    (sym (counts-is _ _ _ _ (else2 .before .if1 .left) (else2 .if2 .left) (else3 .if3 .left) (else4 .if4 .left)))
+    (call .put-answer2 .ensures)
+
+pub put-line-spec : {M : Type 1} → statement M
+put-line-spec =
+    tie.close
+    (tie.spec
+    slice-aggregate-put-word
+    put-word-requires
+    same-length
+    returns
+    put-refused-requires
+    same-length-2
+    returns-2
+    sub-i
+    answer-at-requires
+    unpacked-requires
+    put-arrival-requires
+    same-length-3
+    returns-3
+    slice-aggregate-put-answer
+    put-answer-requires
+    same-length-4
+    returns-4
+    slice-aggregate-put-answer-2
+    slice-aggregate-put-answer-3
+    put-answer-requires-2
+    same-length-5
+    returns-5)

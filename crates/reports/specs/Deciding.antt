@@ -1,0 +1,62 @@
+-- How far a report is decided, in the order of this page: the answers before a line and the lines ahead
+-- make up the report; where the refusals stop; all lines; what was decided. Assumes nothing.
+use mathlib.Core.Path.{_≡_}
+use mathlib.Core.Bool.{true, false}
+use mathlib.Core.List.{List, _++_}
+use Prim.Native.Nat.{ℕ, _≤_}
+use lib.ListN.{length, drop}
+use Rattle.model.specs.declared.Map.{Map}
+use Rattle.model.specs.Maps.{point-limit, empty-map}
+use Rattle.model.specs.Sound.{Sound}
+use Rattle.model.specs.Text.{lines}
+use Rattle.model.specs.Report.{text-limit, arrivals, closing, report}
+use Rattle.survey.specs.Places.{at-end, line-at}
+use Rattle.reports.specs.declared.deciding.Verdict.{Verdict}
+use Rattle.reports.specs.declared.deciding.Stop.{Stop}
+use Rattle.reports.specs.declared.deciding.Surveyed.{Surveyed}
+use Rattle.reports.specs.declared.Decided.{Decided}
+use Rattle.reports.specs.Verdicts.{verdict-by}
+use Rattle.reports.specs.Lines.{answer-lines, report-of}
+
+-- the answers of the lines before number n, and the lines from a place on, offered to the map
+pub record Reports (text : List ℕ) (m : Map) (answers : List ℕ) (n at : ℕ) : Type 0 where
+  pub is-sound : Sound m
+  pub together :
+      answer-lines answers n ++ arrivals m n (lines (drop at text)) ≡ arrivals empty-map 0 (lines text)
+  pub few : n ≤ at
+  pub inside : at ≤ length text
+  pub short : length text ≤ text-limit
+  pub whole : length answers ≡ text-limit
+
+-- from place `at` on, the refused lines are decided, up to the end or to a line whose point is accepted
+pub record Stopped (text : List ℕ) (m : Map) (answers : List ℕ) (at : ℕ) (s : Stop) : Type 0 where
+  pub reports : Reports text m answers (s .line) (s .at)
+  pub further : at ≤ s .at
+  pub at-the-end : s .ended ≡ true → at-end text (s .at) ≡ true
+  pub goes-on : s .ended ≡ false → at-end text (s .at) ≡ false
+  pub accepted : s .ended ≡ false →
+      Verdict.Accepted (s .p) ≡ verdict-by (m .xs) (m .ys) (m .count) (line-at text (s .at))
+
+-- a text that is not too long, and a place for the answer of each of its lines
+pub record Readable (text answers : List ℕ) : Type 0 where
+  pub short : length text ≤ text-limit
+  pub whole : length answers ≡ text-limit
+
+-- the answers of all lines, and the last two lines on the map, make up the report
+pub record Surveys (text answers : List ℕ) (s : Surveyed) : Type 0 where
+  pub is-sound : Sound (s .map)
+  pub whole : length answers ≡ text-limit
+  pub lines-fit : s .lines ≤ text-limit
+  pub together : answer-lines answers (s .lines) ++ closing (s .map) ≡ arrivals empty-map 0 (lines text)
+
+-- arrays and numbers within their limits
+pub record Fits (d : Decided) : Type 0 where
+  pub answers-whole : length (d .answers) ≡ text-limit
+  pub corners-whole : length (d .corners) ≡ point-limit
+  pub corners-fit : d .listed ≤ point-limit
+  pub lines-fit : d .ends .lines ≤ text-limit
+
+-- what is decided is the report on the text
+pub record Decides (text : List ℕ) (d : Decided) : Type 0 where
+  pub fits : Fits d
+  pub is-report : report-of d ≡ report text

@@ -1,0 +1,124 @@
+// What becomes of the lines of a text, one after another. A refused line asks the map's coordinates and
+// copies no map; a map moves where it grows.
+
+use super::packing::packed;
+use hull::admission::admission;
+use hull::arrive;
+use maps::empty_map;
+use model::Arrival;
+use model::Line;
+use model::Map;
+use model::Outcome;
+use model::Point;
+use model::Refusal;
+use survey::reader::is_ended;
+use survey::reader::line_from;
+use survey::reader::next_from;
+ghost use mathlib.Core.Path.{_≡_};
+ghost use Rattle.hull.specs.Admission.{RangedPlaces};
+ghost use Rattle.reports.specs.Verdicts.{verdict-by};
+ghost use Rattle.reports.specs.Deciding.{Readable, Reports, Stopped, Surveys};
+
+// A text above so many bytes is refused.
+pub const TEXT_LIMIT: usize = 65536;
+
+// What becomes of a line: the point that it names and that is accepted, or why it is refused.
+pub enum Verdict {
+    Accepted(Point),
+    Refused(Refusal),
+}
+
+// The place of a text and the number of the line there at which the refusals stop: at the end of the
+// text, or before a line that names an accepted point.
+pub struct Stop {
+    pub at: usize,
+    pub line: usize,
+    pub ended: bool,
+    pub p: Point,
+}
+
+// The map at the end of a text, and how many lines the text has.
+pub struct Surveyed {
+    pub map: Map,
+    pub lines: usize,
+}
+
+// Whether what a line names is accepted by a map with these coordinates.
+pub(crate) fn verdict_on<'a>(xs: &'a [i64], ys: &'a [i64], count: usize, line: Line) -> Verdict
+    requires { ⌜ RangedPlaces (now xs) (now ys) ⌝ }
+    ensures { λ r. ⌜ r ≡ verdict-by (now (xs .entry)) (now (ys .entry)) count line ⌝ }
+{
+    match line {
+        Line::Named(p) => {
+            let outcome = admission(xs, ys, count, p);
+            match outcome {
+                Outcome::Served => Verdict::Accepted(p),
+                Outcome::Refused(refusal) => Verdict::Refused(refusal),
+            }
+        }
+        Line::Refused(refusal) => Verdict::Refused(refusal),
+    }
+}
+
+// Decides the refused lines from a place on, up to the first line whose point is accepted.
+pub(crate) fn refuse_lines(
+    text: &[u8],
+    at: usize,
+    line: usize,
+    map: Map,
+    answers: &mut [u32; TEXT_LIMIT],
+) -> Stop
+    requires { ⌜ Reports (now text) map (now answers) line at ⌝ }
+    ensures { λ r. ⌜ Stopped (now (text .entry)) map (now (answers .exit)) at r ⌝ }
+{
+    let count = map.count;
+    let mut place = at;
+    let mut number = line;
+    while !is_ended(text, place) {
+        let found = verdict_on(&map.xs, &map.ys, count, line_from(text, place));
+        match found {
+            Verdict::Accepted(p) => {
+                return Stop {
+                    at: place,
+                    line: number,
+                    ended: false,
+                    p,
+                };
+            }
+            Verdict::Refused(refusal) => {
+                answers[number] = packed(Arrival::Refused(refusal));
+            }
+        }
+        place = next_from(text, place);
+        number += 1;
+    }
+    Stop {
+        at: place,
+        line: number,
+        ended: true,
+        p: Point { x: 0, y: 0 },
+    }
+}
+
+// Decides every line of a text that is not too long, from the empty map on.
+pub(crate) fn decide_lines(text: &[u8], answers: &mut [u32; TEXT_LIMIT]) -> Surveyed
+    requires { ⌜ Readable (now text) (now answers) ⌝ }
+    ensures { λ r. ⌜ Surveys (now (text .entry)) (now (answers .exit)) r ⌝ }
+{
+    let mut map = empty_map();
+    let mut stop = refuse_lines(text, 0, 0, map, answers);
+    while !stop.ended {
+        let at = stop.at;
+        let line = stop.line;
+        let p = stop.p;
+        let offered = arrive(map, p);
+        let arrival = offered.arrival;
+        map = offered.map;
+        answers[line] = packed(arrival);
+        stop = refuse_lines(text, next_from(text, at), line + 1, map, answers);
+    }
+    Surveyed {
+        map,
+        lines: stop.line,
+    }
+}

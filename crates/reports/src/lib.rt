@@ -1,0 +1,119 @@
+// The report on a survey text. First every line is decided, then the report's length is known, and
+// then its bytes are written: nothing is computed twice, and no array holds a report.
+
+pub mod deciding;
+mod packing;
+pub mod printing;
+
+use crate::deciding::TEXT_LIMIT;
+use crate::deciding::decide_lines;
+use crate::printing::Ends;
+use crate::printing::Piece;
+use crate::printing::put_lines;
+use crate::printing::total_length;
+use hull::listing::corners_of;
+use maps::traversal::counts_of;
+use model::Counts;
+use model::POINT_LIMIT;
+ghost use mathlib.Core.Path.{_≡_};
+ghost use mathlib.Core.List.{_++_};
+ghost use Prim.Native.Nat.{_≤_};
+ghost use lib.ListN.{drop, length};
+ghost use Rattle.reports.specs.Lines.{report-of};
+ghost use Rattle.reports.specs.Deciding.{Decides, Fits};
+ghost use Rattle.reports.specs.Pieces.{WroteLines};
+
+// What is decided of a text: the answers of its lines, each as one number; the corners, which are the
+// first so many of a list; and the ends.
+pub struct Decided {
+    pub answers: [u32; TEXT_LIMIT],
+    pub corners: [usize; POINT_LIMIT],
+    pub listed: usize,
+    pub ends: Ends,
+}
+
+// Decides a text, whatever its bytes are. One that is too long is decided without being read.
+pub fn decide(text: &[u8]) -> Decided
+    ensures { λ r. ⌜ Decides (now (text .entry)) r ⌝ }
+{
+    let mut answers = no_answers();
+    if TEXT_LIMIT < text.len() {
+        let counts = Counts {
+            darts: 0,
+            vertices: 0,
+            edges: 0,
+            faces: 0,
+            parts: 0,
+        };
+        let ends = Ends {
+            lines: 0,
+            long: true,
+            counts,
+        };
+        let corners = [0usize; POINT_LIMIT];
+        return Decided {
+            answers,
+            corners,
+            listed: 0,
+            ends,
+        };
+    }
+    let surveyed = decide_lines(text, &mut answers);
+    let map = surveyed.map;
+    let list = corners_of(map);
+    let corners = list.places;
+    let counts = counts_of(map);
+    let ends = Ends {
+        lines: surveyed.lines,
+        long: false,
+        counts,
+    };
+    Decided {
+        answers,
+        corners,
+        listed: list.count,
+        ends,
+    }
+}
+
+fn no_answers() -> [u32; TEXT_LIMIT]
+    ensures { λ r. ⌜ 65536 ≡ length r ⌝ }
+{
+    [0u32; TEXT_LIMIT]
+}
+
+// How many bytes the report takes.
+pub fn length_of(decided: Decided) -> usize
+    requires { ⌜ Fits decided ⌝ }
+    ensures { λ r. ⌜ r ≡ length (report-of decided) ⌝ }
+{
+    let corners = decided.corners;
+    let listed = decided.listed;
+    let ends = decided.ends;
+    total_length(&decided.answers, &corners[..listed], ends)
+}
+
+// Writes the report into a lent list that has room for it; the rest of it stays as it is.
+pub fn write_report(decided: Decided, lent: &mut [u8])
+    requires { ⌜ Fits decided ⌝ }
+    requires { ⌜ length (report-of decided) ≤ length (now lent) ⌝ }
+    ensures { λ _. ⌜ now (lent .exit) ≡
+        report-of decided ++ drop (length (report-of decided)) (now (lent .entry)) ⌝ }
+{
+    let corners = decided.corners;
+    let listed = decided.listed;
+    let ends = decided.ends;
+    put_lines(lent, &decided.answers, &corners[..listed], ends, 0);
+}
+
+// Writes the printed lines from a position on, as many whole ones as the lent list holds, and says where
+// to go on. Position 0 is the report's first line.
+pub fn write_lines(decided: Decided, from: usize, lent: &mut [u8]) -> Piece
+    requires { ⌜ Fits decided ⌝ }
+    ensures { λ r. ⌜ WroteLines decided from (now (lent .entry)) (now (lent .exit)) r ⌝ }
+{
+    let corners = decided.corners;
+    let listed = decided.listed;
+    let ends = decided.ends;
+    put_lines(lent, &decided.answers, &corners[..listed], ends, from)
+}

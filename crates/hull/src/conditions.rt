@@ -1,30 +1,10 @@
 // The conditions of refusal that look through the points of a map.
 
-use maps::positions::is_new;
 use maps::reading::point_at;
-use model::Map;
 use model::Point;
 use plane::are_in_line;
 ghost use mathlib.Core.Path.{_≡_};
-ghost use Rattle.model.specs.Arrival.{is-in-line, is-repeated};
 ghost use Rattle.hull.specs.Requires.{Ranged, in-line-among, in-line-with};
-
-// Whether p is equal to a point of the map.
-pub fn is_repeated(map: Map, p: Point) -> bool
-    ensures { λ r. ⌜ r ≡ is-repeated map p ⌝ }
-{
-    let count = map.count;
-    !is_new(&map.xs, &map.ys, count, p)
-}
-
-// Whether p is in line with two points of the map.
-pub fn is_in_line(map: Map, p: Point) -> bool
-    requires { ⌜ Ranged (map .xs) (map .ys) p ⌝ }
-    ensures { λ r. ⌜ r ≡ is-in-line map p ⌝ }
-{
-    let count = map.count;
-    is_in_line_among(&map.xs, &map.ys, count, p)
-}
 
 // Whether p is in line with two of the first points.
 pub fn is_in_line_among<'a>(xs: &'a [i64], ys: &'a [i64], count: usize, p: Point) -> bool

@@ -8,19 +8,17 @@ pub mod listing;
 pub mod query;
 mod sight;
 
+use crate::admission::admission;
 use crate::change::alone;
 use crate::change::pair;
 use crate::change::spliced;
-use crate::conditions::is_in_line;
-use crate::conditions::is_repeated;
 use crate::sight::seen_from;
 use model::Arrival;
 use model::Map;
 use model::Offered;
-use model::POINT_LIMIT;
+use model::Outcome;
 use model::Point;
 use model::Refusal;
-use plane::in_range;
 ghost use mathlib.Core.Path.{_≡_};
 ghost use Prim.Native.Nat.{_≤_};
 ghost use Rattle.model.specs.Sound.{Sound};
@@ -34,19 +32,11 @@ pub fn admitted(map: Map, p: Point) -> Offered
     ensures { λ r. ⌜ r ≡ admitted map p ⌝ }
 {
     let count = map.count;
-    if POINT_LIMIT <= count {
-        return refused(map, Refusal::Full);
+    let decided = admission(&map.xs, &map.ys, count, p);
+    match decided {
+        Outcome::Refused(refusal) => refused(map, refusal),
+        Outcome::Served => arrive(map, p),
     }
-    if !in_range(p) {
-        return refused(map, Refusal::OutOfRange);
-    }
-    if is_repeated(map, p) {
-        return refused(map, Refusal::Repeated);
-    }
-    if is_in_line(map, p) {
-        return refused(map, Refusal::InLine);
-    }
-    arrive(map, p)
 }
 
 // The map as it was, and why the point is refused.

@@ -9,8 +9,11 @@ ghost use Rattle.reports.specs.Packing.{Packable, packed, refusal-of, un
 
 // The least numbers that stand for arrivals; an outside arrival adds what it reports.
 const FIRST: usize = 11;
+
 const SECOND: usize = 12;
+
 const INSIDE: usize = 13;
+
 const OUTSIDE: usize = 14;
 
 // The number of an answer.

@@ -41,7 +41,12 @@ pub(crate) fn line_count(ends: Ends) -> usize
 }
 
 // How many bytes the printed line at position j takes.
-pub(crate) fn line_length<'a>(answers: &'a [u32], corners: &'a [usize], ends: Ends, j: usize) -> usize
+pub(crate) fn line_length<'a>(
+    answers: &'a [u32],
+    corners: &'a [usize],
+    ends: Ends,
+    j: usize,
+) -> usize
     requires { ⌜ length (now corners) ≤ point-limit ⌝ }
     ensures { λ r. ⌜ r ≡ length (report-line (now (answers .entry)) (now (corners .entry)) ends j) ⌝ }
 {
@@ -59,12 +64,25 @@ pub(crate) fn line_length<'a>(answers: &'a [u32], corners: &'a [usize], ends: En
         return 8 + values_length(corners);
     }
     let counts = ends.counts;
-    let values = [counts.darts, counts.vertices, counts.edges, counts.faces, counts.parts];
+    let values = [
+        counts.darts,
+        counts.vertices,
+        counts.edges,
+        counts.faces,
+        counts.parts,
+    ];
     7 + values_length(&values)
 }
 
 // Writes the printed line at position j.
-pub(crate) fn put_line<'a>(lent: &mut [u8], at: usize, answers: &'a [u32], corners: &'a [usize], ends: Ends, j: usize) -> usize
+pub(crate) fn put_line<'a>(
+    lent: &mut [u8],
+    at: usize,
+    answers: &'a [u32],
+    corners: &'a [usize],
+    ends: Ends,
+    j: usize,
+) -> usize
     requires { ⌜ Room (now lent) at (report-line (now answers) (now corners) ends j) ⌝ }
     ensures { λ r. ⌜ Wrote (now (lent .entry)) at
         (report-line (now (answers .entry)) (now (corners .entry)) ends j) (now (lent .exit)) r ⌝ }
@@ -83,7 +101,13 @@ pub(crate) fn put_line<'a>(lent: &mut [u8], at: usize, answers: &'a [u32], corne
         return put_answer(lent, at, b"corners", corners);
     }
     let counts = ends.counts;
-    let values = [counts.darts, counts.vertices, counts.edges, counts.faces, counts.parts];
+    let values = [
+        counts.darts,
+        counts.vertices,
+        counts.edges,
+        counts.faces,
+        counts.parts,
+    ];
     put_answer(lent, at, b"counts", &values)
 }
 
@@ -110,7 +134,13 @@ pub(crate) fn total_length<'a>(answers: &'a [u32], corners: &'a [usize], ends: E
 }
 
 // Writes the printed lines from a position on, as many whole ones as the list holds.
-pub(crate) fn put_lines<'a>(lent: &mut [u8], answers: &'a [u32], corners: &'a [usize], ends: Ends, from: usize) -> Piece
+pub(crate) fn put_lines<'a>(
+    lent: &mut [u8],
+    answers: &'a [u32],
+    corners: &'a [usize],
+    ends: Ends,
+    from: usize,
+) -> Piece
     requires { ⌜ length (now corners) ≤ point-limit ⌝ }
     requires { ⌜ Printable ends ⌝ }
     ensures { λ r. ⌜ PutLines (now (answers .entry)) (now (corners .entry)) ends from

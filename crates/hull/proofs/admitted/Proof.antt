@@ -1,115 +1,64 @@
--- `hull::admitted` meets its contract, one condition after another. Assumes nothing.
+-- `hull::admitted` meets its contract: the rules are asked of the map's coordinates, and then the point
+-- arrives. Assumes nothing.
 use borrow.Author.Needs.{needs}
-use mathlib.Core.Path.{_≡_, sym, _∙_}
-use mathlib.Core.Bool.{true, false}
-use Prim.Native.Nat.{_<_}
-use borrow.Author.Tests.{not-true, not-false}
-use Rattle.finite.specs.Tests.{of-true}
-use Rattle.model.specs.Plane.{in-range}
+use mathlib.Core.Path.{sym, _∙_}
 use Rattle.model.specs.Maps.{point}
-use Rattle.model.specs.Arrival.{is-repeated}
-use Rattle.hull.proofs.Indices.{place-ranged}
-use Rattle.hull.proofs.Cases.{full, out-of-range, repeated, in-line, arrives}
+use Rattle.model.specs.Arrival.{arrive, refusing, admission-rules, is-repeated, is-in-line, admitted}
+use Rattle.model.proofs.Answers.{outcome-refuses, outcome-serves}
+use Rattle.hull.specs.Admission.{admission-by}
+use Rattle.hull.proofs.Admissions.{ranged-places, admission-accepted, accepted-room}
 use Rattle.hull.proofs.admitted.Statement.{statement}
 use Rattle.hull.proofs.admitted.Tie as tie
 
--- the conditions that were passed
-room : (c : tie.Else1) → c .before .args .map .count < 512
-room c = c .if1 .left
+-- where the function starts
+abbrev at-start : tie.After-admission → tie.Start
+at-start c = c .before .before .before .before .before .before
 
-ranged : (c : tie.Else2) → in-range (c .before .before .before .args .p) ≡ true
-ranged c = sym (c .before .in-range .ensures) ∙ not-false _ (c .if2 .left)
+admission-requires : tie.Need-admission-requires
+admission-requires c κs = ranged-places (c .before .before .before .before .before .pre)
 
-fresh : (c : tie.Else3) →
-    let s = c .before .before .before .before .before .args in is-repeated (s .map) (s .p) ≡ false
-fresh c = sym (c .before .is-repeated .ensures) ∙ c .if3 .left
+enum-known-decided : tie.Need-enum-known-decided
+enum-known-decided c = search needs
 
 refused-requires : tie.Need-refused-requires
 refused-requires c κs = search needs
 
-returns : tie.Need-returns
-returns c = c .refused .ensures ∙ full _ _ (c .before .if1 .taken)
-
-in-range-requires : tie.Need-in-range-requires
-in-range-requires c κs = search needs
-
-refused-requires-2 : tie.Need-refused-requires-2
-refused-requires-2 c κs = search needs
-
-returns-2 : tie.Need-returns-2
-returns-2 c =
-    let d = c .before .before in
-    c .refused2 .ensures
-    ∙ out-of-range _ _ (room (d .before))
-    (sym (d .in-range .ensures) ∙ not-true _ (c .before .if2 .taken))
-
-is-repeated-requires : tie.Need-is-repeated-requires
-is-repeated-requires c κs = search needs
-
-refused-requires-3 : tie.Need-refused-requires-3
-refused-requires-3 c κs = search needs
-
-returns-3 : tie.Need-returns-3
-returns-3 c =
-    let d = c .before .before in
-    let e = d .before in
-    c .refused3 .ensures
-    ∙ repeated _ _ (room (e .before .before)) (ranged e)
-    (sym (d .is-repeated .ensures) ∙ c .before .if3 .taken)
-
-is-in-line-requires : tie.Need-is-in-line-requires
-unfolding point
-is-in-line-requires c κs =
-    let e = c .before .before in
-    let s = e .before .before .before in
-    record {
-      places = place-ranged (s .pre);
-      offered = of-true _ (ranged e);
-    }
-
-refused-requires-4 : tie.Need-refused-requires-4
-refused-requires-4 c κs = search needs
-
-returns-4 : tie.Need-returns-4
-returns-4 c =
-    let d = c .before .before in
-    let e = d .before .before .before in
-    c .refused4 .ensures
-    ∙ in-line _ _ (room (e .before .before)) (ranged e) (fresh (d .before))
-    (sym (d .is-in-line .ensures) ∙ c .before .if4 .taken)
+enum-told : tie.Need-enum-told
+enum-told c = search needs
 
 arrive-requires : tie.Need-arrive-requires
 arrive-requires c κs =
-    let e = c .before .before .before .before in
-    let s = e .before .before .before in
-    record {
-      is-sound = s .pre;
-      room = room (e .before .before);
-      offered = of-true _ (ranged e);
-    }
-
-returns-5 : tie.Need-returns-5
-returns-5 c =
     let d = c .before .before in
-    let e = d .before .before .before in
+    let s = at-start d in
+    accepted-room
+    (admission-accepted (s .pre) (s .args .p) (sym (c .enum-told .given .1) ∙ d .admission .ensures))
+
+returns : tie.Need-returns
+unfolding admission-by is-repeated is-in-line point admitted
+returns c =
+    let d = c .before .before .before .before in
+    let s = at-start d .args in
+    c .refused .ensures
+    ∙ outcome-refuses (refusing (s .t1)) (arrive (s .t1) (s .p)) (admission-rules (s .t1) (s .p)) _
+    (sym (c .before .before .decided .given .1) ∙ d .admission .ensures)
+
+returns-2 : tie.Need-returns-2
+unfolding admission-by is-repeated is-in-line point admitted
+returns-2 c =
+    let d = c .before .before .before in
+    let s = at-start d .args in
     c .arrive .ensures
-    ∙ arrives _ _ (room (e .before .before)) (ranged e) (fresh (d .before))
-    (sym (d .is-in-line .ensures) ∙ c .before .if4 .left)
+    ∙ outcome-serves (refusing (s .t1)) (arrive (s .t1) (s .p)) (admission-rules (s .t1) (s .p))
+    (sym (c .before .enum-told .given .1) ∙ d .admission .ensures)
 
 pub admitted-spec : {M : Type 1} → statement M
 admitted-spec =
     tie.close
     (tie.spec
+    admission-requires
+    enum-known-decided
     refused-requires
-    returns
-    in-range-requires
-    refused-requires-2
-    returns-2
-    is-repeated-requires
-    refused-requires-3
-    returns-3
-    is-in-line-requires
-    refused-requires-4
-    returns-4
+    enum-told
     arrive-requires
-    returns-5)
+    returns
+    returns-2)

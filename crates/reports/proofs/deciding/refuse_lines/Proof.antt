@@ -94,10 +94,11 @@ loop-again c =
     let call = told .before .before in
     let test = at-test kept in
     let l = test .before .before in
-    let on = place-further (l .loop .inv .0) (there test) in
-    (refuse-next (l .loop .inv .0) (there test) _ (told .found2 .given .1) (call .verdict-on .ensures)
-    (call .before .line-from .ensures) (kept .packed .ensures) (c .next-from .ensures),
-    omega (arith, on .0, c .next-from .ensures, l .loop .inv .1))
+    let on = place-further (l .loop .inv .0) (there test) in (
+      refuse-next (l .loop .inv .0) (there test) _ (told .found2 .given .1) (call .verdict-on .ensures)
+          (call .before .line-from .ensures) (kept .packed .ensures) (c .next-from .ensures),
+      omega (arith, on .0, c .next-from .ensures, l .loop .inv .1),
+    )
 
 returns-2 : tie.Need-returns-2 Inv-loop μ-loop
 returns-2 c =

@@ -8,7 +8,7 @@ returns : tie.Need-returns
 unfolding refusal-of
 returns c =
     rw (
-      eq-eqb _ 2 (c .if1 .taken)
+    eq-eqb _ 2 (c .if1 .taken)
     )
 
 returns-2 : tie.Need-returns-2
@@ -16,7 +16,7 @@ unfolding refusal-of
 returns-2 c =
     rw (
       ne-eqb _ 2 (c .before .if1 .left),
-      eq-eqb _ 3 (c .if2 .taken)
+      eq-eqb _ 3 (c .if2 .taken),
     )
 
 returns-3 : tie.Need-returns-3
@@ -25,7 +25,7 @@ returns-3 c =
     rw (
       ne-eqb _ 2 (c .before .before .if1 .left),
       ne-eqb _ 3 (c .before .if2 .left),
-      eq-eqb _ 4 (c .if3 .taken)
+      eq-eqb _ 4 (c .if3 .taken),
     )
 
 returns-4 : tie.Need-returns-4
@@ -35,7 +35,7 @@ returns-4 c =
       ne-eqb _ 2 (c .before .before .before .if1 .left),
       ne-eqb _ 3 (c .before .before .if2 .left),
       ne-eqb _ 4 (c .before .if3 .left),
-      eq-eqb _ 5 (c .if4 .taken)
+      eq-eqb _ 5 (c .if4 .taken),
     )
 
 returns-5 : tie.Need-returns-5
@@ -46,7 +46,7 @@ returns-5 c =
       ne-eqb _ 3 (c .before .before .before .if2 .left),
       ne-eqb _ 4 (c .before .before .if3 .left),
       ne-eqb _ 5 (c .before .if4 .left),
-      eq-eqb _ 6 (c .if5 .taken)
+      eq-eqb _ 6 (c .if5 .taken),
     )
 
 returns-6 : tie.Need-returns-6
@@ -58,7 +58,7 @@ returns-6 c =
       ne-eqb _ 4 (c .before .before .before .if3 .left),
       ne-eqb _ 5 (c .before .before .if4 .left),
       ne-eqb _ 6 (c .before .if5 .left),
-      eq-eqb _ 7 (c .if6 .taken)
+      eq-eqb _ 7 (c .if6 .taken),
     )
 
 returns-7 : tie.Need-returns-7
@@ -71,7 +71,7 @@ returns-7 c =
       ne-eqb _ 5 (c .before .before .before .if4 .left),
       ne-eqb _ 6 (c .before .before .if5 .left),
       ne-eqb _ 7 (c .before .if6 .left),
-      eq-eqb _ 8 (c .if7 .taken)
+      eq-eqb _ 8 (c .if7 .taken),
     )
 
 returns-8 : tie.Need-returns-8
@@ -85,7 +85,7 @@ returns-8 c =
       ne-eqb _ 6 (c .before .before .before .if5 .left),
       ne-eqb _ 7 (c .before .before .if6 .left),
       ne-eqb _ 8 (c .before .if7 .left),
-      eq-eqb _ 9 (c .if8 .taken)
+      eq-eqb _ 9 (c .if8 .taken),
     )
 
 returns-9 : tie.Need-returns-9
@@ -100,7 +100,7 @@ returns-9 c =
       ne-eqb _ 7 (c .before .before .before .if6 .left),
       ne-eqb _ 8 (c .before .before .if7 .left),
       ne-eqb _ 9 (c .before .if8 .left),
-      eq-eqb _ 10 (c .if9 .taken)
+      eq-eqb _ 10 (c .if9 .taken),
     )
 
 returns-10 : tie.Need-returns-10
@@ -115,7 +115,7 @@ returns-10 c =
       ne-eqb _ 7 (c .before .before .before .if6 .left),
       ne-eqb _ 8 (c .before .before .if7 .left),
       ne-eqb _ 9 (c .before .if8 .left),
-      ne-eqb _ 10 (c .if9 .left)
+      ne-eqb _ 10 (c .if9 .left),
     )
 
 pub refusal-of-spec : {M : Type 1} → statement M

@@ -1,4 +1,5 @@
 -- The report on a survey text. Nothing is assumed.
+--     Histories     the report's map and arrivals are those of the offers that its lines make: `reports-history`
 --     Packed        the answer of a number is the one that the number was made of
 --     Verdicts      what becomes of a line is what the definitions offer
 --     Decisions     one line after another, decided and ahead make up the report
@@ -9,3 +10,4 @@ pub mod Verdicts
 pub mod Decisions
 pub mod ReportLines
 pub mod Wholes
+pub mod Histories

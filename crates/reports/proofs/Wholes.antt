@@ -1,9 +1,9 @@
 -- What is decided is the report, in the order of this page: of a text that is too long; of any other; a
--- list with room for the report gets all of it; a list of 16,384 bytes gets one line more at least; pieces
--- put together, from position 0 to the end, are the report.
+-- list with room for the report gets all of it; a piece goes further until the last; pieces put together,
+-- from position 0 to the end, are the report.
 -- Document 01, "The text program". Assumes nothing.
 use mathlib.Core.Path.{_≡_, refl, sym, ap, _∙_}
-use mathlib.Core.Logic.{⊎-elim}
+use mathlib.Core.Logic.{_≢_, ⊎-elim}
 use mathlib.Core.Bool.{Bool, true, false, cond}
 use mathlib.Core.List.{List, [], _∷_, _++_, append-assoc}
 use Prim.Native.Nat.{ℕ, suc, _+_, _-_, _≤_, _<_}
@@ -11,6 +11,7 @@ use native.Mathlib.Omega.{arith}
 use borrow.Author.Tests.{lt-ltb, le-ltb}
 use lib.Dec.{ltb}
 use lib.ListN.{length, take, drop, length-append, length-take}
+use lib.Seq.{take-at}
 use Rattle.finite.specs.Bounded.{lt-or-ge}
 use Rattle.model.specs.declared.Refusal.{Refusal}
 use Rattle.model.specs.declared.Counts.{Counts}
@@ -23,7 +24,8 @@ use Rattle.model.specs.Lent.{lent-after}
 use Rattle.model.specs.Report.{text-limit, printed, arrivals, report}
 use Rattle.hull.specs.declared.listing.CornerList.{CornerList}
 use Rattle.hull.specs.Listing.{ListsCorners}
-use Rattle.survey.specs.Writing.{Wrote}
+use Rattle.survey.specs.Writing.{overwritten}
+use Rattle.survey.proofs.Overwriting.{wrote-length}
 use Rattle.survey.proofs.Reports.{closing-lines, written-from-start}
 use Rattle.reports.specs.declared.Decided.{Decided}
 use Rattle.reports.specs.declared.deciding.Surveyed.{Surveyed}
@@ -31,8 +33,9 @@ use Rattle.reports.specs.declared.printing.Ends.{Ends}
 use Rattle.reports.specs.declared.printing.Piece.{Piece}
 use Rattle.reports.specs.Lines.{header, counts-values, corners-in, report-line, lines-from, line-count, report-of}
 use Rattle.reports.specs.Printing.{Printable, PutLines}
+use Rattle.reports.specs.Pieces.{WroteLines, line-limit, Pieces, begun, continued}
 use Rattle.reports.specs.Deciding.{Surveys, Fits, Decides}
-use Rattle.reports.proofs.ReportLines.{line-most, report-line-most, lines-more, lines-none, lines-joined, report-short, report-long}
+use Rattle.reports.proofs.ReportLines.{report-line-most, lines-more, lines-none, lines-joined, report-short, report-long}
 
 -- ---- a text that is too long
 
@@ -82,20 +85,6 @@ module _ {text answers : List ℕ} {s : Surveyed} {list : CornerList} {c : Count
 
 -- ---- writing all of it
 
-module _ {answers corners : List ℕ} {ends : Ends} {from : ℕ} {lent after : List ℕ} {r : Piece}
-    (p : PutLines answers corners ends from lent after r) where
-  -- a list that holds the longest line gets one line at least
-  pub goes-further : length corners ≤ point-limit → line-most ≤ length lent → from < line-count ends → from < r .next
-  goes-further few room h =
-      ⊎-elim
-      (λ (l : from < r .next). l)
-      (λ (l : r .next ≤ from).
-      let e : r .next - from ≡ 0 = omega arith in
-      let none : r .length ≡ 0 =
-      omega (arith, p .wrote .ends, ap (λ (k : ℕ). length (lines-from answers corners ends from k)) e, ap length (lines-none answers corners ends from)) in
-      absurd (omega (arith, p .full (omega (arith, p .further)), report-line-most answers corners ends few (r .next))))
-      (lt-or-ge from (r .next))
-
 module _ {answers corners : List ℕ} {ends : Ends} {lent after : List ℕ} {r : Piece}
     (p : PutLines answers corners ends 0 lent after r)
     (room : length (lines-from answers corners ends 0 (line-count ends)) ≤ length lent) where
@@ -143,3 +132,69 @@ module _ {d : Decided} (f : Fits d) where
 
   pub printable : Printable (d .ends)
   printable = record { lines-fit = f .lines-fit }
+
+-- ---- piece by piece
+
+module _ (d : Decided) {from : ℕ} {lent after : List ℕ} {r : Piece} (p : WroteLines d from lent after r) where
+  abbrev piece : ℕ → List ℕ
+  piece k = lines-from (d .answers) (corners-in d) (d .ends) from k
+
+  -- the list is as long as before
+  pub piece-whole : length after ≡ length lent
+  piece-whole = wrote-length (p .wrote) (record { room = omega (arith, p .wrote .ends, p .inside) })
+
+  -- a piece that has bytes goes further
+  pub piece-further : r .length ≢ 0 → from < r .next
+  piece-further n =
+      ⊎-elim
+      (λ (l : from < r .next). l)
+      (λ (l : r .next ≤ from).
+      let e : r .next - from ≡ 0 = omega arith in
+      absurd
+      (n (omega (
+        arith,
+        p .wrote .ends,
+        ap (λ (k : ℕ). length (piece k)) e,
+        ap length (lines-none (d .answers) (corners-in d) (d .ends) from),
+      ))))
+      (lt-or-ge from (r .next))
+
+  -- and one that has none is the last, where the list has room for any one line
+  pub piece-last : Fits d → line-limit ≤ length lent → from ≤ line-count (d .ends) → r .length ≡ 0 →
+      r .next ≡ line-count (d .ends)
+  piece-last f room h none =
+      ⊎-elim
+      (λ (l : r .next < line-count (d .ends)).
+      absurd
+      (omega (
+        arith,
+        p .full l,
+        report-line-most (d .answers) (corners-in d) (d .ends) (corners-few f) (r .next),
+      )))
+      (λ (l : line-count (d .ends) ≤ r .next). omega (arith, p .whole h))
+      (lt-or-ge (r .next) (line-count (d .ends)))
+
+  -- its bytes
+  piece-bytes : take (r .length) after ≡ piece (r .next - from)
+  unfolding overwritten
+  piece-bytes =
+      let e : r .length ≡ length (piece (r .next - from)) = omega (arith, p .wrote .ends) in
+      ap (take (r .length)) (p .wrote .holds) ∙ take-at (piece (r .next - from)) _ (r .length) (sym e)
+
+pub pieces-are : {d : Decided} {j : ℕ} {s : List ℕ} → Pieces d j s →
+    s ≡ lines-from (d .answers) (corners-in d) (d .ends) 0 j
+pieces-are {d} begun = sym (lines-none (d .answers) (corners-in d) (d .ends) 0)
+pieces-are {d} (continued {from = from} {r = r} before p) =
+    let e : from + (r .next - from) ≡ r .next = omega (arith, p .further) in
+    let z : from ≡ 0 + from = omega arith in
+    (λ t. pieces-are before t ++ piece-bytes d p t)
+    ∙ ap (λ (i : ℕ). lines-from (d .answers) (corners-in d) (d .ends) 0 from
+    ++ lines-from (d .answers) (corners-in d) (d .ends) i (r .next - from)) z
+    ∙ lines-joined (d .answers) (corners-in d) (d .ends) 0 from (r .next - from)
+    ∙ ap (lines-from (d .answers) (corners-in d) (d .ends) 0) e
+
+-- the pieces from position 0 to the end are the report on the text
+pub pieces-are-the-report : {text : List ℕ} {d : Decided} {s : List ℕ} → Decides text d →
+    Pieces d (line-count (d .ends)) s → s ≡ report text
+unfolding report-of
+pieces-are-the-report decides pieces = pieces-are pieces ∙ decides .is-report

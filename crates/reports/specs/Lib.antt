@@ -5,9 +5,11 @@
 --     Printing    writing printed lines
 --     Deciding    how far a report is decided
 --     Pieces      a report in pieces
+--     Histories   a report and the history of its points
 pub mod Packing
 pub mod Verdicts
 pub mod Lines
 pub mod Printing
 pub mod Deciding
 pub mod Pieces
+pub mod Histories

@@ -1,7 +1,9 @@
--- A report in pieces, in the order of this page: how long a list always has room for one line more; what
--- is written from a position on. Assumes nothing.
-use mathlib.Core.List.{List}
+-- A report in pieces, in the order of this page: what is written from a position on; how long a list has
+-- room for any one line; the bytes of pieces, one after another from position 0 on.
+-- Assumes nothing.
+use mathlib.Core.List.{List, [], _++_}
 use Prim.Native.Nat.{ℕ}
+use lib.ListN.{take}
 use Rattle.reports.specs.declared.Decided.{Decided}
 use Rattle.reports.specs.declared.printing.Piece.{Piece}
 use Rattle.reports.specs.Lines.{corners-in}
@@ -10,3 +12,13 @@ use Rattle.reports.specs.Printing.{PutLines}
 -- the printed lines of what was decided
 abbrev pub WroteLines : Decided → ℕ → List ℕ → List ℕ → Piece → Type 0
 WroteLines d from lent after r = PutLines (d .answers) (corners-in d) (d .ends) from lent after r
+
+-- no printed line is longer
+abbrev pub line-limit : ℕ
+line-limit = 16_384
+
+-- pieces that bring from position 0 to a position, and their bytes
+pub data Pieces (d : Decided) : ℕ → List ℕ → Type 0 where
+  begun : Pieces d 0 []
+  continued : {from : ℕ} {s lent after : List ℕ} {r : Piece} → Pieces d from s → WroteLines d from lent after r →
+      Pieces d (r .next) (s ++ take (r .length) after)

@@ -1,0 +1,69 @@
+-- A point offered to a sound map, in the order of this page: an arrival is served; the map after it is
+-- sound; the outcome is that of the rules. Assumes nothing.
+use mathlib.Core.Path.{_≡_, refl, sym, ap, subst, _∙_}
+use mathlib.Core.Bool.{Bool, true, false, not, cond}
+use lib.Dec.{eqb}
+use lib.ListN.{length}
+use Rattle.finite.specs.Tests.{is-true}
+use Rattle.model.specs.declared.Refusal.{Refusal}
+use Rattle.model.specs.declared.Point.{Point}
+use Rattle.model.specs.declared.Map.{Map}
+use Rattle.model.specs.declared.Arrival.{Arrival}
+use Rattle.model.specs.declared.Offered.{Offered}
+use Rattle.model.specs.declared.Outcome.{Outcome}
+use Rattle.model.specs.Refusals.{unless}
+use Rattle.model.specs.Answers.{outcome-by}
+use Rattle.model.specs.Sound.{sound, Sound}
+use Rattle.model.specs.Outline.{visible-edges}
+use Rattle.model.specs.Arrival.{left-corner, right-corner, alone, pair, spliced}
+use Rattle.model.specs.Arrival.{arrived, later-point, arrive, admission-rules, refusing, admitted}
+use Rattle.model.specs.Offers.{offer}
+use Rattle.model.specs.Reading.{unsound}
+use Rattle.model.proofs.Sound.{sound-by}
+use Rattle.model.proofs.Answers.{rule-passes}
+use Rattle.hull.proofs.Arrivals.{offer-sound}
+use Rattle.reach.specs.Replies.{arrival-outcome, arrival-values}
+use Rattle.reach.proofs.Serving.{answer-outcome}
+
+pub four-values : (a : Arrival) → length (arrival-values a) ≡ 4
+unfolding arrival-values
+four-values Arrival.First = refl
+four-values Arrival.Second = refl
+four-values Arrival.Inside = refl
+four-values (Arrival.Outside l r v) = refl
+four-values (Arrival.Refused r) = refl
+
+abbrev outcome-of : Offered → Outcome
+outcome-of o = arrival-outcome (o .arrival)
+
+module _ (m : Map) (p : Point) where
+  arrival-served : outcome-of (arrive m p) ≡ Outcome.Served
+  unfolding arrival-outcome arrive later-point
+  arrival-served =
+      go (eqb (m .count) 0) (eqb (m .count) 1) (eqb (visible-edges m p) 0) (alone m p) (pair m p)
+      (spliced m p (left-corner m p) (right-corner m p))
+    where
+      go : (first second inside : Bool) (u v w : Map) →
+          outcome-of
+          (cond first (arrived Arrival.First u)
+          (cond second (arrived Arrival.Second v)
+          (cond inside (arrived Arrival.Inside u)
+          (arrived (Arrival.Outside (left-corner m p) (right-corner m p) (visible-edges m p)) w))))
+          ≡ Outcome.Served
+      go true second inside u v w = refl
+      go false true inside u v w = refl
+      go false false true u v w = refl
+      go false false false u v w = refl
+
+  pub admitted-outcome : outcome-of (admitted m p) ≡ outcome-by (admission-rules m p)
+  unfolding arrival-outcome admitted
+  admitted-outcome =
+      answer-outcome outcome-of (refusing m) (λ r. refl) (admission-rules m p) (arrive m p) arrival-served
+
+  pub admitted-sound : Sound m → Sound (admitted m p .map)
+  unfolding admitted offer
+  admitted-sound s =
+      subst (λ (o : Offered). Sound (o .map))
+      (sym (rule-passes (refusing m) (unsound m) (admission-rules m p) (arrive m p)
+      (ap not (is-true (sound m) (sound-by m s))) refl))
+      (offer-sound m p s)

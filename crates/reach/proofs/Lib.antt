@@ -1,0 +1,7 @@
+-- What the proofs of the exported functions cite. Nothing is assumed.
+--     Serving        rules in two parts; lists with room and without; rules that are checked before
+--     OpenedFiles    the map of a file after its checks
+--     Arrived        a point offered to a sound map
+pub mod Serving
+pub mod OpenedFiles
+pub mod Arrived

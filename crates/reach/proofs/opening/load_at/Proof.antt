@@ -1,0 +1,79 @@
+-- `reach::opening::load_at` meets its contract. Assumes nothing.
+use mathlib.Core.Path.{_≡_, sym, ap, _∙_}
+use mathlib.Core.Bool.{Bool, not}
+use mathlib.Core.List.{List, [], _∷_}
+use Prim.Native.Nat.{ℕ}
+use denote.Ref.{now}
+use Rattle.model.specs.declared.Map.{Map}
+use Rattle.model.specs.declared.Loaded.{Loaded}
+use Rattle.model.specs.declared.Outcome.{Outcome}
+use Rattle.model.specs.Refusals.{Rule}
+use Rattle.model.specs.Maps.{is-present, has-helper}
+use Rattle.model.specs.Reading.{absent}
+use Rattle.model.specs.Saved.{map-in}
+use Rattle.model.proofs.Answers.{rule-applies, rule-passes, no-rule}
+use Rattle.reach.specs.Opened.{Opened}
+use Rattle.reach.proofs.OpenedFiles.{loads, refused-already, served-further, refused-further}
+use borrow.Author.Needs.{needs}
+use Rattle.reach.proofs.opening.load_at.Statement.{statement}
+use Rattle.reach.proofs.opening.load_at.Tie as tie
+
+load-requires : tie.Need-load-requires
+load-requires c κs = search needs
+
+enum-known-outcome : tie.Need-enum-known-outcome
+enum-known-outcome c = search needs
+
+enum-told : tie.Need-enum-told
+enum-told c = search needs
+
+is-present-requires : tie.Need-is-present-requires
+is-present-requires c κs = search needs
+
+-- the dart is looked for in the map of the file
+present-tested : {s : List ℕ} {rules : List Rule} {l : Loaded} → Opened s rules l → l .outcome ≡ Outcome.Served →
+    (d : ℕ) {r b : Bool} → r ≡ is-present (l .map) d → r ≡ b → not (is-present (map-in s) d) ≡ not b
+present-tested o e d is t =
+    ap not (sym (ap (λ (m : Map). is-present m d) (o .map e)) ∙ sym is ∙ t)
+
+returns : tie.Need-returns
+unfolding is-present has-helper
+returns c =
+    let m = c .before .before .before .before .before .before in
+    let l = m .before .before in
+    let s = l .before .before .args in
+    let o = loads (l .load .ensures) in
+    let e = m .enum-told .given .1 in
+    served-further o (absent (map-in (now (s .file))) (s .dart) ∷ []) e
+    (rule-passes Outcome.Refused _ _ _ (present-tested o e (s .dart) (c .before .is-present .ensures) (c .if1 .taken))
+    (no-rule Outcome.Refused _))
+
+returns-2 : tie.Need-returns-2
+returns-2 c =
+    let l = c .before .before .before in
+    let s = l .before .before .args in
+    refused-already (loads (l .load .ensures)) (absent (map-in (now (s .file))) (s .dart) ∷ [])
+    (c .before .outcome .given .1)
+
+returns-3 : tie.Need-returns-3
+unfolding is-present has-helper
+returns-3 c =
+    let m = c .before .before .before .before .before .before in
+    let l = m .before .before in
+    let s = l .before .before .args in
+    let o = loads (l .load .ensures) in
+    let e = m .enum-told .given .1 in
+    refused-further o (absent (map-in (now (s .file))) (s .dart) ∷ []) e _
+    (rule-applies Outcome.Refused _ _ _ (present-tested o e (s .dart) (c .before .is-present .ensures) (c .if1 .left)))
+
+pub load-at-spec : {M : Type 1} → statement M
+load-at-spec =
+    tie.close
+    (tie.spec
+    load-requires
+    enum-known-outcome
+    enum-told
+    is-present-requires
+    returns
+    returns-2
+    returns-3)

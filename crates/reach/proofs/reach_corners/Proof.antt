@@ -1,0 +1,66 @@
+-- `reach::reach_corners` meets its contract. Assumes nothing.
+use mathlib.Core.Path.{sym, _∙_}
+use mathlib.Core.List.{[], _∷_}
+use lib.ListN.{length}
+use Rattle.model.specs.declared.Map.{Map}
+use Rattle.model.specs.Outline.{corners}
+use Rattle.reach.proofs.OpenedFiles.{loads, opened-sound}
+use Rattle.reach.proofs.Serving.{both-refused-before, both-served-after, both-at}
+use borrow.Author.Needs.{needs}
+use Rattle.reach.proofs.reach_corners.Statement.{statement}
+use Rattle.reach.proofs.reach_corners.Tie as tie
+
+load-requires : tie.Need-load-requires
+load-requires c κs = search needs
+
+enum-known-outcome : tie.Need-enum-known-outcome
+enum-known-outcome c = search needs
+
+code-requires : tie.Need-code-requires
+code-requires c κs = search needs
+
+enum-told : tie.Need-enum-told
+enum-told c = search needs
+
+write-corner-list-requires : tie.Need-write-corner-list-requires
+write-corner-list-requires c κs =
+    let t = c .before .before in
+    opened-sound (loads (t .before .before .load .ensures)) (t .enum-told .given .1)
+
+returns : tie.Need-returns
+returns c =
+    let d = c .before .before in
+    let l = d .before .before in
+    both-refused-before _ [] _ _ _ _ _ (sym (d .outcome .given .1) ∙ loads (l .load .ensures) .outcome)
+    (c .code .ensures)
+
+same-length : tie.Need-same-length
+same-length c = search needs
+
+same-length-2 : tie.Need-same-length-2
+same-length-2 c = search needs
+
+returns-2 : tie.Need-returns-2
+returns-2 c =
+    let w = c .before .before .before .before in
+    let t = w .before .before .before in
+    let l = t .before .before in
+    let o = loads (l .load .ensures) in
+    let e = t .enum-told .given .1 in
+    both-served-after _ [] _ _ _ _ (sym e ∙ o .outcome)
+    (both-at (λ m. []) corners (λ (m : Map). length (corners m) ∷ []) (o .map e)
+    (w .write-corner-list .ensures))
+
+pub reach-corners-spec : {M : Type 1} → statement M
+reach-corners-spec =
+    tie.close
+    (tie.spec
+    load-requires
+    enum-known-outcome
+    code-requires
+    enum-told
+    write-corner-list-requires
+    returns
+    same-length
+    same-length-2
+    returns-2)

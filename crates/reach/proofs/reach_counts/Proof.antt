@@ -1,0 +1,71 @@
+-- `reach::reach_counts` meets its contract. Assumes nothing.
+use mathlib.Core.Path.{ap, _∙_}
+use mathlib.Core.List.{[], _∷_}
+use Rattle.model.specs.declared.Counts.{Counts}
+use Rattle.model.specs.Answers.{counted-answer}
+use Rattle.model.specs.Reading.{counts}
+use Rattle.reach.proofs.OpenedFiles.{loads, opened-sound, opened-refused, opened-served}
+use borrow.Author.Needs.{needs}
+use Rattle.reach.proofs.reach_counts.Statement.{statement}
+use Rattle.reach.proofs.reach_counts.Tie as tie
+
+load-requires : tie.Need-load-requires
+load-requires c κs = search needs
+
+enum-known-outcome : tie.Need-enum-known-outcome
+enum-known-outcome c = search needs
+
+code-requires : tie.Need-code-requires
+code-requires c κs = search needs
+
+enum-told : tie.Need-enum-told
+enum-told c = search needs
+
+counts-of-requires : tie.Need-counts-of-requires
+counts-of-requires c κs =
+    opened-sound (loads (c .before .before .load .ensures)) (c .enum-told .given .1)
+
+slice-aggregate-write-values : tie.Need-slice-aggregate-write-values
+slice-aggregate-write-values c = search needs
+
+write-values-requires : tie.Need-write-values-requires
+write-values-requires c κs = search needs
+
+returns : tie.Need-returns
+unfolding counted-answer
+returns c =
+    let d = c .before .before in
+    let l = d .before .before in
+    opened-refused (loads (l .load .ensures)) _ _ (d .outcome .given .1) (c .code .ensures)
+
+same-length : tie.Need-same-length
+same-length c = search needs
+
+returns-2 : tie.Need-returns-2
+unfolding counted-answer
+returns-2 c =
+    let w = c .before .before in
+    let n = w .before .before .before in
+    let t = n .before in
+    let l = t .before .before in
+    let o = loads (l .load .ensures) in
+    let e = t .enum-told .given .1 in
+    opened-served o _ _ e
+    (ap (λ (n : Counts). n .darts ∷ n .vertices ∷ n .edges ∷ n .faces ∷ n .parts ∷ [])
+    (n .counts-of .ensures ∙ ap counts (o .map e)))
+    (w .write-values .ensures)
+
+pub reach-counts-spec : {M : Type 1} → statement M
+reach-counts-spec =
+    tie.close
+    (tie.spec
+    load-requires
+    enum-known-outcome
+    code-requires
+    enum-told
+    counts-of-requires
+    slice-aggregate-write-values
+    write-values-requires
+    returns
+    same-length
+    returns-2)

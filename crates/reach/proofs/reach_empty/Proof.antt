@@ -1,0 +1,61 @@
+-- `reach::reach_empty` meets its contract. Assumes nothing.
+use mathlib.Core.Path.{sym, ap, subst, _∙_}
+use mathlib.Core.List.{_++_}
+use native.Mathlib.Omega.{arith}
+use denote.Ref.{now}
+use lib.ListN.{length, drop}
+use Rattle.model.specs.declared.Map.{Map}
+use Rattle.model.specs.Maps.{empty-map}
+use Rattle.model.specs.Sound.{Sound}
+use Rattle.model.specs.Saved.{saved}
+use Rattle.maps.proofs.Empty.{empty-sound}
+use Rattle.saved.proofs.Places.{length-saved}
+use Rattle.reach.proofs.Serving.{short-list, with-room}
+use borrow.Author.Needs.{needs}
+use Rattle.reach.proofs.reach_empty.Statement.{statement}
+use Rattle.reach.proofs.reach_empty.Tie as tie
+
+saved-length-requires : tie.Need-saved-length-requires
+saved-length-requires c κs = search needs
+
+returns : tie.Need-returns
+unfolding empty-map
+returns c =
+    short-list _ _ (omega (arith, length-saved empty-map, c .before .saved-length .ensures, c .if1 .taken))
+
+empty-map-requires : tie.Need-empty-map-requires
+empty-map-requires c κs = search needs
+
+write-map-requires : tie.Need-write-map-requires
+unfolding empty-map
+write-map-requires c κs =
+    let e = c .before .empty-map .ensures in
+    let d = c .before .before in (
+      subst Sound (sym e) empty-sound,
+      omega (arith, ap (λ (m : Map). m .count) e, d .before .saved-length .ensures, d .if1 .left),
+    )
+
+same-length : tie.Need-same-length
+same-length c = search needs
+
+returns-2 : tie.Need-returns-2
+unfolding empty-map
+returns-2 c =
+    let w = c .before .before in
+    let m = w .before .before in
+    let d = m .before in
+    let s = d .before .before .before .args in
+    with-room (saved empty-map) _ (omega (arith, length-saved empty-map, d .before .saved-length .ensures, d .if1 .left))
+    (w .write-map .ensures
+    ∙ ap (λ (m : Map). saved m ++ drop (length (saved m)) (now (s .out))) (m .empty-map .ensures))
+
+pub reach-empty-spec : {M : Type 1} → statement M
+reach-empty-spec =
+    tie.close
+    (tie.spec
+    saved-length-requires
+    returns
+    empty-map-requires
+    write-map-requires
+    same-length
+    returns-2)

@@ -1,0 +1,44 @@
+-- `reach::reach_offer` meets its contract. Assumes nothing.
+use mathlib.Core.Path.{ap₂, _∙_}
+use mir.Syntax.{w64}
+use mir.ValLaws.{toZ-ofZ}
+use denote.Ref.{now}
+use Rattle.model.specs.declared.Point.{Point}
+use Rattle.model.specs.Plane.{at}
+use Rattle.model.specs.Arrival.{arrive}
+use Rattle.model.specs.Offers.{offer-rules}
+use Rattle.model.specs.Saved.{map-in, saved}
+use Rattle.reach.specs.Opened.{of-file}
+use Rattle.reach.specs.Replies.{arrival-values}
+use Rattle.reach.proofs.Serving.{both-at}
+use borrow.Author.Needs.{needs}
+use Rattle.reach.proofs.reach_offer.Statement.{statement}
+use Rattle.reach.proofs.reach_offer.Tie as tie
+
+point-requires : tie.Need-point-requires
+point-requires c κs = search needs
+
+write-offer-requires : tie.Need-write-offer-requires
+write-offer-requires c κs = search needs
+
+same-length : tie.Need-same-length
+same-length c = search needs
+
+same-length-2 : tie.Need-same-length-2
+same-length-2 c = search needs
+
+returns : tie.Need-returns
+returns c =
+    let w = c .before .before .before .before in
+    let n = w .before .before .before in
+    let start = n .before .before .before .before in
+    let s = start .args in
+    let f = start .fits in
+    let m = map-in (now (s .map)) in
+    both-at (λ p. of-file (now (s .map)) (λ m. offer-rules m p)) (λ p. saved (arrive m p .map))
+    (λ (p : Point). arrival-values (arrive m p .arrival))
+    (n .point .ensures ∙ ap₂ at (toZ-ofZ w64 (s .x) (f .x)) (toZ-ofZ w64 (s .y) (f .y))) (w .write-offer .ensures)
+
+pub reach-offer-spec : {M : Type 1} → statement M
+reach-offer-spec =
+    tie.close (tie.spec point-requires write-offer-requires same-length same-length-2 returns)

@@ -1,0 +1,35 @@
+-- `reach::reach_place` meets its contract. Assumes nothing.
+use mathlib.Core.Path.{ap₂, _∙_}
+use mir.Syntax.{w64}
+use mir.ValLaws.{toZ-ofZ}
+use denote.Ref.{now}
+use Rattle.model.specs.declared.Point.{Point}
+use Rattle.model.specs.Plane.{at}
+use Rattle.reach.specs.Replies.{from-file, place-reply}
+use Rattle.reach.proofs.Serving.{served-at}
+use borrow.Author.Needs.{needs}
+use Rattle.reach.proofs.reach_place.Statement.{statement}
+use Rattle.reach.proofs.reach_place.Tie as tie
+
+point-requires : tie.Need-point-requires
+point-requires c κs = search needs
+
+write-placed-requires : tie.Need-write-placed-requires
+write-placed-requires c κs = search needs
+
+same-length : tie.Need-same-length
+same-length c = search needs
+
+returns : tie.Need-returns
+returns c =
+    let w = c .before .before in
+    let n = w .before .before in
+    let start = n .before .before .before in
+    let s = start .args in
+    let f = start .fits in
+    served-at (λ (p : Point). from-file (place-reply p) (now (s .map)))
+    (n .point .ensures ∙ ap₂ at (toZ-ofZ w64 (s .x) (f .x)) (toZ-ofZ w64 (s .y) (f .y)))
+    (w .write-placed .ensures)
+
+pub reach-place-spec : {M : Type 1} → statement M
+reach-place-spec = tie.close (tie.spec point-requires write-placed-requires same-length returns)

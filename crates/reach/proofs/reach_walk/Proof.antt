@@ -1,0 +1,79 @@
+-- `reach::reach_walk` meets its contract. Assumes nothing.
+use mathlib.Core.Path.{ap, _∙_}
+use mathlib.Core.List.{[], _∷_}
+use Prim.Native.Nat.{ℕ}
+use Rattle.orbits.specs.Walks.{walk}
+use Rattle.model.specs.declared.Map.{Map}
+use Rattle.model.specs.Maps.{edge-link, point-link}
+use Rattle.model.specs.Reading.{darts}
+use Rattle.reach.specs.Replies.{walk-values}
+use Rattle.reach.proofs.OpenedFiles.{opened-sound, opened-refused, opened-served}
+use borrow.Author.Needs.{needs}
+use Rattle.reach.proofs.reach_walk.Statement.{statement}
+use Rattle.reach.proofs.reach_walk.Tie as tie
+
+load-at-requires : tie.Need-load-at-requires
+load-at-requires c κs = search needs
+
+enum-known-outcome : tie.Need-enum-known-outcome
+enum-known-outcome c = search needs
+
+code-requires : tie.Need-code-requires
+code-requires c κs = search needs
+
+enum-told : tie.Need-enum-told
+enum-told c = search needs
+
+walk-of-requires : tie.Need-walk-of-requires
+walk-of-requires c κs =
+    opened-sound (c .before .before .load-at .ensures) (c .enum-told .given .1) .links .fits
+
+ending-number-requires : tie.Need-ending-number-requires
+ending-number-requires c κs = search needs
+
+slice-aggregate-write-values : tie.Need-slice-aggregate-write-values
+slice-aggregate-write-values c = search needs
+
+write-values-requires : tie.Need-write-values-requires
+write-values-requires c κs = search needs
+
+returns : tie.Need-returns
+returns c =
+    let d = c .before .before in
+    let l = d .before .before in
+    opened-refused (l .load-at .ensures) _ _ (d .outcome .given .1) (c .code .ensures)
+
+same-length : tie.Need-same-length
+same-length c = search needs
+
+returns-2 : tie.Need-returns-2
+returns-2 c =
+    let w = c .before .before in
+    let n = w .before .before .before in
+    let k = n .before in
+    let t = k .before in
+    let l = t .before .before in
+    let o = l .load-at .ensures in
+    let e = t .enum-told .given .1 in
+    let d = l .before .before .before .args .dart in
+    opened-served o _ _ e
+    (ap (λ (i : ℕ). k .walk-of .result .last ∷ i ∷ k .walk-of .result .moves ∷ []) (n .ending-number .ensures)
+    ∙ ap walk-values
+    (k .walk-of .ensures ∙ ap (λ (m : Map). walk (edge-link m) (point-link m) (darts m) d) (o .map e)))
+    (w .write-values .ensures)
+
+pub reach-walk-spec : {M : Type 1} → statement M
+reach-walk-spec =
+    tie.close
+    (tie.spec
+    load-at-requires
+    enum-known-outcome
+    code-requires
+    enum-told
+    walk-of-requires
+    ending-number-requires
+    slice-aggregate-write-values
+    write-values-requires
+    returns
+    same-length
+    returns-2)

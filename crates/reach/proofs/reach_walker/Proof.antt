@@ -1,0 +1,68 @@
+-- `reach::reach_walker` meets its contract. Assumes nothing.
+use mathlib.Core.Path.{ap}
+use mathlib.Core.List.{[], _∷_}
+use Rattle.orbits.specs.declared.Walker.{Walker}
+use Rattle.model.specs.Answers.{moved-answer}
+use Rattle.reach.proofs.OpenedFiles.{opened-refused, opened-served}
+use borrow.Author.Needs.{needs}
+use Rattle.reach.proofs.reach_walker.Statement.{statement}
+use Rattle.reach.proofs.reach_walker.Tie as tie
+
+load-at-requires : tie.Need-load-at-requires
+load-at-requires c κs = search needs
+
+enum-known-outcome : tie.Need-enum-known-outcome
+enum-known-outcome c = search needs
+
+code-requires : tie.Need-code-requires
+code-requires c κs = search needs
+
+enum-told : tie.Need-enum-told
+enum-told c = search needs
+
+starting-at-requires : tie.Need-starting-at-requires
+starting-at-requires c κs = search needs
+
+slice-aggregate-write-values : tie.Need-slice-aggregate-write-values
+slice-aggregate-write-values c = search needs
+
+write-values-requires : tie.Need-write-values-requires
+write-values-requires c κs = search needs
+
+returns : tie.Need-returns
+unfolding moved-answer
+returns c =
+    let d = c .before .before in
+    let l = d .before .before in
+    opened-refused (l .load-at .ensures) _ _ (d .outcome .given .1) (c .code .ensures)
+
+same-length : tie.Need-same-length
+same-length c = search needs
+
+returns-2 : tie.Need-returns-2
+unfolding moved-answer
+returns-2 c =
+    let w = c .before .before in
+    let n = w .before .before .before in
+    let t = n .before in
+    let l = t .before .before in
+    let o = l .load-at .ensures in
+    let e = t .enum-told .given .1 in
+    opened-served o _ _ e
+    (ap (λ (v : Walker). v .dart ∷ []) (n .starting-at .ensures))
+    (w .write-values .ensures)
+
+pub reach-walker-spec : {M : Type 1} → statement M
+reach-walker-spec =
+    tie.close
+    (tie.spec
+    load-at-requires
+    enum-known-outcome
+    code-requires
+    enum-told
+    starting-at-requires
+    slice-aggregate-write-values
+    write-values-requires
+    returns
+    same-length
+    returns-2)

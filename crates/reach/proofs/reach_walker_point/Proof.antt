@@ -1,0 +1,72 @@
+-- `reach::reach_walker_point` meets its contract. Assumes nothing.
+use mathlib.Core.Path.{ap, _∙_}
+use mathlib.Core.List.{[], _∷_}
+use Rattle.orbits.specs.declared.Walker.{Walker}
+use Rattle.orbits.specs.Walks.{walker-at}
+use Rattle.model.specs.declared.Map.{Map}
+use Rattle.model.specs.Maps.{point-link}
+use Rattle.model.specs.Answers.{moved-answer}
+use Rattle.reach.proofs.OpenedFiles.{opened-refused, opened-served}
+use borrow.Author.Needs.{needs}
+use Rattle.reach.proofs.reach_walker_point.Statement.{statement}
+use Rattle.reach.proofs.reach_walker_point.Tie as tie
+
+load-at-requires : tie.Need-load-at-requires
+load-at-requires c κs = search needs
+
+enum-known-outcome : tie.Need-enum-known-outcome
+enum-known-outcome c = search needs
+
+code-requires : tie.Need-code-requires
+code-requires c κs = search needs
+
+enum-told : tie.Need-enum-told
+enum-told c = search needs
+
+moved-by-point-requires : tie.Need-moved-by-point-requires
+moved-by-point-requires c κs = search needs
+
+slice-aggregate-write-values : tie.Need-slice-aggregate-write-values
+slice-aggregate-write-values c = search needs
+
+write-values-requires : tie.Need-write-values-requires
+write-values-requires c κs = search needs
+
+returns : tie.Need-returns
+unfolding moved-answer
+returns c =
+    let d = c .before .before in
+    let l = d .before .before in
+    opened-refused (l .load-at .ensures) _ _ (d .outcome .given .1) (c .code .ensures)
+
+same-length : tie.Need-same-length
+same-length c = search needs
+
+returns-2 : tie.Need-returns-2
+unfolding moved-answer
+returns-2 c =
+    let w = c .before .before in
+    let n = w .before .before .before in
+    let t = n .before in
+    let l = t .before .before in
+    let o = l .load-at .ensures in
+    let e = t .enum-told .given .1 in
+    let d = l .before .before .before .args .dart in
+    opened-served o _ _ e
+    (ap (λ (v : Walker). v .dart ∷ []) (n .moved-by-point .ensures ∙ ap (λ (m : Map). walker-at (point-link m d)) (o .map e)))
+    (w .write-values .ensures)
+
+pub reach-walker-point-spec : {M : Type 1} → statement M
+reach-walker-point-spec =
+    tie.close
+    (tie.spec
+    load-at-requires
+    enum-known-outcome
+    code-requires
+    enum-told
+    moved-by-point-requires
+    slice-aggregate-write-values
+    write-values-requires
+    returns
+    same-length
+    returns-2)

@@ -1,0 +1,70 @@
+-- `reach::write_offer` meets its contract. Assumes nothing.
+use mathlib.Core.Path.{sym, _∙_}
+use denote.Ref.{now}
+use Rattle.model.specs.declared.Map.{Map}
+use Rattle.model.specs.Arrival.{admission-rules, arrive}
+use Rattle.model.specs.Saved.{map-in, saved}
+use Rattle.reach.specs.Replies.{arrival-values}
+use Rattle.reach.proofs.OpenedFiles.{loads, opened-sound}
+use Rattle.reach.proofs.Serving.{both-refused-before, both-served-after, both-at}
+use borrow.Author.Needs.{needs}
+use Rattle.reach.proofs.write_offer.Statement.{statement}
+use Rattle.reach.proofs.write_offer.Tie as tie
+
+load-requires : tie.Need-load-requires
+load-requires c κs = search needs
+
+enum-known-outcome : tie.Need-enum-known-outcome
+enum-known-outcome c = search needs
+
+code-requires : tie.Need-code-requires
+code-requires c κs = search needs
+
+enum-told : tie.Need-enum-told
+enum-told c = search needs
+
+write-admitted-requires : tie.Need-write-admitted-requires
+write-admitted-requires c κs =
+    let t = c .before .before in
+    opened-sound (loads (t .before .before .load .ensures)) (t .enum-told .given .1)
+
+returns : tie.Need-returns
+returns c =
+    let d = c .before .before in
+    let l = d .before .before in
+    let s = l .before .before .before .before .args in
+    both-refused-before _ (admission-rules (map-in (now (s .map))) (s .p)) _ _ _ _ _
+    (sym (d .outcome .given .1) ∙ loads (l .load .ensures) .outcome) (c .code .ensures)
+
+same-length : tie.Need-same-length
+same-length c = search needs
+
+same-length-2 : tie.Need-same-length-2
+same-length-2 c = search needs
+
+returns-2 : tie.Need-returns-2
+returns-2 c =
+    let w = c .before .before .before .before in
+    let t = w .before .before .before in
+    let l = t .before .before in
+    let s = l .before .before .before .before .args in
+    let o = loads (l .load .ensures) in
+    let e = t .enum-told .given .1 in
+    let p = s .p in
+    both-served-after _ (admission-rules (map-in (now (s .map))) p) _ _ _ _ (sym e ∙ o .outcome)
+    (both-at (λ m. admission-rules m p) (λ m. saved (arrive m p .map)) (λ (m : Map). arrival-values (arrive m p .arrival))
+    (o .map e) (w .write-admitted .ensures))
+
+pub write-offer-spec : {M : Type 1} → statement M
+write-offer-spec =
+    tie.close
+    (tie.spec
+    load-requires
+    enum-known-outcome
+    code-requires
+    enum-told
+    write-admitted-requires
+    returns
+    same-length
+    same-length-2
+    returns-2)

@@ -1,0 +1,77 @@
+-- `reach::write_orbit` meets its contract. Assumes nothing.
+use mathlib.Core.Path.{_≡_, ap, _∙_}
+use mathlib.Core.Bool.{Bool}
+use Prim.Native.Nat.{ℕ, _+_, _*_}
+use lib.ListN.{length}
+use Rattle.finite.specs.Bounded.{length-table}
+use Rattle.orbits.specs.declared.DartSet.{DartSet}
+use Rattle.orbits.specs.Sets.{bits, set-of}
+use Rattle.model.specs.declared.Map.{Map}
+use Rattle.model.specs.Reading.{orbit-set}
+use Rattle.reach.specs.Replies.{set-values}
+use Rattle.reach.proofs.OpenedFiles.{opened-sound, opened-present, opened-refused, opened-served}
+use borrow.Author.Needs.{needs}
+use Rattle.reach.proofs.write_orbit.Statement.{statement}
+use Rattle.reach.proofs.write_orbit.Tie as tie
+
+load-at-requires : tie.Need-load-at-requires
+load-at-requires c κs = search needs
+
+enum-known-outcome : tie.Need-enum-known-outcome
+enum-known-outcome c = search needs
+
+code-requires : tie.Need-code-requires
+code-requires c κs = search needs
+
+enum-told : tie.Need-enum-told
+enum-told c = search needs
+
+orbit-of-requires : tie.Need-orbit-of-requires
+orbit-of-requires c κs =
+    let o = c .before .before .load-at .ensures in
+    let e = c .enum-told .given .1 in
+    (opened-sound o e, opened-present _ o e)
+
+sixteen : (p : ℕ → Bool) → length (set-of p .words) ≡ 16
+unfolding set-of
+sixteen p = length-table 16 (λ w. bits 64 (λ j. p (64 * w + j)))
+
+write-darts-requires : tie.Need-write-darts-requires
+write-darts-requires c κs =
+    ap (λ (s : DartSet). length (s .words)) (c .before .orbit-of .ensures) ∙ sixteen _
+
+returns : tie.Need-returns
+returns c =
+    let d = c .before .before in
+    let l = d .before .before in
+    opened-refused (l .load-at .ensures) _ _ (d .outcome .given .1) (c .code .ensures)
+
+same-length : tie.Need-same-length
+same-length c = search needs
+
+returns-2 : tie.Need-returns-2
+returns-2 c =
+    let w = c .before .before in
+    let n = w .before .before in
+    let t = n .before in
+    let l = t .before .before in
+    let o = l .load-at .ensures in
+    let e = t .enum-told .given .1 in
+    let s = l .before .before .before .args in
+    opened-served o _ _ e
+    (ap set-values (n .orbit-of .ensures ∙ ap (λ (m : Map). orbit-set m (s .kind) (s .dart)) (o .map e)))
+    (w .write-darts .ensures)
+
+pub write-orbit-spec : {M : Type 1} → statement M
+write-orbit-spec =
+    tie.close
+    (tie.spec
+    load-at-requires
+    enum-known-outcome
+    code-requires
+    enum-told
+    orbit-of-requires
+    write-darts-requires
+    returns
+    same-length
+    returns-2)

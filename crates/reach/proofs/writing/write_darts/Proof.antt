@@ -1,0 +1,38 @@
+-- `reach::writing::write_darts` meets its contract. Assumes nothing.
+use mathlib.Core.Path.{ap, _∙_}
+use mathlib.Core.List.{List, [], _∷_, _++_}
+use Prim.Native.Nat.{ℕ}
+use native.Mathlib.Omega.{arith}
+use denote.Ref.{now}
+use lib.ListN.{drop, set, length-append}
+use Rattle.reach.proofs.Serving.{short-list, with-room, one-more}
+use borrow.Author.Needs.{needs}
+use Rattle.reach.proofs.writing.write_darts.Statement.{statement}
+use Rattle.reach.proofs.writing.write_darts.Tie as tie
+
+returns : tie.Need-returns
+returns c = short-list _ _ (omega (arith, c .before .before .pre, length-append (c .before .before .args .t1 .words) (c .before .before .args .t1 .size ∷ []), c .if1 .taken))
+
+write-words-requires : tie.Need-write-words-requires
+write-words-requires c κs = omega (arith, c .before .before .before .before .before .before .pre)
+
+slice-write-out : tie.Need-slice-write-out
+slice-write-out c = search needs
+
+same-length : tie.Need-same-length
+same-length c = search needs
+
+returns-2 : tie.Need-returns-2
+returns-2 c =
+    let w = c .before .before in
+    let d = w .before .before .before .before .before in
+    let s = d .before .before in
+    let words = s .args .t1 .words in
+    let size = s .args .t1 .size in
+    with-room (words ++ size ∷ []) _ (omega (arith, s .pre, length-append words (size ∷ []), d .if1 .left))
+    (ap (λ (l : List ℕ). set l 16 size) (w .write-words .ensures ∙ ap (λ (n : ℕ). words ++ drop n (now (s .args .out))) (s .pre))
+    ∙ one-more words (now (s .args .out)) size 16 (s .pre) (d .if1 .left))
+
+pub write-darts-spec : {M : Type 1} → statement M
+write-darts-spec =
+    tie.close (tie.spec returns write-words-requires slice-write-out same-length returns-2)

@@ -1,0 +1,33 @@
+-- `reach::writing::write_point` meets its contract. Assumes nothing.
+use mathlib.Core.List.{[], _∷_}
+use mir.Syntax.{w64}
+use mir.ValLaws.{toZ-ofZ}
+use denote.Ref.{now}
+use Rattle.reach.proofs.Serving.{short-list, stored}
+use borrow.Author.Needs.{needs}
+use Rattle.reach.proofs.writing.write_point.Statement.{statement}
+use Rattle.reach.proofs.writing.write_point.Tie as tie
+
+returns : tie.Need-returns
+returns c = short-list _ _ (c .if1 .taken)
+
+slice-set-from-x : tie.Need-slice-set-from-x
+slice-set-from-x c = search needs
+
+slice-set-from-y : tie.Need-slice-set-from-y
+slice-set-from-y c = search needs
+
+same-length : tie.Need-same-length
+same-length c = search needs
+
+returns-2 : tie.Need-returns-2
+returns-2 c =
+    let d = c .before .before in
+    let s = d .before .args in
+    let x = toZ-ofZ w64 (s .p .x) (record { sfits = c .before .struct-told .given .0 .1 }) in
+    let y = toZ-ofZ w64 (s .p .y) (record { sfits = c .struct-told2 .given .1 .0 .1 }) in
+    simp (x, y) (stored (s .p .x ∷ s .p .y ∷ []) (now (s .out)) (d .if1 .left))
+
+pub write-point-spec : {M : Type 1} → statement M
+write-point-spec =
+    tie.close (tie.spec returns slice-set-from-x slice-set-from-y same-length returns-2)

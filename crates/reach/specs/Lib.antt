@@ -1,0 +1,7 @@
+-- What the exported functions promise. Nothing is assumed.
+--     Served     the number that is returned, and the lists as they are left
+--     Opened     the map of a file after its checks
+--     Replies    the rules and the values of each function
+pub mod Served
+pub mod Opened
+pub mod Replies

@@ -1,0 +1,327 @@
+// The engine for other languages: one exported function for each call. A map comes as its saved bytes, which
+// are checked as a file is. The number that is returned is that of the refusal, 0 where the call is served;
+// values are written into lent lists. Each function loads, checks, computes its values, and then writes them
+// where there is room.
+
+mod opening;
+mod values;
+mod writing;
+
+use crate::opening::load_at;
+use crate::opening::load_near;
+use crate::values::ending_number;
+use crate::values::placed_values;
+use crate::values::point;
+use crate::writing::code;
+use crate::writing::write_admitted;
+use crate::writing::write_corner_list;
+use crate::writing::write_darts;
+use crate::writing::write_number;
+use crate::writing::write_point;
+use crate::writing::write_values;
+use engine::files::load;
+use hull::query::placed;
+use maps::empty_map;
+use maps::traversal::counts_of;
+use maps::traversal::moved_by_edge;
+use maps::traversal::moved_by_point;
+use maps::traversal::orbit_of;
+use maps::traversal::walk_of;
+use model::Kind;
+use model::Line;
+use model::Oriented;
+use model::Outcome;
+use model::Point;
+use orbits::Walker;
+use plane::orientation_of;
+use saved::saved_length;
+use saved::write_map;
+use survey::lines::read_line;
+ghost use mathlib.Core.Path.{_≡_};
+ghost use mathlib.Core.List.{[], _∷_};
+ghost use lib.ListN.{length};
+ghost use Rattle.model.specs.Plane.{at, orientation-call};
+ghost use Rattle.model.specs.Maps.{edge-link, empty-map, point-link};
+ghost use Rattle.model.specs.Outline.{corners};
+ghost use Rattle.model.specs.Reading.{unsound};
+ghost use Rattle.model.specs.Saved.{load-call, map-in, saved};
+ghost use Rattle.model.specs.Text.{line-call};
+ghost use Rattle.reach.specs.Served.{Served, ServedBoth, number-by, only};
+ghost use Rattle.reach.specs.Opened.{of-file};
+ghost use Rattle.reach.specs.Replies.{Offering, counts-reply, from-file, orbit-reply, place-reply};
+ghost use Rattle.reach.specs.Replies.{signed-reply, walk-reply, walker-reply};
+
+// The orientation of three points: numbers 3 and 10.
+#[no_mangle]
+pub extern "C" fn reach_orientation(
+    ax: i64,
+    ay: i64,
+    bx: i64,
+    by: i64,
+    cx: i64,
+    cy: i64,
+    out: &mut [i64],
+) -> u32
+    ensures { λ r. ⌜ Served (signed-reply (orientation-call (at ax ay) (at bx by) (at cx cy)))
+        (now (out .entry)) (now (out .exit)) r ⌝ }
+{
+    write_orientation(point(ax, ay), point(bx, by), point(cx, cy), out)
+}
+
+// The orientation of three points.
+fn write_orientation(a: Point, b: Point, c: Point, out: &mut [i64]) -> u32
+    ensures { λ r. ⌜ Served (signed-reply (orientation-call a b c)) (now (out .entry)) (now (out .exit)) r ⌝ }
+{
+    let oriented = orientation_of(a, b, c);
+    match oriented {
+        Oriented::Refused(refusal) => code(refusal),
+        Oriented::Value(z) => write_number(z, out),
+    }
+}
+
+// The bytes of the map without points: number 10.
+#[no_mangle]
+pub extern "C" fn reach_empty(out: &mut [u8]) -> u32
+    ensures { λ r. ⌜ Served (only (saved empty-map)) (now (out .entry)) (now (out .exit)) r ⌝ }
+{
+    let length = saved_length(0);
+    if out.len() < length {
+        return 10;
+    }
+    write_map(empty_map(), out);
+    0
+}
+
+// Whether a file loads: numbers 7 and 1.
+#[no_mangle]
+pub extern "C" fn reach_check(map: &[u8]) -> u32
+    ensures { λ r. ⌜ r ≡ number-by (load-call (now (map .entry)) .rules) ⌝ }
+{
+    let loaded = load(map);
+    let outcome = loaded.outcome;
+    match outcome {
+        Outcome::Refused(refusal) => code(refusal),
+        Outcome::Served => 0,
+    }
+}
+
+// A point offered to a map: numbers 7, 1, 2 to 5 and 10.
+#[no_mangle]
+pub extern "C" fn reach_offer(
+    map: &[u8],
+    x: i64,
+    y: i64,
+    out: &mut [u8],
+    arrival: &mut [usize],
+) -> u32
+    ensures { λ r. ⌜ Offering (now (map .entry)) (at x y) (now (out .entry)) (now (out .exit))
+        (now (arrival .entry)) (now (arrival .exit)) r ⌝ }
+{
+    write_offer(map, point(x, y), out, arrival)
+}
+
+// The map of a file after a point is offered to it, and the arrival.
+fn write_offer(map: &[u8], p: Point, out: &mut [u8], arrival: &mut [usize]) -> u32
+    ensures { λ r. ⌜ Offering (now (map .entry)) p (now (out .entry)) (now (out .exit))
+        (now (arrival .entry)) (now (arrival .exit)) r ⌝ }
+{
+    let loaded = load(map);
+    let outcome = loaded.outcome;
+    match outcome {
+        Outcome::Refused(refusal) => code(refusal),
+        Outcome::Served => write_admitted(loaded.map, p, out, arrival),
+    }
+}
+
+// The numbers of darts, vertices, edges, faces and connected parts: numbers 7, 1 and 10.
+#[no_mangle]
+pub extern "C" fn reach_counts(map: &[u8], out: &mut [usize]) -> u32
+    ensures { λ r. ⌜ Served (from-file counts-reply (now (map .entry)))
+        (now (out .entry)) (now (out .exit)) r ⌝ }
+{
+    let loaded = load(map);
+    let outcome = loaded.outcome;
+    match outcome {
+        Outcome::Refused(refusal) => code(refusal),
+        Outcome::Served => {
+            let n = counts_of(loaded.map);
+            let values = [n.darts, n.vertices, n.edges, n.faces, n.parts];
+            write_values(&values, out)
+        }
+    }
+}
+
+// The orbit of a dart: numbers 7, 1, 6 and 10.
+fn write_orbit(map: &[u8], kind: Kind, dart: usize, out: &mut [u64]) -> u32
+    ensures { λ r. ⌜ Served (from-file (orbit-reply kind dart) (now (map .entry)))
+        (now (out .entry)) (now (out .exit)) r ⌝ }
+{
+    let loaded = load_at(map, dart);
+    let outcome = loaded.outcome;
+    match outcome {
+        Outcome::Refused(refusal) => code(refusal),
+        Outcome::Served => write_darts(orbit_of(loaded.map, kind, dart), out),
+    }
+}
+
+// The edge of a dart: numbers 7, 1, 6 and 10.
+#[no_mangle]
+pub extern "C" fn reach_edge_orbit(map: &[u8], dart: usize, out: &mut [u64]) -> u32
+    ensures { λ r. ⌜ Served (from-file (orbit-reply Kind.Edge dart) (now (map .entry)))
+        (now (out .entry)) (now (out .exit)) r ⌝ }
+{
+    write_orbit(map, Kind::Edge, dart, out)
+}
+
+// The vertex of a dart: numbers 7, 1, 6 and 10.
+#[no_mangle]
+pub extern "C" fn reach_vertex_orbit(map: &[u8], dart: usize, out: &mut [u64]) -> u32
+    ensures { λ r. ⌜ Served (from-file (orbit-reply Kind.Vertex dart) (now (map .entry)))
+        (now (out .entry)) (now (out .exit)) r ⌝ }
+{
+    write_orbit(map, Kind::Vertex, dart, out)
+}
+
+// The face of a dart: numbers 7, 1, 6 and 10.
+#[no_mangle]
+pub extern "C" fn reach_face_orbit(map: &[u8], dart: usize, out: &mut [u64]) -> u32
+    ensures { λ r. ⌜ Served (from-file (orbit-reply Kind.Face dart) (now (map .entry)))
+        (now (out .entry)) (now (out .exit)) r ⌝ }
+{
+    write_orbit(map, Kind::Face, dart, out)
+}
+
+// The connected part of a dart: numbers 7, 1, 6 and 10.
+#[no_mangle]
+pub extern "C" fn reach_part_orbit(map: &[u8], dart: usize, out: &mut [u64]) -> u32
+    ensures { λ r. ⌜ Served (from-file (orbit-reply Kind.Part dart) (now (map .entry)))
+        (now (out .entry)) (now (out .exit)) r ⌝ }
+{
+    write_orbit(map, Kind::Part, dart, out)
+}
+
+// The walk from a dart: numbers 7, 1, 6 and 10.
+#[no_mangle]
+pub extern "C" fn reach_walk(map: &[u8], dart: usize, out: &mut [usize]) -> u32
+    ensures { λ r. ⌜ Served (from-file (walk-reply dart) (now (map .entry)))
+        (now (out .entry)) (now (out .exit)) r ⌝ }
+{
+    let loaded = load_at(map, dart);
+    let outcome = loaded.outcome;
+    match outcome {
+        Outcome::Refused(refusal) => code(refusal),
+        Outcome::Served => {
+            let walk = walk_of(loaded.map, dart);
+            let ending = walk.ending;
+            let values = [walk.last, ending_number(ending), walk.moves];
+            write_values(&values, out)
+        }
+    }
+}
+
+// A walker started at a dart: numbers 7, 1, 6 and 10.
+#[no_mangle]
+pub extern "C" fn reach_walker(map: &[u8], dart: usize, out: &mut [usize]) -> u32
+    ensures { λ r. ⌜ Served (from-file (walker-reply (λ m d. d) dart) (now (map .entry)))
+        (now (out .entry)) (now (out .exit)) r ⌝ }
+{
+    let loaded = load_at(map, dart);
+    let outcome = loaded.outcome;
+    match outcome {
+        Outcome::Refused(refusal) => code(refusal),
+        Outcome::Served => {
+            let walker = Walker::starting_at(dart);
+            let values = [walker.dart];
+            write_values(&values, out)
+        }
+    }
+}
+
+// A walker started at a dart and moved by the edge link: numbers 7, 1, 6 and 10.
+#[no_mangle]
+pub extern "C" fn reach_walker_edge(map: &[u8], dart: usize, out: &mut [usize]) -> u32
+    ensures { λ r. ⌜ Served (from-file (walker-reply edge-link dart) (now (map .entry)))
+        (now (out .entry)) (now (out .exit)) r ⌝ }
+{
+    let loaded = load_at(map, dart);
+    let outcome = loaded.outcome;
+    match outcome {
+        Outcome::Refused(refusal) => code(refusal),
+        Outcome::Served => {
+            let walker = moved_by_edge(loaded.map, Walker { dart });
+            let values = [walker.dart];
+            write_values(&values, out)
+        }
+    }
+}
+
+// A walker started at a dart and moved by the point link: numbers 7, 1, 6 and 10.
+#[no_mangle]
+pub extern "C" fn reach_walker_point(map: &[u8], dart: usize, out: &mut [usize]) -> u32
+    ensures { λ r. ⌜ Served (from-file (walker-reply point-link dart) (now (map .entry)))
+        (now (out .entry)) (now (out .exit)) r ⌝ }
+{
+    let loaded = load_at(map, dart);
+    let outcome = loaded.outcome;
+    match outcome {
+        Outcome::Refused(refusal) => code(refusal),
+        Outcome::Served => {
+            let walker = moved_by_point(loaded.map, Walker { dart });
+            let values = [walker.dart];
+            write_values(&values, out)
+        }
+    }
+}
+
+// Where a query point lies: numbers 7, 1, 3 and 10.
+#[no_mangle]
+pub extern "C" fn reach_place(map: &[u8], x: i64, y: i64, out: &mut [usize]) -> u32
+    ensures { λ r. ⌜ Served (from-file (place-reply (at x y)) (now (map .entry)))
+        (now (out .entry)) (now (out .exit)) r ⌝ }
+{
+    write_placed(map, point(x, y), out)
+}
+
+// Where a point lies in the map of a file.
+fn write_placed(map: &[u8], p: Point, out: &mut [usize]) -> u32
+    ensures { λ r. ⌜ Served (from-file (place-reply p) (now (map .entry)))
+        (now (out .entry)) (now (out .exit)) r ⌝ }
+{
+    let loaded = load_near(map, p);
+    let outcome = loaded.outcome;
+    match outcome {
+        Outcome::Refused(refusal) => code(refusal),
+        Outcome::Served => {
+            let values = placed_values(placed(loaded.map, p));
+            write_values(&values, out)
+        }
+    }
+}
+
+// The corners in listing order, and how many they are: numbers 7, 1 and 10.
+#[no_mangle]
+pub extern "C" fn reach_corners(map: &[u8], out: &mut [usize], count: &mut [usize]) -> u32
+    ensures { λ r. ⌜ ServedBoth (of-file (now (map .entry)) (λ m. unsound m ∷ []))
+        (corners (map-in (now (map .entry)))) (length (corners (map-in (now (map .entry)))) ∷ [])
+        (now (out .entry)) (now (out .exit)) (now (count .entry)) (now (count .exit)) r ⌝ }
+{
+    let loaded = load(map);
+    let outcome = loaded.outcome;
+    match outcome {
+        Outcome::Refused(refusal) => code(refusal),
+        Outcome::Served => write_corner_list(loaded.map, out, count),
+    }
+}
+
+// The point that a text line names: numbers 8 and 10.
+#[no_mangle]
+pub extern "C" fn reach_line(line: &[u8], out: &mut [i64]) -> u32
+    ensures { λ r. ⌜ Served (signed-reply (line-call (now (line .entry))))
+        (now (out .entry)) (now (out .exit)) r ⌝ }
+{
+    let read = read_line(line);
+    match read {
+        Line::Refused(refusal) => code(refusal),
+        Line::Named(p) => write_point(p, out),
+    }
+}

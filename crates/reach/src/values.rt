@@ -1,0 +1,75 @@
+// The numbers that stand for the words of answers, and the values after them.
+
+use model::Arrival;
+use model::Outcome;
+use model::Placed;
+use model::Point;
+use orbits::Ending;
+ghost use mathlib.Core.Path.{_≡_};
+ghost use Rattle.model.specs.Plane.{at};
+ghost use Rattle.reach.specs.Replies.{arrival-outcome, arrival-values, ending-number, place-values};
+
+// The point of two coordinates.
+pub(crate) fn point(x: i64, y: i64) -> Point
+    ensures { λ r. ⌜ r ≡ at x y ⌝ }
+{
+    Point { x, y }
+}
+
+// The number of an ending.
+pub(crate) fn ending_number(ending: Ending) -> usize
+    ensures { λ r. ⌜ r ≡ ending-number ending ⌝ }
+{
+    match ending {
+        Ending::Home => 0,
+        Ending::Loose => 1,
+    }
+}
+
+// The number of a place, and its values.
+pub(crate) fn placed_values(placed: Placed) -> [usize; 3]
+    ensures { λ r. ⌜ r ≡ place-values placed ⌝ }
+{
+    match placed {
+        Placed::NoOutline => [0, 0, 0],
+        Placed::Corner(k) => [1, k, 0],
+        Placed::Edge { from, to } => [2, from, to],
+        Placed::Inside => [3, 0, 0],
+        Placed::Outside(visible) => [4, visible, 0],
+        Placed::Refused(refusal) => [0, 0, 0],
+    }
+}
+
+// The number of an arrival, and its values.
+pub(crate) fn arrival_values(arrival: Arrival) -> [usize; 4]
+    ensures { λ r. ⌜ r ≡ arrival-values arrival ⌝ }
+{
+    match arrival {
+        Arrival::First => [0, 0, 0, 0],
+        Arrival::Second => [1, 0, 0, 0],
+        Arrival::Inside => [2, 0, 0, 0],
+        Arrival::Outside {
+            left,
+            right,
+            visible,
+        } => [3, left, right, visible],
+        Arrival::Refused(refusal) => [0, 0, 0, 0],
+    }
+}
+
+// Whether a point was accepted.
+pub(crate) fn arrival_outcome(arrival: Arrival) -> Outcome
+    ensures { λ r. ⌜ r ≡ arrival-outcome arrival ⌝ }
+{
+    match arrival {
+        Arrival::First => Outcome::Served,
+        Arrival::Second => Outcome::Served,
+        Arrival::Inside => Outcome::Served,
+        Arrival::Outside {
+            left,
+            right,
+            visible,
+        } => Outcome::Served,
+        Arrival::Refused(refusal) => Outcome::Refused(refusal),
+    }
+}

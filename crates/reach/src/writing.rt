@@ -1,0 +1,153 @@
+// What the exported functions end in: the number of a refusal, and values that are written into lent
+// lists where these have room.
+
+use crate::values::arrival_outcome;
+use crate::values::arrival_values;
+use hull::admitted;
+use hull::listing::corners_of;
+use hull::listing::write_corners;
+use model::Map;
+use model::Offered;
+use model::Outcome;
+use model::Point;
+use model::Refusal;
+use orbits::DartSet;
+use saved::saved_length;
+use saved::write_map;
+use survey::answers::refusal_number;
+ghost use mathlib.Core.Path.{_≡_};
+ghost use mathlib.Core.List.{[], _∷_, _++_};
+ghost use Prim.Native.Nat.{_≤_};
+ghost use lib.ListN.{drop, length};
+ghost use Rattle.model.specs.Refusals.{number};
+ghost use Rattle.model.specs.Sound.{Sound};
+ghost use Rattle.model.specs.Outline.{corners};
+ghost use Rattle.model.specs.Arrival.{admission-rules, arrive};
+ghost use Rattle.model.specs.Saved.{saved};
+ghost use Rattle.reach.specs.Served.{Served, ServedBoth, only};
+ghost use Rattle.reach.specs.Replies.{arrival-values, set-values};
+
+// The number of a refusal, as it is returned.
+pub(crate) fn code(refusal: Refusal) -> u32
+    ensures { λ r. ⌜ r ≡ number refusal ⌝ }
+{
+    refusal_number(refusal) as u32
+}
+
+// Writes values into a lent list: number 10.
+pub(crate) fn write_values(values: &[usize], out: &mut [usize]) -> u32
+    ensures { λ r. ⌜ Served (only (now (values .entry))) (now (out .entry)) (now (out .exit)) r ⌝ }
+{
+    if out.len() < values.len() {
+        return 10;
+    }
+    for i in 0..values.len() {
+        out[i] = values[i];
+    }
+    0
+}
+
+// Writes a number into a lent list: number 10.
+pub(crate) fn write_number(z: i64, out: &mut [i64]) -> u32
+    ensures { λ r. ⌜ Served (only (z ∷ [])) (now (out .entry)) (now (out .exit)) r ⌝ }
+{
+    if out.len() < 1 {
+        return 10;
+    }
+    out[0] = z;
+    0
+}
+
+// Writes the coordinates of a point into a lent list: number 10.
+pub(crate) fn write_point(p: Point, out: &mut [i64]) -> u32
+    ensures { λ r. ⌜ Served (only (p .x ∷ p .y ∷ [])) (now (out .entry)) (now (out .exit)) r ⌝ }
+{
+    if out.len() < 2 {
+        return 10;
+    }
+    let x = p.x;
+    let y = p.y;
+    out[0] = x;
+    out[1] = y;
+    0
+}
+
+// Writes the words of a set of darts, and then its size, into a lent list: number 10.
+pub(crate) fn write_darts(orbit: DartSet, out: &mut [u64]) -> u32
+    requires { ⌜ length (orbit .words) ≡ 16 ⌝ }
+    ensures { λ r. ⌜ Served (only (set-values orbit)) (now (out .entry)) (now (out .exit)) r ⌝ }
+{
+    if out.len() < 17 {
+        return 10;
+    }
+    write_words(&orbit.words, out);
+    out[16] = orbit.size as u64;
+    0
+}
+
+// Writes words over the front of a lent list that has room for them.
+fn write_words(words: &[u64], out: &mut [u64])
+    requires { ⌜ length (now words) ≤ length (now out) ⌝ }
+    ensures { λ _. ⌜ now (out .exit) ≡
+        now (words .entry) ++ drop (length (now (words .entry))) (now (out .entry)) ⌝ }
+{
+    for i in 0..words.len() {
+        out[i] = words[i];
+    }
+}
+
+// Offers a point to a sound map, and writes the bytes of the map after it and the arrival: numbers 2 to
+// 5 and 10.
+pub(crate) fn write_admitted(map: Map, p: Point, out: &mut [u8], arrival: &mut [usize]) -> u32
+    requires { ⌜ Sound map ⌝ }
+    ensures { λ r. ⌜ ServedBoth (admission-rules map p) (saved (arrive map p .map))
+        (arrival-values (arrive map p .arrival)) (now (out .entry)) (now (out .exit))
+        (now (arrival .entry)) (now (arrival .exit)) r ⌝ }
+{
+    let offered = admitted(map, p);
+    let answer = offered.arrival;
+    let outcome = arrival_outcome(answer);
+    match outcome {
+        Outcome::Refused(refusal) => code(refusal),
+        Outcome::Served => write_offered(offered, out, arrival),
+    }
+}
+
+// Writes the bytes of a sound map, and an arrival: number 10.
+fn write_offered(offered: Offered, out: &mut [u8], arrival: &mut [usize]) -> u32
+    requires { ⌜ Sound (offered .map) ⌝ }
+    ensures { λ r. ⌜ ServedBoth [] (saved (offered .map)) (arrival-values (offered .arrival))
+        (now (out .entry)) (now (out .exit)) (now (arrival .entry)) (now (arrival .exit)) r ⌝ }
+{
+    let map = offered.map;
+    let length = saved_length(map.count);
+    if out.len() < length {
+        return 10;
+    }
+    if arrival.len() < 4 {
+        return 10;
+    }
+    write_map(map, out);
+    let answer = offered.arrival;
+    let values = arrival_values(answer);
+    write_values(&values, arrival)
+}
+
+// Lists the corners of a sound map, and writes how many they are: number 10.
+pub(crate) fn write_corner_list(map: Map, out: &mut [usize], count: &mut [usize]) -> u32
+    requires { ⌜ Sound map ⌝ }
+    ensures { λ r. ⌜ ServedBoth [] (corners map) (length (corners map) ∷ [])
+        (now (out .entry)) (now (out .exit)) (now (count .entry)) (now (count .exit)) r ⌝ }
+{
+    let list = corners_of(map);
+    let listed = list.count;
+    if out.len() < listed {
+        return 10;
+    }
+    if count.len() < 1 {
+        return 10;
+    }
+    write_corners(list, out);
+    count[0] = listed;
+    0
+}

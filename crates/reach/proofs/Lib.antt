@@ -2,6 +2,8 @@
 --     Serving        rules in two parts; lists with room and without; rules that are checked before
 --     OpenedFiles    the map of a file after its checks
 --     Arrived        a point offered to a sound map
+--     Reported       a result and its length, in two lists
 pub mod Serving
 pub mod OpenedFiles
 pub mod Arrived
+pub mod Reported

@@ -13,6 +13,7 @@ use crate::values::ending_number;
 use crate::values::placed_values;
 use crate::values::point;
 use crate::writing::code;
+use crate::writing::uncounted;
 use crate::writing::write_admitted;
 use crate::writing::write_corner_list;
 use crate::writing::write_darts;
@@ -20,6 +21,7 @@ use crate::writing::write_number;
 use crate::writing::write_point;
 use crate::writing::write_values;
 use engine::files::load;
+use engine::texts::report;
 use hull::query::placed;
 use maps::empty_map;
 use maps::traversal::counts_of;
@@ -32,6 +34,7 @@ use model::Line;
 use model::Oriented;
 use model::Outcome;
 use model::Point;
+use model::Written;
 use orbits::Walker;
 use plane::orientation_of;
 use saved::saved_length;
@@ -46,6 +49,7 @@ ghost use Rattle.model.specs.Outline.{corners};
 ghost use Rattle.model.specs.Reading.{unsound};
 ghost use Rattle.model.specs.Saved.{load-call, map-in, saved};
 ghost use Rattle.model.specs.Text.{line-call};
+ghost use Rattle.model.specs.Report.{report, report-rules};
 ghost use Rattle.reach.specs.Served.{Served, ServedBoth, number-by, only};
 ghost use Rattle.reach.specs.Opened.{of-file};
 ghost use Rattle.reach.specs.Replies.{Offering, counts-reply, from-file, orbit-reply, place-reply};
@@ -323,5 +327,25 @@ pub extern "C" fn reach_line(line: &[u8], out: &mut [i64]) -> u32
     match read {
         Line::Refused(refusal) => code(refusal),
         Line::Named(p) => write_point(p, out),
+    }
+}
+
+// The report on a survey text, and how many bytes it has: numbers 9 and 10.
+#[no_mangle]
+pub extern "C" fn reach_report(text: &[u8], out: &mut [u8], count: &mut [usize]) -> u32
+    ensures { λ r. ⌜ ServedBoth (report-rules (now (text .entry))) (report (now (text .entry)))
+        (length (report (now (text .entry))) ∷ []) (now (out .entry)) (now (out .exit))
+        (now (count .entry)) (now (count .exit)) r ⌝ }
+{
+    if count.len() < 1 {
+        return uncounted(text);
+    }
+    let written = report(text, out);
+    match written {
+        Written::Refused(refusal) => code(refusal),
+        Written::Length(length) => {
+            count[0] = length;
+            0
+        }
     }
 }

@@ -12,10 +12,12 @@ use model::Outcome;
 use model::Point;
 use model::Refusal;
 use orbits::DartSet;
+use reports::deciding::TEXT_LIMIT;
 use saved::saved_length;
 use saved::write_map;
 use survey::answers::refusal_number;
 ghost use mathlib.Core.Path.{_≡_};
+ghost use mathlib.Core.Bool.{true};
 ghost use mathlib.Core.List.{[], _∷_, _++_};
 ghost use Prim.Native.Nat.{_≤_};
 ghost use lib.ListN.{drop, length};
@@ -24,7 +26,8 @@ ghost use Rattle.model.specs.Sound.{Sound};
 ghost use Rattle.model.specs.Outline.{corners};
 ghost use Rattle.model.specs.Arrival.{admission-rules, arrive};
 ghost use Rattle.model.specs.Saved.{saved};
-ghost use Rattle.reach.specs.Served.{Served, ServedBoth, only};
+ghost use Rattle.model.specs.Report.{report-rules};
+ghost use Rattle.reach.specs.Served.{Served, ServedBoth, and-short, number-by, only};
 ghost use Rattle.reach.specs.Replies.{arrival-values, set-values};
 
 // The number of a refusal, as it is returned.
@@ -150,4 +153,14 @@ pub(crate) fn write_corner_list(map: Map, out: &mut [usize], count: &mut [usize]
     write_corners(list, out);
     count[0] = listed;
     0
+}
+
+// The number of a report whose length there is no room for: 9 or 10.
+pub(crate) fn uncounted(text: &[u8]) -> u32
+    ensures { λ r. ⌜ r ≡ number-by (and-short (report-rules (now (text .entry))) true) ⌝ }
+{
+    if TEXT_LIMIT < text.len() {
+        return 9;
+    }
+    10
 }

@@ -19,8 +19,8 @@ pub fn read_line(line: &[u8]) -> Line
     survey::lines::read_line(line)
 }
 
-// The report on a survey text, written into a lent list: numbers 9 and 10. A longer list keeps its tail,
-// and a refused call writes nothing.
+// The report on a survey text, written into a lent list: numbers 9 and 10. A longer list keeps its
+// tail, and a refused call writes nothing.
 pub fn report(text: &[u8], lent: &mut [u8]) -> Written
     ensures { λ r. ⌜ Wrote (report-rules (now (text .entry))) (report (now (text .entry)))
         (now (lent .entry)) (now (lent .exit)) r ⌝ }

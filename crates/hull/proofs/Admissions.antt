@@ -1,12 +1,12 @@
--- From what the coordinates of a sound map say of a point to the offer, in the order of this page: a point
--- that is refused; one that is accepted; the numbers that an outside arrival reports are small.
--- Assumes nothing.
-use mathlib.Core.Path.{_≡_, sym, ap, _∙_}
+-- From what the coordinates of a sound map say of a point to the offer, in the order of this page:
+-- a point that is refused; one that is accepted; the numbers that an outside arrival reports are
+-- small. Assumes nothing.
+use mathlib.Core.Path.{_≡_, sym, ap}
 use mathlib.Core.Bool.{Bool, true, false, not, cond}
 use mathlib.Core.List.{List, [], _∷_}
 use Prim.Native.Nat.{ℕ, zero, suc, _+_, _≤_, _<_}
 use native.Mathlib.Omega.{arith}
-use lib.Dec.{T, T-not, ltb, eqb}
+use lib.Dec.{T-not, ltb, eqb}
 use lib.ListN.{length}
 use Rattle.finite.specs.Tests.{is-true}
 use Rattle.finite.specs.Bounded.{one-if}
@@ -15,7 +15,6 @@ use Rattle.model.specs.declared.Refusal.{Refusal}
 use Rattle.model.specs.declared.Outcome.{Outcome}
 use Rattle.model.specs.declared.Point.{Point}
 use Rattle.model.specs.declared.Map.{Map}
-use Rattle.model.specs.declared.Offered.{Offered}
 use Rattle.model.specs.Maps.{point-limit, owner, point}
 use Rattle.model.specs.Sound.{sound, Sound}
 use Rattle.model.specs.Outline.{next-corner, outline, corners-from, visible-edges, sees}
@@ -38,7 +37,8 @@ unfolding point
 ranged-places s = record { places = place-ranged s }
 
 module _ {m : Map} (s : Sound m) (p : Point) where
-  pub admission-refused : (r : Refusal) → Outcome.Refused r ≡ admission-by (m .xs) (m .ys) (m .count) p →
+  pub admission-refused : (r : Refusal) →
+      Outcome.Refused r ≡ admission-by (m .xs) (m .ys) (m .count) p →
       offer m p ≡ refusing m r
   unfolding admission-by is-repeated is-in-line point offer
   admission-refused r e =
@@ -55,7 +55,8 @@ module _ {m : Map} (s : Sound m) (p : Point) where
     pub admission-accepted : Accepted m p
     unfolding admission-by is-repeated is-in-line point
     admission-accepted =
-        accepted-by m p (nor (λ t. T-not (sound m) t (sound-by m s)) (served-none (admission-rules m p) e))
+        accepted-by m p
+        (nor (λ t. T-not (sound m) t (sound-by m s)) (served-none (admission-rules m p) e))
 
 -- what an arrival requires
 pub accepted-room : {m : Map} {p : Point} → Accepted m p → RoomFor m p
@@ -84,7 +85,9 @@ ring-most f start (suc k) a = go (eqb (f a) start) (ring-most f start k (f a))
 
 outline-most : (m : Map) → length (outline m) ≤ m .count
 unfolding outline corners-from
-outline-most m = go (ltb (m .count) 2) (ring-most (next-corner m) (owner (m .reference)) (m .count) (owner (m .reference)))
+outline-most m =
+    go (ltb (m .count) 2)
+    (ring-most (next-corner m) (owner (m .reference)) (m .count) (owner (m .reference)))
   where
     go : (b : Bool) → length (corners-from m (owner (m .reference))) ≤ m .count →
         length (cond b [] (corners-from m (owner (m .reference)))) ≤ m .count

@@ -1,5 +1,5 @@
-// Reads a survey text from standard input and prints the report on it to standard output. An error of
-// the operating system ends it with a message on standard error.
+// Reads a survey text from standard input and prints the report on it to standard output. An error
+// of the operating system ends it with a message on standard error.
 
 use libc::STDERR_FILENO;
 use libc::STDIN_FILENO;

@@ -1,15 +1,14 @@
--- One line after another, what is decided and what is ahead make up the report, in the order of this page:
--- the lines of the answers, and one more; nothing decided yet; a line that is refused; a line whose point
--- is accepted; the end of the text. Assumes nothing.
+-- One line after another, what is decided and what is ahead make up the report, in the order of
+-- this page: the lines of the answers, and one more; nothing decided yet; a line that is refused; a
+-- line whose point is accepted; the end of the text. Assumes nothing.
 use mathlib.Core.Path.{_≡_, refl, sym, ap, _∙_}
-use mathlib.Core.Logic.{_≢_}
 use mathlib.Core.Bool.{true, false}
 use mathlib.Core.List.{List, [], _∷_, _++_, flatten, append-assoc, append-nil}
 use Prim.Native.Nat.{ℕ, suc, _+_, _≤_, _<_}
 use native.Mathlib.Numerals.{add-one}
 use native.Mathlib.Omega.{arith}
 use borrow.Author.Tests.{leb-false}
-use lib.ListN.{length, getD, set, drop, length-set}
+use lib.ListN.{length, set, drop, length-set}
 use lib.Seq.{getD-set-same, getD-set-other}
 use Rattle.finite.specs.Bounded.{table, table-more, table-same}
 use Rattle.model.specs.declared.Refusal.{Refusal}
@@ -51,17 +50,20 @@ flatten-more n f =
 -- ---- the lines of the answers
 
 module _ (answers : List ℕ) (n c : ℕ) (h : n < length answers) where
-  pub answer-more : answer-lines (set answers n c) (n + 1) ≡ answer-lines answers n ++ arrival-line n (unpacked c)
+  pub answer-more : answer-lines (set answers n c) (n + 1)
+      ≡ answer-lines answers n ++ arrival-line n (unpacked c)
   unfolding answer-lines
   answer-more =
       rw add-one (flatten-more n (answer-at (set answers n c)))
       ∙ (λ i. flatten (table-same n (answer-at (set answers n c)) (answer-at answers)
-      (λ k l. ap (λ (x : ℕ). arrival-line k (unpacked x)) (getD-set-other answers n k c 0 (λ e. omega arith))) i)
+      (λ k l. ap (λ (x : ℕ). arrival-line k (unpacked x))
+      (getD-set-other answers n k c 0 (λ e. omega arith))) i)
       ++ arrival-line n (unpacked (getD-set-same answers n c 0 h i)))
 
 -- ---- nothing decided yet
 
-pub reports-begin : (text answers : List ℕ) → length text ≤ text-limit → length answers ≡ text-limit →
+pub reports-begin : (text answers : List ℕ) → length text ≤ text-limit →
+    length answers ≡ text-limit →
     Reports text empty-map answers 0 0
 unfolding answer-lines flatten table
 reports-begin text answers short whole =
@@ -89,19 +91,23 @@ module _ {text answers : List ℕ} {m : Map} {n at : ℕ} (r : Reports text m an
     place-further = next-further text at before-end
 
     -- with the answer of this line, and the map that it leaves
-    reports-more : (o : Offered) → offer-line m (line-at text at) ≡ o → Packable (o .arrival) → Sound (o .map) →
+    reports-more : (o : Offered) → offer-line m (line-at text at) ≡ o → Packable (o .arrival) →
+        Sound (o .map) →
         Reports text (o .map) (set answers n (packed (o .arrival))) (n + 1) (next-line text at)
     reports-more o e p s =
         record {
           is-sound = s;
           together =
-              (λ i. (answer-more answers n (packed (o .arrival)) (omega (arith, r .whole, place-free))
-              ∙ ap (λ (a : Arrival). answer-lines answers n ++ arrival-line n a) (unpacked-packed p)) i
+              (λ i. (answer-more answers n (packed (o .arrival))
+              (omega (arith, r .whole, place-free))
+              ∙ ap (λ (a : Arrival). answer-lines answers n ++ arrival-line n a)
+              (unpacked-packed p)) i
               ++ arrivals (o .map) (add-one n i) (lines (drop (next-line text at) text)))
               ∙ append-assoc (answer-lines answers n) (arrival-line n (o .arrival)) _
               ∙ ap (λ (l : List ℕ). answer-lines answers n ++ l)
               (sym (report-goes-on m n text at there
-              ∙ ap (λ (q : Offered). arrival-line n (q .arrival) ++ arrivals (q .map) (suc n) (lines (drop (next-line text at) text))) e))
+              ∙ ap (λ (q : Offered). arrival-line n (q .arrival)
+              ++ arrivals (q .map) (suc n) (lines (drop (next-line text at) text))) e))
               ∙ r .together;
           few = omega (arith, r .few, place-further .0);
           inside = place-further .1;
@@ -113,33 +119,41 @@ module _ {text answers : List ℕ} {m : Map} {n at : ℕ} (r : Reports text m an
         Verdict.Refused x ≡ verdict-by (m .xs) (m .ys) (m .count) (line-at text at) →
         Reports text m (set answers n (packed (Arrival.Refused x))) (n + 1) (next-line text at)
     reports-refused x e =
-        reports-more (refusing m x) (line-refused (r .is-sound) (line-at text at) x e) (refused x) (r .is-sound)
+        reports-more (refusing m x) (line-refused (r .is-sound) (line-at text at) x e) (refused x)
+        (r .is-sound)
 
     -- as the code has it
-    pub refuse-next : (x : Refusal) {found : Verdict} {line : Line} {v next : ℕ} → found ≡ Verdict.Refused x →
+    pub refuse-next : (x : Refusal) {found : Verdict} {line : Line} {v next : ℕ} →
+        found ≡ Verdict.Refused x →
         found ≡ verdict-by (m .xs) (m .ys) (m .count) line → line ≡ line-at text at →
-        v ≡ packed (Arrival.Refused x) → next ≡ next-line text at → Reports text m (set answers n v) (n + 1) next
+        v ≡ packed (Arrival.Refused x) → next ≡ next-line text at →
+        Reports text m (set answers n v) (n + 1) next
     refuse-next x is found read v-is next-is =
         rw (v-is, next-is)
         (reports-refused x (sym is ∙ found ∙ ap (verdict-by (m .xs) (m .ys) (m .count)) read))
 
     pub reports-accepted : (p : Point) →
         Verdict.Accepted p ≡ verdict-by (m .xs) (m .ys) (m .count) (line-at text at) →
-        Reports text (arrive m p .map) (set answers n (packed (arrive m p .arrival))) (n + 1) (next-line text at)
+        Reports text (arrive m p .map) (set answers n (packed (arrive m p .arrival))) (n + 1)
+        (next-line text at)
     reports-accepted p e =
         let a = line-accepted (r .is-sound) (line-at text at) p e in
         reports-more (arrive m p) (a .0) (arrive-packable (a .1)) (arrive-sound (a .1))
 
   -- ---- the end
 
-  pub reports-end : at-end text at ≡ true → answer-lines answers n ++ closing m ≡ arrivals empty-map 0 (lines text)
-  reports-end e = ap (λ (l : List ℕ). answer-lines answers n ++ l) (sym (report-ended m n text at e)) ∙ r .together
+  pub reports-end : at-end text at ≡ true →
+      answer-lines answers n ++ closing m ≡ arrivals empty-map 0 (lines text)
+  reports-end e =
+      ap (λ (l : List ℕ). answer-lines answers n ++ l) (sym (report-ended m n text at e))
+      ∙ r .together
 
   -- ---- where the refusals stop
 
   module _ {from : ℕ} (further : from ≤ at) where
     pub stops-before : {p : Point} {found : Verdict} {line : Line} → at-end text at ≡ false →
-        found ≡ Verdict.Accepted p → found ≡ verdict-by (m .xs) (m .ys) (m .count) line → line ≡ line-at text at →
+        found ≡ Verdict.Accepted p → found ≡ verdict-by (m .xs) (m .ys) (m .count) line →
+        line ≡ line-at text at →
         Stopped text m answers from (record { at = at; line = n; ended = false; p = p })
     stops-before there is found read =
         record {
@@ -163,7 +177,8 @@ module _ {text answers : List ℕ} {m : Map} {n at : ℕ} (r : Reports text m an
 
 -- ---- one accepted line after another
 
-module _ {text answers : List ℕ} {m : Map} {s : Stop} {from : ℕ} (stopped : Stopped text m answers from s)
+module _ {text answers : List ℕ} {m : Map} {s : Stop} {from : ℕ}
+    (stopped : Stopped text m answers from s)
     (more : s .ended ≡ false) where
   pub stop-free : s .line < text-limit
   stop-free = place-free (stopped .reports) (stopped .goes-on more)
@@ -173,16 +188,19 @@ module _ {text answers : List ℕ} {m : Map} {s : Stop} {from : ℕ} (stopped : 
 
   pub stop-accepted : Accepted m (s .p)
   stop-accepted =
-      line-accepted (stopped .reports .is-sound) (line-at text (s .at)) (s .p) (stopped .accepted more) .1
+      line-accepted (stopped .reports .is-sound) (line-at text (s .at)) (s .p)
+      (stopped .accepted more) .1
 
   -- as the code has it
   pub accept-next : {o : Offered} {v next : ℕ} → o ≡ arrive m (s .p) → v ≡ packed (o .arrival) →
-      next ≡ next-line text (s .at) → Reports text (o .map) (set answers (s .line) v) (s .line + 1) next
+      next ≡ next-line text (s .at) →
+      Reports text (o .map) (set answers (s .line) v) (s .line + 1) next
   accept-next o-is v-is next-is =
       rw (v-is, next-is, o-is)
       (reports-accepted (stopped .reports) (stopped .goes-on more) (s .p) (stopped .accepted more))
 
-pub stopped-onwards : {text answers : List ℕ} {m : Map} {s : Stop} {from : ℕ} → Stopped text m answers from s →
+pub stopped-onwards : {text answers : List ℕ} {m : Map} {s : Stop} {from : ℕ} →
+    Stopped text m answers from s →
     Stopped text m answers 0 s
 stopped-onwards t =
     record {
@@ -194,7 +212,8 @@ stopped-onwards t =
     }
 
 -- all lines are decided
-pub surveys : {text answers : List ℕ} {m : Map} {s : Stop} {from : ℕ} → Stopped text m answers from s →
+pub surveys : {text answers : List ℕ} {m : Map} {s : Stop} {from : ℕ} →
+    Stopped text m answers from s →
     s .ended ≡ true → Surveys text answers (record { map = m; lines = s .line })
 surveys stopped e =
     let r = stopped .reports in

@@ -1,10 +1,10 @@
--- The report's map is that of the list of offers that its lines make, and its arrivals are those of the
--- history, in the order of this page: one line more; all lines; the report. So demand 3 speaks of every
--- report. Assumes nothing.
+-- The report's map is that of the list of offers that its lines make, and its arrivals are those of
+-- the history, in the order of this page: one line more; all lines; the report. So demand 3 speaks
+-- of every report. Assumes nothing.
 use mathlib.Core.Path.{_≡_, refl, sym, ap, _∙_}
 use mathlib.Core.Bool.{Bool, true, false, cond}
 use mathlib.Core.List.{List, [], _∷_, _++_, map, append-assoc, append-nil, map-append}
-use Prim.Native.Nat.{ℕ, suc, _≤_}
+use Prim.Native.Nat.{ℕ, suc}
 use borrow.Author.Tests.{le-ltb}
 use lib.ListN.{length}
 use Rattle.model.specs.declared.Refusal.{Refusal}
@@ -41,10 +41,13 @@ one-arrival r p later = go (is-accepted (offer (r .map) p .arrival))
 
     go : (b : Bool) →
         arrivals-of (cond b (r .history ++ entry ∷ []) (r .history)) ++ accepted-in later
-        ≡ arrivals-of (r .history) ++ cond b (offer (r .map) p .arrival ∷ accepted-in later) (accepted-in later)
+        ≡ arrivals-of (r .history)
+        ++ cond b (offer (r .map) p .arrival ∷ accepted-in later) (accepted-in later)
     go true =
-        ap (λ (l : List Arrival). l ++ accepted-in later) (map-append (λ (e : Entry). e .arrival) (r .history) (entry ∷ []))
-        ∙ append-assoc (arrivals-of (r .history)) (offer (r .map) p .arrival ∷ []) (accepted-in later)
+        ap (λ (l : List Arrival). l ++ accepted-in later)
+        (map-append (λ (e : Entry). e .arrival) (r .history) (entry ∷ []))
+        ∙ append-assoc (arrivals-of (r .history)) (offer (r .map) p .arrival ∷ [])
+        (accepted-in later)
     go false = refl
 
 -- ---- all lines
@@ -52,11 +55,14 @@ one-arrival r p later = go (is-accepted (offer (r .map) p .arrival))
 follows : (r : Run) (ls : List (List ℕ)) →
     Follows r (map-after (r .map) ls) (answers-on (r .map) ls) (run-from r (points-named ls))
 unfolding run-from extended points-named map-after answers-on accepted-in is-accepted offer-line
-follows r [] = record { same-map = refl; same-arrivals = sym (append-nil (arrivals-of (r .history))) }
+follows r [] =
+    record { same-map = refl; same-arrivals = sym (append-nil (arrivals-of (r .history))) }
 follows r (l ∷ ls) = go (line-read l) (λ q. follows q ls)
   where
     go : (line : Line) →
-        ((q : Run) → Follows q (map-after (q .map) ls) (answers-on (q .map) ls) (run-from q (points-named ls))) →
+        ((q : Run) →
+        Follows q (map-after (q .map) ls) (answers-on (q .map) ls)
+        (run-from q (points-named ls))) →
         Follows r (map-after (offer-line (r .map) line .map) ls)
         (offer-line (r .map) line .arrival ∷ answers-on (offer-line (r .map) line .map) ls)
         (run-from r (named line (points-named ls)))
@@ -64,14 +70,16 @@ follows r (l ∷ ls) = go (line-read l) (λ q. follows q ls)
         let f = rest (extended r p) in
         record {
           same-map = f .same-map;
-          same-arrivals = f .same-arrivals ∙ one-arrival r p (answers-on (offer (r .map) p .map) ls);
+          same-arrivals =
+              f .same-arrivals ∙ one-arrival r p (answers-on (offer (r .map) p .map) ls);
         }
     go (Line.Refused q) rest =
         let f = rest r in
         record { same-map = f .same-map; same-arrivals = f .same-arrivals }
 
 from-start : (ls : List (List ℕ)) →
-    Follows (record { map = empty-map; history = [] }) (map-after empty-map ls) (answers-on empty-map ls)
+    Follows (record { map = empty-map; history = [] }) (map-after empty-map ls)
+    (answers-on empty-map ls)
     (run (points-named ls))
 unfolding run
 from-start ls = follows (record { map = empty-map; history = [] }) ls
@@ -93,11 +101,13 @@ reports-history text =
     let f = from-start (lines text) in
     record {
       is-report = λ short.
-          ap (λ (b : Bool). header ++ cond b (printed (refused Refusal.LongText)) (arrivals empty-map 0 (lines text)))
+          ap (λ (b : Bool). header
+          ++ cond b (printed (refused Refusal.LongText)) (arrivals empty-map 0 (lines text)))
           (le-ltb text-limit (length text) short)
           ∙ ap (λ (s : List ℕ). header ++ s)
           (arrivals-numbered empty-map 0 (lines text)
-          ∙ ap (λ (m : Map). numbered 0 (answers-on empty-map (lines text)) ++ closing m) (sym (f .same-map)));
+          ∙ ap (λ (m : Map). numbered 0 (answers-on empty-map (lines text)) ++ closing m)
+          (sym (f .same-map)));
       same-arrivals = sym (f .same-arrivals);
       balanced = always-balanced (points-named (lines text));
     }

@@ -1,11 +1,9 @@
 -- The answer of a line as one number, in the order of this page: how large it is; it is read back.
 -- Assumes nothing.
 use mathlib.Core.Path.{_≡_, refl}
-use mathlib.Core.Bool.{true, false, cond}
-use Prim.Native.Nat.{ℕ, _+_, _-_, _*_, _/_, _%_, _^_, _≤_, _<_}
+use Prim.Native.Nat.{ℕ, _+_, _-_, _*_, _/_, _%_, _≤_}
 use native.Mathlib.Omega.{arith}
 use borrow.Author.Tests.{ne-eqb, le-ltb}
-use lib.Dec.{ltb, eqb}
 use Rattle.model.specs.declared.Refusal.{Refusal}
 use Rattle.model.specs.declared.Arrival.{Arrival}
 use Rattle.model.specs.Refusals.{number}
@@ -59,14 +57,27 @@ module _ {l r v : ℕ} (s : SmallValues l r v) where
   past : (n : ℕ) → 14 ≤ n → unpacked n ≡ outside-of (n - 14)
   unfolding unpacked
   past n h =
-      rw (le-ltb n 11 (omega arith), ne-eqb n 11 (λ e. omega arith), ne-eqb n 12 (λ e. omega arith), ne-eqb n 13 (λ e. omega arith))
+      rw (
+        le-ltb n 11 (omega arith),
+        ne-eqb n 11 (λ e. omega arith),
+        ne-eqb n 12 (λ e. omega arith),
+        ne-eqb n 13 (λ e. omega arith),
+      )
 
   outside-back : unpacked (14 + l + point-limit * (r + point-limit * v)) ≡ Arrival.Outside l r v
   outside-back =
       let e : 14 + l + point-limit * (r + point-limit * v) - 14 ≡ value = omega arith in
-      rw (past (14 + l + point-limit * (r + point-limit * v)) (omega arith), e, rest-back, left-back, right-back, visible-back)
+      rw (
+        past (14 + l + point-limit * (r + point-limit * v)) (omega arith),
+        e,
+        rest-back,
+        left-back,
+        right-back,
+        visible-back,
+      )
 
-pub small-values : {a : Arrival} {l r v : ℕ} → a ≡ Arrival.Outside l r v → Packable a → SmallValues l r v
+pub small-values : {a : Arrival} {l r v : ℕ} → a ≡ Arrival.Outside l r v → Packable a →
+    SmallValues l r v
 small-values e first = absurd (let z : _≡_ {A = ℕ} 0 1 = cc in omega arith)
 small-values e second = absurd (let z : _≡_ {A = ℕ} 0 1 = cc in omega arith)
 small-values e inside = absurd (let z : _≡_ {A = ℕ} 0 1 = cc in omega arith)

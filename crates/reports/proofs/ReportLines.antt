@@ -1,10 +1,10 @@
--- The printed lines of a report, in the order of this page: each by its position; how long one is at most;
--- those from a position on, and one more; two pieces are one; all of them are the report.
+-- The printed lines of a report, in the order of this page: each by its position; how long one is
+-- at most; those from a position on, and one more; two pieces are one; all of them are the report.
 -- Document 01, "The text program". Assumes nothing.
 use mathlib.Core.Path.{_≡_, refl, sym, ap, _∙_}
 use mathlib.Core.Logic.{_≢_}
 use mathlib.Core.Bool.{Bool, true, false, cond}
-use mathlib.Core.List.{List, [], _∷_, _++_, flatten, append-assoc, append-nil}
+use mathlib.Core.List.{List, [], _++_, flatten, append-assoc, append-nil}
 use Prim.Native.Nat.{ℕ, zero, suc, _+_, _-_, _*_, _≤_, _<_}
 use native.Mathlib.Nat.{add-zero, add-suc, add-assoc}
 use native.Mathlib.Omega.{arith}
@@ -17,7 +17,7 @@ use Rattle.model.specs.Spelling.{bytes}
 use Rattle.model.specs.Maps.{point-limit}
 use Rattle.model.specs.Answers.{refused}
 use Rattle.model.specs.Report.{text-limit, printed}
-use Rattle.survey.specs.Printing.{answer-line, arrival-line, values-spaced}
+use Rattle.survey.specs.Printing.{answer-line, values-spaced}
 use Rattle.survey.specs.Writing.{Room, Wrote}
 use Rattle.survey.proofs.Values.{spaced-length}
 use Rattle.survey.proofs.Overwriting.{wrote-none, wrote-as, wrote-then, wrote-length}
@@ -41,12 +41,14 @@ module _ (answers corners : List ℕ) (ends : Ends) where
     header-is e = rw (eq-eqb j 0 e)
 
     module _ (later : j ≢ 0) where
-      pub long-is : ends .long ≡ true → printed (refused Refusal.LongText) ≡ report-line answers corners ends j
+      pub long-is : ends .long ≡ true →
+          printed (refused Refusal.LongText) ≡ report-line answers corners ends j
       unfolding report-line
       long-is e = rw (ne-eqb j 0 later, e)
 
       module _ (short : ends .long ≡ false) where
-        pub answer-is : j - 1 < ends .lines → answer-at answers (j - 1) ≡ report-line answers corners ends j
+        pub answer-is : j - 1 < ends .lines →
+            answer-at answers (j - 1) ≡ report-line answers corners ends j
         unfolding report-line
         answer-is h = rw (ne-eqb j 0 later, short, lt-ltb (j - 1) (ends .lines) h)
 
@@ -55,13 +57,24 @@ module _ (answers corners : List ℕ) (ends : Ends) where
               answer-line (bytes "corners") corners ≡ report-line answers corners ends j
           unfolding report-line
           corners-is e =
-              rw (ne-eqb j 0 later, short, le-ltb (j - 1) (ends .lines) past, eq-eqb (j - 1) (ends .lines) e)
+              rw (
+                ne-eqb j 0 later,
+                short,
+                le-ltb (j - 1) (ends .lines) past,
+                eq-eqb (j - 1) (ends .lines) e,
+              )
 
           pub counts-is : j - 1 ≢ ends .lines →
-              answer-line (bytes "counts") (counts-values (ends .counts)) ≡ report-line answers corners ends j
+              answer-line (bytes "counts") (counts-values (ends .counts))
+              ≡ report-line answers corners ends j
           unfolding report-line
           counts-is n =
-              rw (ne-eqb j 0 later, short, le-ltb (j - 1) (ends .lines) past, ne-eqb (j - 1) (ends .lines) n)
+              rw (
+                ne-eqb j 0 later,
+                short,
+                le-ltb (j - 1) (ends .lines) past,
+                ne-eqb (j - 1) (ends .lines) n,
+              )
 
   -- ---- how long a line is
 
@@ -75,7 +88,8 @@ module _ (answers corners : List ℕ) (ends : Ends) where
   unfolding bytes
   counts-length r e = omega (arith, line-length (bytes "counts") (counts-values (ends .counts)))
 
-  corners-most : length corners ≤ point-limit → length (answer-line (bytes "corners") corners) ≤ line-most
+  corners-most : length corners ≤ point-limit →
+      length (answer-line (bytes "corners") corners) ≤ line-most
   unfolding bytes
   corners-most few = omega (arith, line-length (bytes "corners") corners, spaced-length corners)
 
@@ -88,9 +102,11 @@ module _ (answers corners : List ℕ) (ends : Ends) where
         spaced-length (counts-values (ends .counts)),
       )
 
-  pub report-line-most : length corners ≤ point-limit → (j : ℕ) → length (report-line answers corners ends j) ≤ line-most
+  pub report-line-most : length corners ≤ point-limit → (j : ℕ) →
+      length (report-line answers corners ends j) ≤ line-most
   unfolding report-line bytes
-  report-line-most few j = go (eqb j 0) (ends .long) (ltb (j - 1) (ends .lines)) (eqb (j - 1) (ends .lines))
+  report-line-most few j =
+      go (eqb j 0) (ends .long) (ltb (j - 1) (ends .lines)) (eqb (j - 1) (ends .lines))
     where
       go : (b₀ b₁ b₂ b₃ : Bool) →
           length (cond b₀ header (cond b₁ (printed (refused Refusal.LongText))
@@ -98,7 +114,8 @@ module _ (answers corners : List ℕ) (ends : Ends) where
           (answer-line (bytes "counts") (counts-values (ends .counts))))))) ≤ line-most
       go true b₁ b₂ b₃ = omega arith
       go false true b₂ b₃ = omega (arith, refused-most Refusal.LongText)
-      go false false true b₃ = omega (arith, arrival-line-most (j - 1) (unpacked (getD answers (j - 1) 0)))
+      go false false true b₃ =
+          omega (arith, arrival-line-most (j - 1) (unpacked (getD answers (j - 1) 0)))
       go false false false true = corners-most few
       go false false false false = counts-most
 
@@ -121,7 +138,8 @@ module _ (answers corners : List ℕ) (ends : Ends) where
       omega (
         arith,
         ap length (lines-more 0 k),
-        length-append (lines-from answers corners ends 0 k) (report-line answers corners ends (0 + k)),
+        length-append (lines-from answers corners ends 0 k)
+            (report-line answers corners ends (0 + k)),
         lines-most few k,
         report-line-most few (0 + k),
       )
@@ -131,11 +149,13 @@ module _ (answers corners : List ℕ) (ends : Ends) where
       lines-from answers corners ends i j ++ lines-from answers corners ends (i + j) k
       ≡ lines-from answers corners ends i (j + k)
   lines-joined i j zero =
-      ap (λ (l : List ℕ). lines-from answers corners ends i j ++ l) (lines-none (i + j)) ∙ append-nil _
+      ap (λ (l : List ℕ). lines-from answers corners ends i j ++ l) (lines-none (i + j))
+      ∙ append-nil _
       ∙ ap (lines-from answers corners ends i) (sym (add-zero j))
   lines-joined i j (suc k) =
       ap (λ (l : List ℕ). lines-from answers corners ends i j ++ l) (lines-more (i + j) k)
-      ∙ sym (append-assoc (lines-from answers corners ends i j) (lines-from answers corners ends (i + j) k) _)
+      ∙ sym (append-assoc (lines-from answers corners ends i j)
+      (lines-from answers corners ends (i + j) k) _)
       ∙ (λ t. lines-joined i j k t ++ report-line answers corners ends (add-assoc i j k t))
       ∙ sym (lines-more i (j + k))
       ∙ ap (lines-from answers corners ends i) (sym (add-suc j k))
@@ -143,7 +163,8 @@ module _ (answers corners : List ℕ) (ends : Ends) where
   -- ---- the whole report
 
   module _ (short : ends .long ≡ false) where
-    answer-next : (k : ℕ) → k < ends .lines → answer-at answers k ≡ report-line answers corners ends (0 + suc k)
+    answer-next : (k : ℕ) → k < ends .lines →
+        answer-at answers k ≡ report-line answers corners ends (0 + suc k)
     answer-next k h =
         let e : suc k - 1 ≡ k = omega arith in
         let i : suc k ≡ 0 + suc k = omega arith in
@@ -155,7 +176,8 @@ module _ (answers corners : List ℕ) (ends : Ends) where
     count-short = ap (λ (b : Bool). cond b 2 (ends .lines + 3)) short ∙ omega arith
 
     -- the first line and the answers before line k
-    lines-to : (k : ℕ) → k ≤ ends .lines → lines-from answers corners ends 0 (suc k) ≡ header ++ answer-lines answers k
+    lines-to : (k : ℕ) → k ≤ ends .lines →
+        lines-from answers corners ends 0 (suc k) ≡ header ++ answer-lines answers k
     unfolding answer-lines flatten table table-onto
     lines-to zero h =
         lines-more 0 0 ∙ ap (λ (l : List ℕ). l ++ report-line answers corners ends 0) (lines-none 0)
@@ -169,7 +191,8 @@ module _ (answers corners : List ℕ) (ends : Ends) where
     pub report-short :
         lines-from answers corners ends 0 (line-count ends)
         ≡ header ++ (answer-lines answers (ends .lines) ++
-        (answer-line (bytes "corners") corners ++ answer-line (bytes "counts") (counts-values (ends .counts))))
+        (answer-line (bytes "corners") corners
+        ++ answer-line (bytes "counts") (counts-values (ends .counts))))
     report-short =
         let n = ends .lines in
         ap (lines-from answers corners ends 0) count-short
@@ -177,7 +200,8 @@ module _ (answers corners : List ℕ) (ends : Ends) where
         ∙ (λ t. (lines-more 0 (suc n)
         ∙ (λ u. lines-to n (omega arith) u
         ++ sym (corners-is (0 + suc n) (λ z. omega arith) short (omega arith) (omega arith)) u)) t
-        ++ sym (counts-is (0 + suc (suc n)) (λ z. omega arith) short (omega arith) (λ z. omega arith)) t)
+        ++ sym (counts-is (0 + suc (suc n)) (λ z. omega arith) short (omega arith)
+        (λ z. omega arith)) t)
         ∙ append-assoc (header ++ answer-lines answers n) (answer-line (bytes "corners") corners) _
         ∙ append-assoc header (answer-lines answers n) _
 
@@ -186,11 +210,13 @@ module _ (answers corners : List ℕ) (ends : Ends) where
   count-long long = ap (λ (b : Bool). cond b 2 (ends .lines + 3)) long
 
   pub report-long : ends .long ≡ true →
-      lines-from answers corners ends 0 (line-count ends) ≡ header ++ printed (refused Refusal.LongText)
+      lines-from answers corners ends 0 (line-count ends)
+      ≡ header ++ printed (refused Refusal.LongText)
   report-long long =
       ap (lines-from answers corners ends 0) (count-long long)
       ∙ lines-more 0 1
-      ∙ (λ t. (lines-more 0 0 ∙ ap (λ (l : List ℕ). l ++ report-line answers corners ends 0) (lines-none 0)
+      ∙ (λ t. (lines-more 0 0
+      ∙ ap (λ (l : List ℕ). l ++ report-line answers corners ends 0) (lines-none 0)
       ∙ sym (header-is 0 refl)) t
       ++ sym (long-is (0 + 1) (λ z. omega arith) long) t)
 
@@ -211,7 +237,12 @@ pub record Totalled (answers corners : List ℕ) (ends : Ends) (total j : ℕ) :
 
 module _ (answers corners : List ℕ) (ends : Ends) where
   pub none-totalled : Totalled answers corners ends 0 0
-  none-totalled = record { is-length = sym (ap length (lines-none answers corners ends 0)); in-order = omega arith }
+  none-totalled =
+      record {
+        is-length = sym (ap length (lines-none answers corners ends 0));
+        in-order =
+            omega arith;
+      }
 
   module _ {total j : ℕ} (t : Totalled answers corners ends total j) (h : j < line-count ends)
       (r : ℕ) (e : r ≡ length (report-line answers corners ends j)) where
@@ -225,14 +256,16 @@ module _ (answers corners : List ℕ) (ends : Ends) where
                 arith,
                 ap (λ (k : ℕ). length (lines-from answers corners ends 0 k)) s,
                 ap length (lines-more answers corners ends 0 j),
-                length-append (lines-from answers corners ends 0 j) (report-line answers corners ends (0 + j)),
+                length-append (lines-from answers corners ends 0 j)
+                    (report-line answers corners ends (0 + j)),
                 ap (λ (k : ℕ). length (report-line answers corners ends k)) i,
                 t .is-length,
               );
           in-order = omega arith;
         }
 
-    pub total-most : length corners ≤ point-limit → Printable ends → total + r ≤ line-most * (text-limit + 3)
+    pub total-most : length corners ≤ point-limit → Printable ends →
+        total + r ≤ line-most * (text-limit + 3)
     total-most few p =
         omega (
           arith,
@@ -250,7 +283,8 @@ totalled-all {answers} {corners} {ends} {j = j} t c h =
 
 -- ---- the loop that writes them
 
-pub record Putting (answers corners : List ℕ) (ends : Ends) (from : ℕ) (lent now : List ℕ) (next end : ℕ) : Type 0 where
+pub record Putting (answers corners : List ℕ) (ends : Ends) (from : ℕ) (lent now : List ℕ)
+    (next end : ℕ) : Type 0 where
   pub wrote : Wrote lent 0 (lines-from answers corners ends from (next - from)) now end
   pub further : from ≤ next
   pub inside : end ≤ length lent
@@ -263,7 +297,8 @@ module _ (answers corners : List ℕ) (ends : Ends) (from : ℕ) (lent : List �
       let e : from - from ≡ 0 = omega arith in
       record {
         wrote =
-            wrote-as (ap (lines-from answers corners ends from) e ∙ lines-none answers corners ends from)
+            wrote-as
+            (ap (lines-from answers corners ends from) e ∙ lines-none answers corners ends from)
             (wrote-none lent 0 (omega arith));
         further = omega arith;
         inside = omega arith;
@@ -271,7 +306,8 @@ module _ (answers corners : List ℕ) (ends : Ends) (from : ℕ) (lent : List �
         whole = λ h. h;
       }
 
-  module _ {now : List ℕ} {next end : ℕ} (p : Putting answers corners ends from lent now next end) where
+  module _ {now : List ℕ} {next end : ℕ}
+      (p : Putting answers corners ends from lent now next end) where
     module _ (r : ℕ) (e : r ≡ length (report-line answers corners ends next)) where
       -- the line does not fit
       pub put-full : length now - end < r →
@@ -290,20 +326,26 @@ module _ (answers corners : List ℕ) (ends : Ends) (from : ℕ) (lent : List �
         put-room = record { room = omega (arith, p .long, p .inside) }
 
         one-more : lines-from answers corners ends from (next + 1 - from)
-            ≡ lines-from answers corners ends from (next - from) ++ report-line answers corners ends next
+            ≡ lines-from answers corners ends from (next - from)
+            ++ report-line answers corners ends next
         one-more =
             let s : next + 1 - from ≡ suc (next - from) = omega (arith, p .further) in
             let i : from + (next - from) ≡ next = omega (arith, p .further) in
-            ap (lines-from answers corners ends from) s ∙ lines-more answers corners ends from (next - from)
-            ∙ ap (λ (k : ℕ). lines-from answers corners ends from (next - from) ++ report-line answers corners ends k) i
+            ap (lines-from answers corners ends from) s
+            ∙ lines-more answers corners ends from (next - from)
+            ∙ ap (λ (k : ℕ). lines-from answers corners ends from (next - from)
+            ++ report-line answers corners ends k) i
 
-        room-both : Room lent 0 (lines-from answers corners ends from (next - from) ++ report-line answers corners ends next)
+        room-both : Room lent 0
+            (lines-from answers corners ends from (next - from)
+            ++ report-line answers corners ends next)
         room-both =
             record {
               room =
                   omega (
                     arith,
-                    length-append (lines-from answers corners ends from (next - from)) (report-line answers corners ends next),
+                    length-append (lines-from answers corners ends from (next - from))
+                        (report-line answers corners ends next),
                     p .wrote .ends,
                     p .long,
                     p .inside,
@@ -324,7 +366,8 @@ module _ (answers corners : List ℕ) (ends : Ends) (from : ℕ) (lent : List �
             }
 
     -- no line is left
-    pub put-all : line-count ends ≤ next → PutLines answers corners ends from lent now (record { next = next; length = end })
+    pub put-all : line-count ends ≤ next →
+        PutLines answers corners ends from lent now (record { next = next; length = end })
     put-all h =
         record {
           wrote = p .wrote;

@@ -1,6 +1,6 @@
--- What becomes of a line, as a sound map's coordinates have it, is what the definitions offer, in the
--- order of this page: a refused line; an accepted one, and what its arrival reports; the code's way to it.
--- Assumes nothing.
+-- What becomes of a line, as a sound map's coordinates have it, is what the definitions offer, in
+-- the order of this page: a refused line; an accepted one, and what its arrival reports; the code's
+-- way to it. Assumes nothing.
 use mathlib.Core.Path.{_≡_, ap, subst, _∙_}
 use mathlib.Core.List.{List}
 use Prim.Native.Nat.{ℕ, _≤_}
@@ -27,19 +27,22 @@ use Rattle.reports.specs.Verdicts.{verdict-on, verdict-by}
 use Rattle.reports.specs.Packing as packing
 use Rattle.reports.specs.Packing.{Packable}
 
-outcome-refused : (p : Point) (r : Refusal) (o : Outcome) → Verdict.Refused r ≡ verdict-on p o → Outcome.Refused r ≡ o
+outcome-refused : (p : Point) (r : Refusal) (o : Outcome) → Verdict.Refused r ≡ verdict-on p o →
+    Outcome.Refused r ≡ o
 unfolding verdict-on
 outcome-refused p r Outcome.Served e = absurd (let z : _≡_ {A = ℕ} 0 1 = cc in omega arith)
 outcome-refused p r (Outcome.Refused q) e = cc
 
-outcome-served : (p q : Point) (o : Outcome) → Verdict.Accepted q ≡ verdict-on p o → (p ≡ q) × (Outcome.Served ≡ o)
+outcome-served : (p q : Point) (o : Outcome) → Verdict.Accepted q ≡ verdict-on p o →
+    (p ≡ q) × (Outcome.Served ≡ o)
 unfolding verdict-on
 outcome-served p q Outcome.Served e = (cc, cc)
 outcome-served p q (Outcome.Refused r) e = absurd (let z : _≡_ {A = ℕ} 0 1 = cc in omega arith)
 
 module _ {m : Map} (s : Sound m) where
   pub line-refused : (line : Line) (r : Refusal) →
-      Verdict.Refused r ≡ verdict-by (m .xs) (m .ys) (m .count) line → offer-line m line ≡ refusing m r
+      Verdict.Refused r ≡ verdict-by (m .xs) (m .ys) (m .count) line →
+      offer-line m line ≡ refusing m r
   unfolding verdict-by offer-line
   line-refused (Line.Named p) r e = admission-refused s p r (outcome-refused p r _ e)
   line-refused (Line.Refused q) r e = cc
@@ -60,7 +63,8 @@ module _ {m : Map} (s : Sound m) where
 pub arrive-sound : {m : Map} {p : Point} → Accepted m p → Sound (arrive m p .map)
 arrive-sound {m} {p} a = arrival-sound m p a (arrive m p) (arrive-arrives m p)
 
-packable-by : {m : Map} {p : Point} → Accepted m p → (o : Offered) → Arrives m p o → Packable (o .arrival)
+packable-by : {m : Map} {p : Point} → Accepted m p → (o : Offered) → Arrives m p o →
+    Packable (o .arrival)
 packable-by a o (first e) = packing.first
 packable-by a o (second e) = packing.second
 packable-by a o (inside two e) = packing.inside
@@ -79,15 +83,18 @@ arrive-packable {m} {p} a = packable-by a (arrive m p) (arrive-arrives m p)
 -- ---- what the code finds
 
 module _ (xs ys : List ℤ) (count : ℕ) (line : Line) where
-  module _ {p : Point} {o : Outcome} (named : line ≡ Line.Named p) (asked : o ≡ admission-by xs ys count p) where
+  module _ {p : Point} {o : Outcome} (named : line ≡ Line.Named p)
+      (ruled : o ≡ admission-by xs ys count p) where
     pub found-accepted : o ≡ Outcome.Served → Verdict.Accepted p ≡ verdict-by xs ys count line
     unfolding verdict-by verdict-on
-    found-accepted e = rw (named, ← asked, e)
+    found-accepted e = rw (named, ← ruled, e)
 
-    pub found-refused : {r : Refusal} → o ≡ Outcome.Refused r → Verdict.Refused r ≡ verdict-by xs ys count line
+    pub found-refused : {r : Refusal} → o ≡ Outcome.Refused r →
+        Verdict.Refused r ≡ verdict-by xs ys count line
     unfolding verdict-by verdict-on
-    found-refused e = rw (named, ← asked, e)
+    found-refused e = rw (named, ← ruled, e)
 
-  pub found-malformed : {r : Refusal} → line ≡ Line.Refused r → Verdict.Refused r ≡ verdict-by xs ys count line
+  pub found-malformed : {r : Refusal} → line ≡ Line.Refused r →
+      Verdict.Refused r ≡ verdict-by xs ys count line
   unfolding verdict-by
   found-malformed e = rw e

@@ -1,21 +1,20 @@
--- What is decided is the report, in the order of this page: of a text that is too long; of any other; a
--- list with room for the report gets all of it; a piece goes further until the last; pieces put together,
--- from position 0 to the end, are the report.
--- Document 01, "The text program". Assumes nothing.
+-- What is decided is the report, in the order of this page: of a text that is too long; of any
+-- other; a list with room for the report gets all of it; a piece goes further until the last;
+-- pieces put together, from position 0 to the end, are the report. Document 01, "The text program".
+-- Assumes nothing.
 use mathlib.Core.Path.{_≡_, refl, sym, ap, _∙_}
 use mathlib.Core.Logic.{_≢_, ⊎-elim}
 use mathlib.Core.Bool.{Bool, true, false, cond}
-use mathlib.Core.List.{List, [], _∷_, _++_, append-assoc}
+use mathlib.Core.List.{List, _++_}
 use Prim.Native.Nat.{ℕ, suc, _+_, _-_, _≤_, _<_}
 use native.Mathlib.Omega.{arith}
 use borrow.Author.Tests.{lt-ltb, le-ltb}
-use lib.Dec.{ltb}
 use lib.ListN.{length, take, drop, length-append, length-take}
 use lib.Seq.{take-at}
+use Rattle.finite.specs.Tests.{same-or-not}
 use Rattle.finite.specs.Bounded.{lt-or-ge}
 use Rattle.model.specs.declared.Refusal.{Refusal}
 use Rattle.model.specs.declared.Counts.{Counts}
-use Rattle.model.specs.declared.Written.{Written}
 use Rattle.model.specs.Maps.{point-limit, empty-map}
 use Rattle.model.specs.Answers.{refused}
 use Rattle.model.specs.Reading.{counts}
@@ -31,7 +30,7 @@ use Rattle.reports.specs.declared.Decided.{Decided}
 use Rattle.reports.specs.declared.deciding.Surveyed.{Surveyed}
 use Rattle.reports.specs.declared.printing.Ends.{Ends}
 use Rattle.reports.specs.declared.printing.Piece.{Piece}
-use Rattle.reports.specs.Lines.{header, counts-values, corners-in, report-line, lines-from, line-count, report-of}
+use Rattle.reports.specs.Lines.{header, corners-in, report-line, lines-from, line-count, report-of}
 use Rattle.reports.specs.Printing.{Printable, PutLines}
 use Rattle.reports.specs.Pieces.{WroteLines, line-limit, Pieces, begun, continued}
 use Rattle.reports.specs.Deciding.{Surveys, Fits, Decides}
@@ -39,21 +38,24 @@ use Rattle.reports.proofs.ReportLines.{report-line-most, lines-more, li
 
 -- ---- a text that is too long
 
-pub decides-long : {text : List ℕ} {d : Decided} → text-limit < length text → d .ends .long ≡ true → Fits d → Decides text d
+pub decides-long : {text : List ℕ} {d : Decided} → text-limit < length text → d .ends .long ≡ true →
+    Fits d → Decides text d
 unfolding report report-of
 decides-long {text} {d} h long fits =
     record {
       fits = fits;
       is-report =
           report-long (d .answers) (corners-in d) (d .ends) long
-          ∙ ap (λ (b : Bool). header ++ cond b (printed (refused Refusal.LongText)) (arrivals empty-map 0 (lines text)))
+          ∙ ap (λ (b : Bool). header
+          ++ cond b (printed (refused Refusal.LongText)) (arrivals empty-map 0 (lines text)))
           (sym (lt-ltb text-limit (length text) h));
     }
 
 -- ---- any other text
 
 module _ {text answers : List ℕ} {s : Surveyed} {list : CornerList} {c : Counts}
-    (surveys : Surveys text answers s) (lists : ListsCorners (s .map) list) (counted : c ≡ counts (s .map))
+    (surveys : Surveys text answers s) (lists : ListsCorners (s .map) list)
+    (numbers : c ≡ counts (s .map))
     (short : length text ≤ text-limit) where
   abbrev decided : Decided
   decided =
@@ -78,8 +80,9 @@ module _ {text answers : List ℕ} {s : Surveyed} {list : CornerList} {c : Count
         is-report =
             report-short answers (take (list .count) (list .places)) (decided .ends) refl
             ∙ ap (λ (l : List ℕ). header ++ l)
-            (rw (lists .members, counted, ← closing-lines (s .map)) (surveys .together))
-            ∙ ap (λ (b : Bool). header ++ cond b (printed (refused Refusal.LongText)) (arrivals empty-map 0 (lines text)))
+            (rw (lists .members, numbers, ← closing-lines (s .map)) (surveys .together))
+            ∙ ap (λ (b : Bool). header
+            ++ cond b (printed (refused Refusal.LongText)) (arrivals empty-map 0 (lines text)))
             (sym (le-ltb text-limit (length text) short));
       }
 
@@ -105,10 +108,12 @@ module _ {answers corners : List ℕ} {ends : Ends} {lent after : List ℕ} {r :
         ap (λ (j : ℕ). length (lines-from answers corners ends 0 j)) z,
         ap (λ (j : ℕ). length (report-line answers corners ends j)) i,
         ap length (lines-more answers corners ends 0 (r .next)),
-        length-append (lines-from answers corners ends 0 (r .next)) (report-line answers corners ends (0 + r .next)),
+        length-append (lines-from answers corners ends 0 (r .next))
+            (report-line answers corners ends (0 + r .next)),
         ap (λ (j : ℕ). length (lines-from answers corners ends 0 j)) e,
         ap length (lines-joined answers corners ends 0 (suc (r .next)) k),
-        length-append (lines-from answers corners ends 0 (suc (r .next))) (lines-from answers corners ends (0 + suc (r .next)) k),
+        length-append (lines-from answers corners ends 0 (suc (r .next)))
+            (lines-from answers corners ends (0 + suc (r .next)) k),
       )))
       (λ (h : line-count ends ≤ r .next). omega (arith, p .whole (omega arith)))
       (lt-or-ge (r .next) (line-count ends))
@@ -125,7 +130,8 @@ module _ {answers corners : List ℕ} {ends : Ends} {lent after : List ℕ} {r :
 
 module _ {d : Decided} (f : Fits d) where
   pub listed-length : d .listed ≡ length (corners-in d)
-  listed-length = omega (arith, length-take (d .listed) (d .corners), f .corners-whole, f .corners-fit)
+  listed-length =
+      omega (arith, length-take (d .listed) (d .corners), f .corners-whole, f .corners-fit)
 
   pub corners-few : length (corners-in d) ≤ point-limit
   corners-few = omega (arith, listed-length, f .corners-fit)
@@ -135,7 +141,8 @@ module _ {d : Decided} (f : Fits d) where
 
 -- ---- piece by piece
 
-module _ (d : Decided) {from : ℕ} {lent after : List ℕ} {r : Piece} (p : WroteLines d from lent after r) where
+module _ (d : Decided) {from : ℕ} {lent after : List ℕ} {r : Piece}
+    (p : WroteLines d from lent after r) where
   abbrev piece : ℕ → List ℕ
   piece k = lines-from (d .answers) (corners-in d) (d .ends) from k
 
@@ -174,12 +181,21 @@ module _ (d : Decided) {from : ℕ} {lent after : List ℕ} {r : Piece} (p : Wro
       (λ (l : line-count (d .ends) ≤ r .next). omega (arith, p .whole h))
       (lt-or-ge (r .next) (line-count (d .ends)))
 
+  -- so a list with room for any one line always advances
+  pub piece-advances : Fits d → line-limit ≤ length lent → from < line-count (d .ends) → from < r .next
+  piece-advances f room h =
+      ⊎-elim
+      (λ (e : r .length ≡ 0). omega (arith, piece-last f room (omega arith) e))
+      piece-further
+      (same-or-not (r .length) 0)
+
   -- its bytes
   piece-bytes : take (r .length) after ≡ piece (r .next - from)
   unfolding overwritten
   piece-bytes =
       let e : r .length ≡ length (piece (r .next - from)) = omega (arith, p .wrote .ends) in
-      ap (take (r .length)) (p .wrote .holds) ∙ take-at (piece (r .next - from)) _ (r .length) (sym e)
+      ap (take (r .length)) (p .wrote .holds)
+      ∙ take-at (piece (r .next - from)) _ (r .length) (sym e)
 
 pub pieces-are : {d : Decided} {j : ℕ} {s : List ℕ} → Pieces d j s →
     s ≡ lines-from (d .answers) (corners-in d) (d .ends) 0 j

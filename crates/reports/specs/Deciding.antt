@@ -1,5 +1,5 @@
--- How far a report is decided, in the order of this page: the answers before a line and the lines ahead
--- make up the report; where the refusals stop; all lines; what was decided. Assumes nothing.
+-- How far a report is decided, in the order of this page: the answers before a line and the lines
+-- ahead make up the report; where the refusals stop; all lines; what was decided. Assumes nothing.
 use mathlib.Core.Path.{_≡_}
 use mathlib.Core.Bool.{true, false}
 use mathlib.Core.List.{List, _++_}
@@ -22,13 +22,15 @@ use Rattle.reports.specs.Lines.{answer-lines, report-of}
 pub record Reports (text : List ℕ) (m : Map) (answers : List ℕ) (n at : ℕ) : Type 0 where
   pub is-sound : Sound m
   pub together :
-      answer-lines answers n ++ arrivals m n (lines (drop at text)) ≡ arrivals empty-map 0 (lines text)
+      answer-lines answers n ++ arrivals m n (lines (drop at text))
+      ≡ arrivals empty-map 0 (lines text)
   pub few : n ≤ at
   pub inside : at ≤ length text
   pub short : length text ≤ text-limit
   pub whole : length answers ≡ text-limit
 
--- from place `at` on, the refused lines are decided, up to the end or to a line whose point is accepted
+-- from place `at` on, the refused lines are decided, up to the end or to a line whose point is
+-- accepted
 pub record Stopped (text : List ℕ) (m : Map) (answers : List ℕ) (at : ℕ) (s : Stop) : Type 0 where
   pub reports : Reports text m answers (s .line) (s .at)
   pub further : at ≤ s .at
@@ -47,7 +49,8 @@ pub record Surveys (text answers : List ℕ) (s : Surveyed) : Type 0 where
   pub is-sound : Sound (s .map)
   pub whole : length answers ≡ text-limit
   pub lines-fit : s .lines ≤ text-limit
-  pub together : answer-lines answers (s .lines) ++ closing (s .map) ≡ arrivals empty-map 0 (lines text)
+  pub together : answer-lines answers (s .lines) ++ closing (s .map)
+      ≡ arrivals empty-map 0 (lines text)
 
 -- arrays and numbers within their limits
 pub record Fits (d : Decided) : Type 0 where

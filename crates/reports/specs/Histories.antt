@@ -1,7 +1,7 @@
--- A report and the history of its points, in the order of this page: the points that lines name; the answers
--- of lines offered to a map, and the map after them; the lines that print answers; the accepted answers;
--- what a report is in these words, so that demand 3 speaks of it.
--- Document 01, "The text program" and "The oral part, word by word". Assumes nothing.
+-- A report and the history of its points, in the order of this page: the points that lines name;
+-- the answers of lines offered to a map, and the map after them; the lines that print answers; the
+-- accepted answers; what a report is in these words, so that demand 3 speaks of it. Document 01,
+-- "The text program" and "The oral part, word by word". Assumes nothing.
 use mathlib.Core.Path.{_≡_}
 use mathlib.Core.Bool.{cond}
 use mathlib.Core.List.{List, [], _∷_, _++_, map}
@@ -56,8 +56,8 @@ answers-in text = answers-on empty-map (lines text)
 abbrev pub offers-in : List ℕ → Run
 offers-in text = run (points-named (lines text))
 
--- The report prints the answers of the text's lines and closes with the map after the offers; the accepted
--- answers are the arrivals of the history; and demand 3 holds of it.
+-- The report prints the answers of the text's lines and closes with the map after the offers; the
+-- accepted answers are the arrivals of the history; and demand 3 holds of it.
 pub record ReportsHistory (text : List ℕ) : Type 0 where
   pub is-report : length text ≤ text-limit →
       report text ≡ header ++ (numbered 0 (answers-in text) ++ closing (offers-in text .map))

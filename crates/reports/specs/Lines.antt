@@ -1,8 +1,8 @@
--- The printed lines of a report by their positions, in the order of this page: the lines of the answers;
--- one printed line, of the answers that were decided, the corners and the ends; how many there are; those
--- from a position on; the report.
--- Document 01, "The text program". Position 0 is the first line; a text that is too long has one line
--- more, and any other its arrivals, the corners and the counts. Assumes nothing.
+-- The printed lines of a report by their positions, in the order of this page: the lines of the
+-- answers; one printed line, of the answers that were decided, the corners and the ends; how many
+-- there are; those from a position on; the report. Document 01, "The text program". Position 0 is
+-- the first line; a text that is too long has one line more, and any other its arrivals, the
+-- corners and the counts. Assumes nothing.
 use mathlib.Core.Bool.{cond}
 use mathlib.Core.List.{List, [], _∷_, flatten}
 use Prim.Native.Nat.{ℕ, _+_, _-_}

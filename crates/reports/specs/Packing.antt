@@ -1,6 +1,6 @@
--- The answer of a line as one number, in the order of this page: the answers that have one; the number;
--- the answer of a number. A refusal has its own number of document 01; an outside arrival's number holds
--- left corner, right corner and visible edges. Assumes nothing.
+-- The answer of a line as one number, in the order of this page: the answers that have one; the
+-- number; the answer of a number. A refusal has its own number of document 01; an outside arrival's
+-- number holds left corner, right corner and visible edges. Assumes nothing.
 use mathlib.Core.Bool.{cond}
 use Prim.Native.Nat.{ℕ, _+_, _-_, _*_, _/_, _%_, _≤_, _<_}
 use lib.Dec.{ltb, eqb}
@@ -43,7 +43,8 @@ refusal-of n =
 
 abbrev pub outside-of : ℕ → Arrival
 outside-of n =
-    Arrival.Outside (n % point-limit) (n / point-limit % point-limit) (n / point-limit / point-limit)
+    Arrival.Outside (n % point-limit) (n / point-limit % point-limit)
+    (n / point-limit / point-limit)
 
 unfoldable pub unpacked : ℕ → Arrival
 unpacked n =

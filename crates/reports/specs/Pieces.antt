@@ -1,5 +1,5 @@
--- A report in pieces, in the order of this page: what is written from a position on; how long a list has
--- room for any one line; the bytes of pieces, one after another from position 0 on.
+-- A report in pieces, in the order of this page: what is written from a position on; how long a
+-- list has room for any one line; the bytes of pieces, one after another from position 0 on.
 -- Assumes nothing.
 use mathlib.Core.List.{List, [], _++_}
 use Prim.Native.Nat.{ℕ}
@@ -20,5 +20,6 @@ line-limit = 16_384
 -- pieces that bring from position 0 to a position, and their bytes
 pub data Pieces (d : Decided) : ℕ → List ℕ → Type 0 where
   begun : Pieces d 0 []
-  continued : {from : ℕ} {s lent after : List ℕ} {r : Piece} → Pieces d from s → WroteLines d from lent after r →
+  continued : {from : ℕ} {s lent after : List ℕ} {r : Piece} → Pieces d from s →
+      WroteLines d from lent after r →
       Pieces d (r .next) (s ++ take (r .length) after)

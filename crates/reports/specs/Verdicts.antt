@@ -1,5 +1,5 @@
--- What becomes of a line, by the coordinates of a sound map, in the order of this page: of a point, by
--- what the rules came to; of a line. Assumes nothing.
+-- What becomes of a line, by the coordinates of a sound map, in the order of this page: of a point,
+-- by what the rules came to; of a line. Assumes nothing.
 use mathlib.Core.List.{List}
 use Prim.Native.Nat.{ℕ}
 use lib.IntN.{ℤ}

@@ -1,5 +1,5 @@
-// What becomes of the lines of a text, one after another. A refused line asks the map's coordinates and
-// copies no map; a map moves where it grows.
+// What becomes of the lines of a text, one after another. A refused line asks the map's coordinates
+// and copies no map; a map moves where it grows.
 
 use super::packing::packed;
 use hull::admission::admission;
@@ -28,8 +28,8 @@ pub enum Verdict {
     Refused(Refusal),
 }
 
-// The place of a text and the number of the line there at which the refusals stop: at the end of the
-// text, or before a line that names an accepted point.
+// The place of a text and the number of the line there at which the refusals stop: at the end of
+// the text, or before a line that names an accepted point.
 pub struct Stop {
     pub at: usize,
     pub line: usize,

@@ -23,8 +23,8 @@ ghost use Rattle.reports.specs.Lines.{report-of};
 ghost use Rattle.reports.specs.Deciding.{Decides, Fits};
 ghost use Rattle.reports.specs.Pieces.{WroteLines};
 
-// What is decided of a text: the answers of its lines, each as one number; the corners, which are the
-// first so many of a list; and the ends.
+// What is decided of a text: the answers of its lines, each as one number; the corners, which are
+// the first so many of a list; and the ends.
 pub struct Decided {
     pub answers: [u32; TEXT_LIMIT],
     pub corners: [usize; POINT_LIMIT],
@@ -106,8 +106,8 @@ pub fn write_report(decided: Decided, lent: &mut [u8])
     put_lines(lent, &decided.answers, &corners[..listed], ends, 0);
 }
 
-// Writes the printed lines from a position on, as many whole ones as the lent list holds, and says where
-// to go on. Position 0 is the report's first line.
+// Writes the printed lines from a position on, as many whole ones as the lent list holds, and says
+// where to go on. Position 0 is the report's first line.
 pub fn write_lines(decided: Decided, from: usize, lent: &mut [u8]) -> Piece
     requires { ⌜ Fits decided ⌝ }
     ensures { λ r. ⌜ WroteLines decided from (now (lent .entry)) (now (lent .exit)) r ⌝ }

@@ -1,5 +1,5 @@
-// The printed lines of a report by their positions: how long each is, writing one at a place, and writing
-// as many whole ones as a lent list holds.
+// The printed lines of a report by their positions: how long each is, writing one at a place, and
+// writing as many whole ones as a lent list holds.
 
 use super::packing::unpacked;
 use model::Counts;
@@ -19,7 +19,8 @@ ghost use Rattle.survey.specs.Writing.{Room, Wrote};
 ghost use Rattle.reports.specs.Lines.{line-count, lines-from, report-line};
 ghost use Rattle.reports.specs.Printing.{Printable, PutLines};
 
-// How many lines the text has, whether it is too long to be read, and the counts of the map at its end.
+// How many lines the text has, whether it is too long to be read, and the counts of the map at its
+// end.
 pub struct Ends {
     pub lines: usize,
     pub long: bool,

@@ -1,5 +1,5 @@
--- `outline::print_report` is safe and ends: each piece that has bytes goes further. The measure is how many
--- printed lines are left. Assumes nothing.
+-- `outline::print_report` is safe and ends: each piece that has bytes goes further. The measure is
+-- how many printed lines are left. Assumes nothing.
 use borrow.Author.Needs.{needs}
 use mathlib.Core.Path.{_≡_, sym, _∙_}
 use Prim.Native.Nat.{_-_, _≤_}
@@ -11,7 +11,8 @@ use Rattle.outline.proofs.print_report.Statement.{statement}
 use Rattle.outline.proofs.print_report.Tie as tie
 
 abbrev Inv-loop : tie.InvT-loop
-Inv-loop decided buffer₀ from₀ t6 buffer from = (from ≤ line-count (decided .ends)) × (length buffer ≡ 65536)
+Inv-loop decided buffer₀ from₀ t6 buffer from =
+    (from ≤ line-count (decided .ends)) × (length buffer ≡ 65536)
 
 abbrev μ-loop : tie.MeasureT-loop
 μ-loop decided buffer₀ from₀ t6 buffer from = line-count (decided .ends) - from
@@ -46,7 +47,11 @@ array-share-prefix-buffer c = fits (c .before .before)
 slice-aggregate-write-all : tie.Need-slice-aggregate-write-all Inv-loop μ-loop
 slice-aggregate-write-all c =
     let call = c .before .before .before in
-    omega (arith, fits call, length-take (call .write-lines .result .length) (call .write-lines .last .1 .1 .0))
+    omega (
+      arith,
+      fits call,
+      length-take (call .write-lines .result .length) (call .write-lines .last .1 .1 .0),
+    )
 
 write-all-requires : tie.Need-write-all-requires Inv-loop μ-loop
 write-all-requires c κs = search needs

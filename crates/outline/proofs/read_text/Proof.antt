@@ -1,9 +1,8 @@
--- `outline::read_text` meets its contract. The loop's invariant: so many bytes of the list are filled. The
--- measure is what is left of it. Assumes nothing.
+-- `outline::read_text` meets its contract. The loop's invariant: so many bytes of the list are
+-- filled. The measure is what is left of it. Assumes nothing.
 use borrow.Author.Needs.{needs}
 use mathlib.Core.Path.{_≡_}
 use Prim.Native.Nat.{_-_, _≤_}
-use native.Mathlib.Omega.{arith}
 use lib.ListN.{length}
 use Rattle.outline.proofs.read_text.Statement.{statement}
 use Rattle.outline.proofs.read_text.Tie as tie

@@ -1,5 +1,5 @@
--- `reports::decide` meets its contract: a text that is too long is not read, and any other is decided line
--- by line. Assumes nothing.
+-- `reports::decide` meets its contract: a text that is too long is not read, and any other is
+-- decided line by line. Assumes nothing.
 use borrow.Author.Needs.{needs}
 use mathlib.Core.Path.{refl, sym}
 use native.Mathlib.Omega.{arith}
@@ -33,7 +33,8 @@ returns-2 : tie.Need-returns-2
 returns-2 c =
     let listed = c .before .before in
     let lines = listed .before .before in
-    decides-short (lines .decide-lines .ensures) (listed .corners-of .ensures) (c .counts-of .ensures)
+    decides-short (lines .decide-lines .ensures) (listed .corners-of .ensures)
+    (c .counts-of .ensures)
     (lines .before .before .if1 .left)
 
 pub decide-spec : {M : Type 1} → statement M

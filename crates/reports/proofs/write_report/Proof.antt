@@ -1,4 +1,5 @@
--- `reports::write_report` meets its contract: it lends the answers and the corners. Assumes nothing.
+-- `reports::write_report` meets its contract: it lends the answers and the corners. Assumes
+-- nothing.
 use borrow.Author.Needs.{needs}
 use Rattle.reports.specs.Lines.{report-of}
 use Rattle.reports.proofs.Wholes.{listed-length, corners-few, printable, all-written}

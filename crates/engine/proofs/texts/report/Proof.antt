@@ -1,7 +1,7 @@
--- `engine::texts::report` meets its contract: the text's length is looked at, then the room, and then the
--- report is written. Assumes nothing.
+-- `engine::texts::report` meets its contract: the text's length is looked at, then the room, and
+-- then the report is written. Assumes nothing.
 use borrow.Author.Needs.{needs}
-use mathlib.Core.Path.{_≡_, sym, ap, _∙_}
+use mathlib.Core.Path.{_≡_, ap, _∙_}
 use mathlib.Core.List.{List, _++_}
 use Prim.Native.Nat.{ℕ}
 use native.Mathlib.Omega.{arith}
@@ -19,8 +19,10 @@ use Rattle.engine.proofs.texts.report.Tie as tie
 returns : tie.Need-returns
 returns c =
     let s = c .before .before .before .args in
-    wrote-nothing (report-rules (now (s .text))) (report (now (s .text))) (now (s .lent)) Refusal.LongText
-    (rule-applies Written.Refused _ _ _ (lt-ltb text-limit (length (now (s .text))) (c .if1 .taken)))
+    wrote-nothing (report-rules (now (s .text))) (report (now (s .text)))
+    (now (s .lent)) Refusal.LongText
+    (rule-applies Written.Refused _ _ _
+    (lt-ltb text-limit (length (now (s .text))) (c .if1 .taken)))
 
 decide-requires : tie.Need-decide-requires
 decide-requires c κs = search needs
@@ -30,7 +32,8 @@ length-of-requires c κs = search needs
 
 -- the length that was found is the report's
 found-length : (c : tie.After-length-of) →
-    c .length-of .result ≡ length (report (now (c .before .before .before .before .before .args .text)))
+    c .length-of .result
+    ≡ length (report (now (c .before .before .before .before .before .args .text)))
 found-length c = c .length-of .ensures ∙ ap length (c .before .decide .ensures .is-report)
 
 returns-2 : tie.Need-returns-2
@@ -38,10 +41,13 @@ returns-2 c =
     let size = c .before in
     let test = size .before .before in
     let s = test .before .before .before .args in
-    wrote-nothing (report-rules (now (s .text))) (report (now (s .text))) (now (s .lent)) Refusal.ShortList
-    (rule-passes Written.Refused _ _ _ (le-ltb text-limit (length (now (s .text))) (test .if1 .left))
+    wrote-nothing (report-rules (now (s .text))) (report (now (s .text)))
+    (now (s .lent)) Refusal.ShortList
+    (rule-passes Written.Refused _ _ _
+    (le-ltb text-limit (length (now (s .text))) (test .if1 .left))
     (rule-applies Written.Refused _ _ _
-    (lt-ltb (length (now (s .lent))) (length (report (now (s .text)))) (omega (arith, found-length size, c .if2 .taken)))))
+    (lt-ltb (length (now (s .lent))) (length (report (now (s .text))))
+    (omega (arith, found-length size, c .if2 .taken)))))
 
 write-report-requires : tie.Need-write-report-requires
 write-report-requires c κs = search needs
@@ -57,10 +63,13 @@ returns-3 c =
     let test = size .before .before in
     let s = test .before .before .before .args in
     let is = size .before .decide .ensures .is-report in
-    wrote-result (report-rules (now (s .text))) (report (now (s .text))) (now (s .lent)) _ _ (found-length size)
-    (rule-passes Written.Refused _ _ _ (le-ltb text-limit (length (now (s .text))) (test .if1 .left))
+    wrote-result (report-rules (now (s .text))) (report (now (s .text))) (now (s .lent)) _ _
+    (found-length size)
     (rule-passes Written.Refused _ _ _
-    (le-ltb (length (now (s .lent))) (length (report (now (s .text)))) (omega (arith, found-length size, room .if2 .left)))
+    (le-ltb text-limit (length (now (s .text))) (test .if1 .left))
+    (rule-passes Written.Refused _ _ _
+    (le-ltb (length (now (s .lent))) (length (report (now (s .text))))
+    (omega (arith, found-length size, room .if2 .left)))
     (no-rule Written.Refused _)))
     (call .write-report .ensures ∙ ap (λ (l : List ℕ). l ++ drop (length l) (now (s .lent))) is)
 

@@ -1,7 +1,7 @@
 -- `hull::admission::admission` meets its contract, one rule after another. Assumes nothing.
 use borrow.Author.Needs.{needs}
 use mathlib.Core.Path.{_≡_, sym, ap, _∙_}
-use mathlib.Core.Bool.{true, false, not}
+use mathlib.Core.Bool.{false, not}
 use borrow.Author.Tests.{le-leb, lt-leb, not-false}
 use denote.Ref.{now}
 use lib.Dec.{leb}
@@ -12,7 +12,6 @@ use Rattle.model.specs.Plane.{in-range, same-point}
 use Rattle.model.specs.Maps.{point-limit, point-at}
 use Rattle.model.proofs.Answers.{rule-applies, rule-passes, no-rule}
 use Rattle.hull.specs.Admission.{admission-by}
-use Rattle.hull.specs.Requires.{in-line-among}
 use Rattle.hull.proofs.admission.admission.Statement.{statement}
 use Rattle.hull.proofs.admission.admission.Tie as tie
 

@@ -1,5 +1,5 @@
--- `hull::conditions::is_in_line_among` meets its contract: it looks through the points, and for each
--- through those before it. Assumes nothing.
+-- `hull::conditions::is_in_line_among` meets its contract: it looks through the points, and for
+-- each through those before it. Assumes nothing.
 use borrow.Author.Needs.{needs}
 use mathlib.Core.Path.{ap}
 use mathlib.Core.Bool.{Bool, not}
@@ -28,7 +28,8 @@ in-loop c = c .before
 
 iteration : (c : tie.After-is-in-line-with Inv-loop μ-loop) →
     let s = in-loop c .before .before .args in
-    Iteration (λ k. not (here (now (s .xs)) (now (s .ys)) (s .p) k)) 0 (in-loop c .before .loop .j) (not (c .is-in-line-with .result))
+    Iteration (λ k. not (here (now (s .xs)) (now (s .ys)) (s .p) k)) 0 (in-loop c .before .loop .j)
+    (not (c .is-in-line-with .result))
 iteration c =
     record { passed = in-loop c .before .loop .inv; found = ap not (c .is-in-line-with .ensures) }
 

@@ -1,5 +1,5 @@
--- `reports::deciding::decide_lines` meets its contract. The loop's invariant: the refused lines are decided
--- up to a stop. The measure is what is left of the text. Assumes nothing.
+-- `reports::deciding::decide_lines` meets its contract. The loop's invariant: the refused lines are
+-- decided up to a stop. The measure is what is left of the text. Assumes nothing.
 use borrow.Author.Needs.{needs}
 use mathlib.Core.Path.{_≡_, sym, subst}
 use mathlib.Core.Bool.{false}
@@ -39,7 +39,8 @@ more c = not-true _ (c .if1 .taken)
 
 arrive-requires : tie.Need-arrive-requires Inv-loop μ-loop
 arrive-requires c κs =
-    let test = c .before in accepted-room (stop-accepted (test .before .before .loop .inv) (more test))
+    let test =
+    c .before in accepted-room (stop-accepted (test .before .before .loop .inv) (more test))
 
 packed-requires : tie.Need-packed-requires Inv-loop μ-loop
 packed-requires c κs =
@@ -69,10 +70,11 @@ add-refuse-lines c =
 refuse-lines-requires-2 : tie.Need-refuse-lines-requires-2 Inv-loop μ-loop
 refuse-lines-requires-2 c κs =
     let next = c .before in
-    let kept = next .before in
-    let call = kept .before .before in
+    let stored = next .before in
+    let call = stored .before .before in
     let test = call .before .before in
-    accept-next (test .before .before .loop .inv) (more test) (call .arrive .ensures) (kept .packed .ensures)
+    accept-next (test .before .before .loop .inv) (more test) (call .arrive .ensures)
+    (stored .packed .ensures)
     (next .next-from .ensures)
 
 loop-less : tie.Need-loop-less Inv-loop μ-loop

@@ -1,8 +1,8 @@
--- `reports::deciding::refuse_lines` meets its contract. The loop's invariant: what is decided and what is
--- ahead make up the report. The measure is what is left of the text. Assumes nothing.
+-- `reports::deciding::refuse_lines` meets its contract. The loop's invariant: what is decided and
+-- what is ahead make up the report. The measure is what is left of the text. Assumes nothing.
 use borrow.Author.Needs.{needs}
 use mathlib.Core.Path.{_≡_, sym, _∙_}
-use mathlib.Core.Bool.{true, false}
+use mathlib.Core.Bool.{false}
 use Prim.Native.Nat.{_-_, _≤_}
 use native.Mathlib.Omega.{arith}
 use borrow.Author.Tests.{not-true, not-false}
@@ -38,7 +38,8 @@ in-loop c = c .before .before .before .before .before .before
 
 -- there is a line
 there : (c : tie.Then1 Inv-loop μ-loop) →
-    let l = c .before .before in at-end (now (l .before .before .args .text)) (l .loop .place) ≡ false
+    let l = c .before .before in at-end (now (l .before .before .args .text)) (l .loop .place)
+    ≡ false
 there c = sym (c .before .is-ended .ensures) ∙ not-true _ (c .if1 .taken)
 
 verdict-on-requires : tie.Need-verdict-on-requires Inv-loop μ-loop
@@ -67,18 +68,22 @@ at-test c = in-loop (c .before .before .before .before .before)
 
 mul-answers : tie.Need-mul-answers Inv-loop μ-loop
 mul-answers c =
-    let test = at-test c in omega (arith, place-free (test .before .before .loop .inv .0) (there test))
+    let test =
+    at-test c in omega (arith, place-free (test .before .before .loop .inv .0) (there test))
 
 element-write-answers : tie.Need-element-write-answers Inv-loop μ-loop
 element-write-answers c =
-    let test = at-test c in omega (arith, place-free (test .before .before .loop .inv .0) (there test))
+    let test =
+    at-test c in omega (arith, place-free (test .before .before .loop .inv .0) (there test))
 
 next-from-requires : tie.Need-next-from-requires Inv-loop μ-loop
 next-from-requires c κs = search needs
 
 add-number : tie.Need-add-number Inv-loop μ-loop
 add-number c =
-    let test = at-test (c .before) in omega (arith, place-free (test .before .before .loop .inv .0) (there test))
+    let test =
+    at-test (c .before) in omega
+    (arith, place-free (test .before .before .loop .inv .0) (there test))
 
 loop-less : tie.Need-loop-less Inv-loop μ-loop
 loop-less c =
@@ -89,14 +94,15 @@ loop-less c =
 
 loop-again : tie.Need-loop-again Inv-loop μ-loop
 loop-again c =
-    let kept = c .before in
-    let told = kept .before .before in
+    let stored = c .before in
+    let told = stored .before .before in
     let call = told .before .before in
-    let test = at-test kept in
+    let test = at-test stored in
     let l = test .before .before in
     let on = place-further (l .loop .inv .0) (there test) in (
-      refuse-next (l .loop .inv .0) (there test) _ (told .found2 .given .1) (call .verdict-on .ensures)
-          (call .before .line-from .ensures) (kept .packed .ensures) (c .next-from .ensures),
+      refuse-next (l .loop .inv .0) (there test) _ (told .found2 .given .1)
+          (call .verdict-on .ensures)
+          (call .before .line-from .ensures) (stored .packed .ensures) (c .next-from .ensures),
       omega (arith, on .0, c .next-from .ensures, l .loop .inv .1),
     )
 

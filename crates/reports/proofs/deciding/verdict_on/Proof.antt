@@ -1,5 +1,5 @@
--- `reports::deciding::verdict_on` meets its contract, by what the line names and what the rules came to.
--- Assumes nothing.
+-- `reports::deciding::verdict_on` meets its contract, by what the line names and what the rules
+-- came to. Assumes nothing.
 use borrow.Author.Needs.{needs}
 use Rattle.reports.proofs.Verdicts.{found-accepted, found-refused, found-malformed}
 use Rattle.reports.proofs.deciding.verdict_on.Statement.{statement}
@@ -23,12 +23,14 @@ enum-known-line-2 c = search needs
 returns : tie.Need-returns
 returns c =
     let call = c .before .before in
-    found-accepted _ _ _ _ (call .before .before .line .given .1) (call .admission .ensures) (c .enum-told .given .1)
+    found-accepted _ _ _ _ (call .before .before .line .given .1) (call .admission .ensures)
+    (c .enum-told .given .1)
 
 returns-2 : tie.Need-returns-2
 returns-2 c =
     let call = c .before .before .before in
-    found-refused _ _ _ _ (call .before .before .line .given .1) (call .admission .ensures) (c .before .outcome .given .1)
+    found-refused _ _ _ _ (call .before .before .line .given .1) (call .admission .ensures)
+    (c .before .outcome .given .1)
 
 returns-3 : tie.Need-returns-3
 returns-3 c = found-malformed _ _ _ _ (c .before .line2 .given .1)

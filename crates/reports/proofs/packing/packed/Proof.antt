@@ -1,9 +1,8 @@
 -- `reports::packing::packed` meets its contract, answer by answer. Assumes nothing.
 use borrow.Author.Needs.{needs}
-use mathlib.Core.Path.{_≡_, sym, ap, subst, _∙_}
+use mathlib.Core.Path.{sym, ap, _∙_}
 use native.Mathlib.Omega.{arith}
-use Rattle.model.specs.declared.Arrival.{Arrival}
-use Rattle.reports.specs.Packing.{SmallValues, Packable, packed}
+use Rattle.reports.specs.Packing.{SmallValues, packed}
 use Rattle.reports.proofs.Packed.{number-most, small-values}
 use Rattle.reports.proofs.packing.packed.Statement.{statement}
 use Rattle.reports.proofs.packing.packed.Tie as tie
@@ -59,7 +58,12 @@ refusal-number-requires : tie.Need-refusal-number-requires
 refusal-number-requires c κs = search needs
 
 cast-result-5 : tie.Need-cast-result-5
-cast-result-5 c = omega (arith, c .refusal-number .ensures, number-most (c .before .before .arrival2 .given .0 .0))
+cast-result-5 c =
+    omega (
+      arith,
+      c .refusal-number .ensures,
+      number-most (c .before .before .arrival2 .given .0 .0),
+    )
 
 returns : tie.Need-returns
 unfolding packed

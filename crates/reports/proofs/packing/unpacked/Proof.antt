@@ -1,6 +1,7 @@
--- `reports::packing::unpacked` meets its contract, one kind of answer after another. Assumes nothing.
+-- `reports::packing::unpacked` meets its contract, one kind of answer after another. Assumes
+-- nothing.
 use borrow.Author.Needs.{needs}
-use mathlib.Core.Path.{ap, _∙_}
+use mathlib.Core.Path.{ap}
 use borrow.Author.Tests.{lt-ltb, le-ltb, eq-eqb, ne-eqb}
 use Rattle.model.specs.declared.Arrival.{Arrival}
 use Rattle.reports.specs.Packing.{unpacked}
@@ -21,7 +22,11 @@ returns-2 c = rw (le-ltb _ 11 (c .before .if1 .left), eq-eqb _ 11 (c .if2 .taken
 returns-3 : tie.Need-returns-3
 unfolding unpacked
 returns-3 c =
-    rw (le-ltb _ 11 (c .before .before .if1 .left), ne-eqb _ 11 (c .before .if2 .left), eq-eqb _ 12 (c .if3 .taken))
+    rw (
+      le-ltb _ 11 (c .before .before .if1 .left),
+      ne-eqb _ 11 (c .before .if2 .left),
+      eq-eqb _ 12 (c .if3 .taken),
+    )
 
 returns-4 : tie.Need-returns-4
 unfolding unpacked

@@ -1,4 +1,5 @@
--- `reports::printing::line_length` meets its contract, one kind of line after another. Assumes nothing.
+-- `reports::printing::line_length` meets its contract, one kind of line after another. Assumes
+-- nothing.
 use borrow.Author.Needs.{needs}
 use mathlib.Core.Path.{ap, _∙_}
 use native.Mathlib.Omega.{arith}
@@ -22,7 +23,8 @@ refused-length-requires c κs = search needs
 
 returns-2 : tie.Need-returns-2
 returns-2 c =
-    c .refused-length .ensures ∙ ap length (long-is _ _ _ _ (c .before .before .if1 .left) (c .before .if2 .taken))
+    c .refused-length .ensures
+    ∙ ap length (long-is _ _ _ _ (c .before .before .if1 .left) (c .before .if2 .taken))
 
 sub-i : tie.Need-sub-i
 sub-i c = search needs
@@ -42,7 +44,8 @@ returns-3 c =
     let test = read .before in
     let else2 = test .before .before in
     c .arrival-length .ensures
-    ∙ ap length (ap (arrival-line _) (c .before .unpacked .ensures ∙ ap unpacked (read .answer-at .ensures))
+    ∙ ap length
+    (ap (arrival-line _) (c .before .unpacked .ensures ∙ ap unpacked (read .answer-at .ensures))
     ∙ answer-is _ _ _ _ (else2 .before .if1 .left) (else2 .if2 .left) (test .if3 .taken))
 
 values-length-requires : tie.Need-values-length-requires
@@ -61,7 +64,8 @@ returns-4 c =
     let s = else2 .before .before .before .before in
     corners-length (now (s .args .answers)) _ (s .args .ends) _ (c .values-length .ensures)
     ∙ ap length
-    (corners-is _ _ _ _ (else2 .before .if1 .left) (else2 .if2 .left) (else3 .if3 .left) (test .if4 .taken))
+    (corners-is _ _ _ _ (else2 .before .if1 .left) (else2 .if2 .left) (else3 .if3 .left)
+    (test .if4 .taken))
 
 slice-aggregate-values-length : tie.Need-slice-aggregate-values-length
 slice-aggregate-values-length c = search needs
@@ -80,9 +84,11 @@ returns-5 c =
     let else3 = else4 .before .before in
     let else2 = else3 .before .before in
     let s = else2 .before .before .before .before in
-    counts-length (now (s .args .answers)) (now (s .args .corners)) (s .args .ends) _ (c .values-length2 .ensures)
+    counts-length (now (s .args .answers)) (now (s .args .corners)) (s .args .ends) _
+    (c .values-length2 .ensures)
     ∙ ap length
-    (counts-is _ _ _ _ (else2 .before .if1 .left) (else2 .if2 .left) (else3 .if3 .left) (else4 .if4 .left))
+    (counts-is _ _ _ _ (else2 .before .if1 .left) (else2 .if2 .left) (else3 .if3 .left)
+    (else4 .if4 .left))
 
 pub line-length-spec : {M : Type 1} → statement M
 line-length-spec =

@@ -1,4 +1,5 @@
--- `reports::printing::put_line` meets its contract, one kind of line after another. Assumes nothing.
+-- `reports::printing::put_line` meets its contract, one kind of line after another. Assumes
+-- nothing.
 use borrow.Author.Needs.{needs}
 use mathlib.Core.Path.{_≡_, sym, ap, _∙_}
 use Prim.Native.Nat.{_-_}
@@ -28,7 +29,8 @@ returns : tie.Need-returns
 unfolding bytes
 returns c =
     let call = c .before .before in
-    wrote-as (sym (header-is _ _ _ _ (call .before .before .before .if1 .taken))) (call .put-word .ensures)
+    wrote-as (sym (header-is _ _ _ _ (call .before .before .before .if1 .taken)))
+    (call .put-word .ensures)
 
 put-refused-requires : tie.Need-put-refused-requires
 put-refused-requires c κs =
@@ -43,7 +45,8 @@ returns-2 : tie.Need-returns-2
 returns-2 c =
     let call = c .before .before in
     let test = call .before .before in
-    wrote-as (sym (long-is _ _ _ _ (test .before .if1 .left) (test .if2 .taken))) (call .put-refused .ensures)
+    wrote-as (sym (long-is _ _ _ _ (test .before .if1 .left) (test .if2 .taken)))
+    (call .put-refused .ensures)
 
 sub-i : tie.Need-sub-i
 sub-i c = search needs
@@ -68,7 +71,8 @@ line-read c =
 
 put-arrival-requires : tie.Need-put-arrival-requires
 put-arrival-requires c κs =
-    room-as (line-read c) (c .before .before .before .before .before .before .before .before .before .before .pre)
+    room-as (line-read c)
+    (c .before .before .before .before .before .before .before .before .before .before .pre)
 
 same-length-3 : tie.Need-same-length-3
 same-length-3 c = search needs
@@ -88,7 +92,8 @@ put-answer-requires c κs =
     let else3 = test .before .before in
     let else2 = else3 .before .before in
     room-as
-    (sym (corners-is _ _ _ _ (else2 .before .if1 .left) (else2 .if2 .left) (else3 .if3 .left) (test .if4 .taken)))
+    (sym (corners-is _ _ _ _ (else2 .before .if1 .left) (else2 .if2 .left) (else3 .if3 .left)
+    (test .if4 .taken)))
     (else2 .before .before .before .before .before .pre)
 
 same-length-4 : tie.Need-same-length-4
@@ -102,7 +107,8 @@ returns-4 c =
     let else3 = test .before .before in
     let else2 = else3 .before .before in
     wrote-as
-    (sym (corners-is _ _ _ _ (else2 .before .if1 .left) (else2 .if2 .left) (else3 .if3 .left) (test .if4 .taken)))
+    (sym (corners-is _ _ _ _ (else2 .before .if1 .left) (else2 .if2 .left) (else3 .if3 .left)
+    (test .if4 .taken)))
     (call .put-answer .ensures)
 
 slice-aggregate-put-answer-2 : tie.Need-slice-aggregate-put-answer-2
@@ -118,7 +124,8 @@ put-answer-requires-2 c κs =
     let else3 = else4 .before .before in
     let else2 = else3 .before .before in
     room-as
-    (sym (counts-is _ _ _ _ (else2 .before .if1 .left) (else2 .if2 .left) (else3 .if3 .left) (else4 .if4 .left)))
+    (sym (counts-is _ _ _ _ (else2 .before .if1 .left) (else2 .if2 .left) (else3 .if3 .left)
+    (else4 .if4 .left)))
     (else2 .before .before .before .before .before .pre)
 
 same-length-5 : tie.Need-same-length-5
@@ -132,7 +139,8 @@ returns-5 c =
     let else3 = else4 .before .before in
     let else2 = else3 .before .before in
     wrote-as
-    (sym (counts-is _ _ _ _ (else2 .before .if1 .left) (else2 .if2 .left) (else3 .if3 .left) (else4 .if4 .left)))
+    (sym (counts-is _ _ _ _ (else2 .before .if1 .left) (else2 .if2 .left) (else3 .if3 .left)
+    (else4 .if4 .left)))
     (call .put-answer2 .ensures)
 
 pub put-line-spec : {M : Type 1} → statement M

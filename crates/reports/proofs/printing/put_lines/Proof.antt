@@ -1,7 +1,7 @@
--- `reports::printing::put_lines` meets its contract. The loop's invariant: the lines before position
--- `next` are written. The measure is how many lines are left. Assumes nothing.
+-- `reports::printing::put_lines` meets its contract. The loop's invariant: the lines before
+-- position `next` are written. The measure is how many lines are left. Assumes nothing.
 use borrow.Author.Needs.{needs}
-use Prim.Native.Nat.{_-_, _<_}
+use Prim.Native.Nat.{_-_}
 use native.Mathlib.Omega.{arith}
 use Rattle.reports.specs.Lines.{line-count}
 use Rattle.reports.proofs.ReportLines.{Putting, none-put, put-full, put-room, put-next, put-all}
@@ -32,12 +32,14 @@ same-length c = c .before .before .before .loop .inv .long
 
 returns : tie.Need-returns Inv-loop μ-loop
 returns c =
-    put-full _ _ _ _ _ (c .before .before .before .loop .inv) _ (c .before .line-length .ensures) (c .if1 .taken)
+    put-full _ _ _ _ _ (c .before .before .before .loop .inv) _ (c .before .line-length .ensures)
+    (c .if1 .taken)
 
 put-line-requires : tie.Need-put-line-requires Inv-loop μ-loop
 put-line-requires c κs =
     let test = c .before in
-    put-room _ _ _ _ _ (test .before .before .before .loop .inv) _ (test .before .line-length .ensures) (test .if1 .left)
+    put-room _ _ _ _ _ (test .before .before .before .loop .inv) _
+    (test .before .line-length .ensures) (test .if1 .left)
 
 add-next : tie.Need-add-next Inv-loop μ-loop
 add-next c = search needs
@@ -52,7 +54,8 @@ loop-again c =
     let body = test .before .before in
     let l = body .before in
     put-next _ _ _ _ _ (l .loop .inv) _ (test .before .line-length .ensures) (test .if1 .left)
-    (omega (arith, body .loop-test .taken, l .before .line-count .ensures)) (call .put-line .ensures)
+    (omega (arith, body .loop-test .taken, l .before .line-count .ensures))
+    (call .put-line .ensures)
 
 same-length-2 : tie.Need-same-length-2 Inv-loop μ-loop
 same-length-2 c = c .before .loop .inv .long
@@ -60,7 +63,8 @@ same-length-2 c = c .before .loop .inv .long
 returns-2 : tie.Need-returns-2 Inv-loop μ-loop
 returns-2 c =
     let l = c .before in
-    put-all _ _ _ _ _ (l .loop .inv) (omega (arith, c .loop-test .left, l .before .line-count .ensures))
+    put-all _ _ _ _ _ (l .loop .inv)
+    (omega (arith, c .loop-test .left, l .before .line-count .ensures))
 
 pub put-lines-spec : {M : Type 1} → statement M
 put-lines-spec =

@@ -1,5 +1,5 @@
--- `reports::printing::total_length` meets its contract. The loop's invariant: the total is the length of
--- the lines before position j. Assumes nothing.
+-- `reports::printing::total_length` meets its contract. The loop's invariant: the total is the
+-- length of the lines before position j. Assumes nothing.
 use borrow.Author.Needs.{needs}
 use Prim.Native.Nat.{_-_, _<_}
 use native.Mathlib.Omega.{arith}
@@ -25,15 +25,18 @@ line-length-requires c κs = search needs
 
 -- the position lies before the end
 before-end : (c : tie.After-line-length Inv-loop μ-loop) →
-    c .before .before .loop .j < line-count (c .before .before .before .before .before .before .args .ends)
-before-end c = omega (arith, c .before .loop-test .taken, c .before .before .before .line-count .ensures)
+    c .before .before .loop .j < line-count
+    (c .before .before .before .before .before .before .args .ends)
+before-end c =
+    omega (arith, c .before .loop-test .taken, c .before .before .before .line-count .ensures)
 
 add-total : tie.Need-add-total Inv-loop μ-loop
 add-total c =
     let s = c .before .before .before .before .before .before in
     omega (
       arith,
-      total-most _ _ _ (c .before .before .loop .inv) (before-end c) _ (c .line-length .ensures) (s .pre .0) (s .pre .1),
+      total-most _ _ _ (c .before .before .loop .inv) (before-end c) _ (c .line-length .ensures)
+          (s .pre .0) (s .pre .1),
     )
 
 add-j : tie.Need-add-j Inv-loop μ-loop
@@ -47,7 +50,9 @@ loop-again c =
     one-totalled _ _ _ (c .before .before .loop .inv) (before-end c) _ (c .line-length .ensures)
 
 returns : tie.Need-returns Inv-loop μ-loop
-returns c = totalled-all (c .before .loop .inv) (c .before .before .line-count .ensures) (c .loop-test .left)
+returns c =
+    totalled-all (c .before .loop .inv) (c .before .before .line-count .ensures)
+    (c .loop-test .left)
 
 pub total-length-spec : {M : Type 1} → statement M
 total-length-spec =

@@ -17,10 +17,11 @@ ghost use Rattle.model.specs.Reading.{unsound};
 ghost use Rattle.model.specs.Lent.{Wrote};
 ghost use Rattle.model.specs.Saved.{load-call, saved};
 
-// The bytes of a map, written into a lent list: numbers 1 and 10. A longer list keeps its tail, and a
-// refused call writes nothing.
+// The bytes of a map, written into a lent list: numbers 1 and 10. A longer list keeps its tail,
+// and a refused call writes nothing.
 pub fn save(map: Map, lent: &mut [u8]) -> Written
-    ensures { λ r. ⌜ Wrote (unsound map ∷ []) (saved map) (now (lent .entry)) (now (lent .exit)) r ⌝ }
+    ensures { λ r. ⌜ Wrote (unsound map ∷ []) (saved map)
+        (now (lent .entry)) (now (lent .exit)) r ⌝ }
 {
     if !is_sound(map) {
         return Written::Refused(Refusal::NotSound);
@@ -33,7 +34,8 @@ pub fn save(map: Map, lent: &mut [u8]) -> Written
     Written::Length(length)
 }
 
-// The map of a file: number 7, and then number 1. A refused call has the empty map beside its refusal.
+// The map of a file: number 7, and then number 1. A refused call has the empty map beside its
+// refusal.
 pub fn load(file: &[u8]) -> Loaded
     ensures { λ r. ⌜ Answered (load-call (now (file .entry))) r ⌝ }
 {

@@ -1,5 +1,5 @@
--- A point offered to a sound map, in the order of this page: an arrival is served; the map after it is
--- sound; the outcome is that of the rules. Assumes nothing.
+-- A point offered to a sound map, in the order of this page: an arrival is served; the map after
+-- it is sound; the outcome is that of the rules. Assumes nothing.
 use mathlib.Core.Path.{_≡_, refl, sym, ap, subst, _∙_}
 use mathlib.Core.Bool.{Bool, true, false, not, cond}
 use lib.Dec.{eqb}
@@ -58,7 +58,8 @@ module _ (m : Map) (p : Point) where
   pub admitted-outcome : outcome-of (admitted m p) ≡ outcome-by (admission-rules m p)
   unfolding arrival-outcome admitted
   admitted-outcome =
-      answer-outcome outcome-of (refusing m) (λ r. refl) (admission-rules m p) (arrive m p) arrival-served
+      answer-outcome outcome-of (refusing m) (λ r. refl) (admission-rules m p)
+      (arrive m p) arrival-served
 
   pub admitted-sound : Sound m → Sound (admitted m p .map)
   unfolding admitted offer

@@ -1,5 +1,6 @@
--- The laws of the map of a file after its checks, in the order of this page: what loading answers; a
--- check more; what a served file gives; what the exported functions promise from it. Assumes nothing.
+-- The laws of the map of a file after its checks, in the order of this page: what loading
+-- answers; a check more; what a served file gives; what the exported functions promise from it.
+-- Assumes nothing.
 use mathlib.Core.Path.{_≡_, refl, sym, ap, subst, _∙_}
 use mathlib.Core.Bool.{Bool, true, false, not}
 use mathlib.Core.List.{List, [], _∷_, _++_}
@@ -33,7 +34,8 @@ loads {s} {l} a =
       outcome = ap (λ (x : Loaded). x .outcome) (a .equal) ∙ outcomes;
       map = λ e.
           ap (λ (x : Loaded). x .map) (a .equal)
-          ∙ unless-made (λ (x : Loaded). x .map) (call .refuse) (λ r. empty-map) (λ r. refl) (call .rules) (call .value)
+          ∙ unless-made (λ (x : Loaded). x .map) (call .refuse) (λ r. empty-map) (λ r. refl)
+          (call .rules) (call .value)
           ∙ sym (outcome-serves (λ r. empty-map) (map-in s) (call .rules)
           (sym e ∙ ap (λ (x : Loaded). x .outcome) (a .equal) ∙ outcomes));
     }
@@ -43,12 +45,14 @@ loads {s} {l} a =
 
     outcomes : answer-of (load-call s) .outcome ≡ outcome-by (load-call s .rules)
     outcomes =
-        unless-made (λ (x : Loaded). x .outcome) (load-call s .refuse) Outcome.Refused (λ r. refl) (load-call s .rules)
+        unless-made (λ (x : Loaded). x .outcome) (load-call s .refuse) Outcome.Refused (λ r. refl)
+        (load-call s .rules)
         (load-call s .value)
 
 -- ---- a check more
 
-module _ {s : List ℕ} {rules : List Rule} {l : Loaded} (o : Opened s rules l) (more : List Rule) where
+module _ {s : List ℕ} {rules : List Rule} {l : Loaded} (o : Opened s rules l)
+    (more : List Rule) where
   pub refused-already : {r : Refusal} → l .outcome ≡ Outcome.Refused r → Opened s (rules ++ more) l
   refused-already {r} e =
       record {
@@ -97,23 +101,28 @@ module _ {s : List ℕ} {more : List Rule} {l : Loaded}
 passed : (r : Refusal) (t : Bool) → NoneApplies ((r when not t) ∷ []) → T t
 passed r t (nor n none) = not-not t n
 
-pub opened-present : {s : List ℕ} {l : Loaded} (d : ℕ) → Opened s (of-file s (λ m. dart-rules m d)) l →
+pub opened-present : {s : List ℕ} {l : Loaded} (d : ℕ) →
+    Opened s (of-file s (λ m. dart-rules m d)) l →
     l .outcome ≡ Outcome.Served → T (is-present (l .map) d)
 opened-present {s} d o e =
     subst (λ (m : Map). T (is-present m d)) (sym (o .map e))
     (passed Refusal.NoDart (is-present (map-in s) d) (opened-further o e))
 
-pub opened-near : {s : List ℕ} {l : Loaded} (p : Point) → Opened s (of-file s (λ m. place-call m p .rules)) l →
+pub opened-near : {s : List ℕ} {l : Loaded} (p : Point) →
+    Opened s (of-file s (λ m. place-call m p .rules)) l →
     l .outcome ≡ Outcome.Served → T (in-range p)
 opened-near p o e = passed Refusal.OutOfRange (in-range p) (opened-further o e)
 
 -- ---- what is promised from it
 
-module _ {A : Type 0} {s : List ℕ} {rules : List Rule} {l : Loaded} (o : Opened s rules l) (values before : List A) where
+module _ {A : Type 0} {s : List ℕ} {rules : List Rule} {l : Loaded} (o : Opened s rules l)
+    (values before : List A) where
   pub opened-refused : {k : ℕ} {r : Refusal} → l .outcome ≡ Outcome.Refused r → k ≡ number r →
       Served (record { rules = rules ++ []; values = values }) before before k
   opened-refused e n = refused-before rules (only values) before _ (sym e ∙ o .outcome) n
 
   pub opened-served : {u after : List A} {k : ℕ} → l .outcome ≡ Outcome.Served → u ≡ values →
-      Served (only u) before after k → Served (record { rules = rules ++ []; values = values }) before after k
-  opened-served e same w = served-after rules (only values) before (sym e ∙ o .outcome) (served-as same w)
+      Served (only u) before after k → Served
+      (record { rules = rules ++ []; values = values }) before after k
+  opened-served e same w = served-after rules (only values) before (sym e ∙ o .outcome)
+      (served-as same w)

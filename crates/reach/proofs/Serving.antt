@@ -1,6 +1,6 @@
--- The laws of what the exported functions promise, in the order of this page: rules that stand in two
--- parts; values without a rule, written or not; rules that are checked before; two lists; the rules of
--- an answer that is an enum. Assumes nothing.
+-- The laws of what the exported functions promise, in the order of this page: rules that stand in
+-- two parts; values without a rule, written or not; rules that are checked before; two lists; the
+-- rules of an answer that is an enum. Assumes nothing.
 use mathlib.Core.Path.{_≡_, refl, sym, ap, subst, _∙_}
 use mathlib.Core.Bool.{Bool, true, false, cond, _||_}
 use mathlib.Core.List.{List, [], _∷_, _++_, append-assoc}
@@ -15,7 +15,8 @@ use Rattle.model.specs.Refusals.{number, Rule, _when_, unless}
 use Rattle.model.specs.Answers.{outcome-by}
 use Rattle.model.proofs.Answers.{outcome-refuses, outcome-serves, unless-made}
 use Rattle.hull.proofs.CornerLoops.{Writing, writing-end}
-use Rattle.reach.specs.Served.{Reply, only, and-short, is-short, number-by, left-by, Served, ServedBoth}
+use Rattle.reach.specs.Served.{Reply, only, and-short, is-short}
+use Rattle.reach.specs.Served.{number-by, left-by, Served, ServedBoth}
 
 -- ---- rules in two parts
 
@@ -67,7 +68,8 @@ stored values before l =
 
 -- a value after values that were written
 pub one-more : (values before : List ℕ) (v n : ℕ) → length values ≡ n → n < length before →
-    set (values ++ drop n before) n v ≡ (values ++ v ∷ []) ++ drop (length (values ++ v ∷ [])) before
+    set (values ++ drop n before) n v ≡ (values ++ v ∷ []) ++ drop
+    (length (values ++ v ∷ [])) before
 one-more values before v n e l =
     let more : suc n ≡ length (values ++ v ∷ []) = omega (arith, length-append values (v ∷ [])) in
     ap (λ (s : List ℕ). set (values ++ s) n v) (drop-cons before n 0 l)
@@ -110,13 +112,15 @@ module _ {A : Type 0} (rules : List Rule) (q : Reply A) (before : List A) where
       }
 
 -- the same values by another name
-pub served-as : {A : Type 0} {u v before after : List A} {k : ℕ} → u ≡ v → Served (only u) before after k →
+pub served-as : {A : Type 0} {u v before after : List A} {k : ℕ} → u ≡ v →
+    Served (only u) before after k →
     Served (only v) before after k
 served-as {A} {u} {v} {before} {after} {k} e s =
     subst (λ (w : List A). Served (only w) before after k) e s
 
 -- what a list with room has been left as
-pub room-serves : {A : Type 0} {values before after : List A} {k : ℕ} → length values ≤ length before →
+pub room-serves : {A : Type 0} {values before after : List A} {k : ℕ} →
+    length values ≤ length before →
     Served (only values) before after k → (k ≡ 0) × (after ≡ values ++ drop (length values) before)
 unfolding unless number
 room-serves {A} {values} {before} l s =
@@ -136,47 +140,58 @@ module _ {A B : Type 0} (u : List A) (v : List B) (before : List A) (before′ :
   first-short l = unwritten (rw (lt-ltb (length before) (length u) l))
 
   pub second-short : length before′ < length v → ServedBoth [] u v before before before′ before′ 10
-  second-short l = unwritten (rw (lt-ltb (length before′) (length v) l) (or-true (is-short u before)))
+  second-short l = unwritten
+      (rw (lt-ltb (length before′) (length v) l) (or-true (is-short u before)))
     where
       or-true : (b : Bool) → (b || true) ≡ true
       or-true true = refl
       or-true false = refl
 
-  pub both-room : {after : List A} {after′ : List B} {k : ℕ} → k ≡ 0 → length u ≤ length before → length v ≤ length before′ →
+  pub both-room : {after : List A} {after′ : List B} {k : ℕ} → k ≡ 0 → length u ≤ length before →
+      length v ≤ length before′ →
       after ≡ u ++ drop (length u) before → after′ ≡ v ++ drop (length v) before′ →
       ServedBoth [] u v before after before′ after′ k
   unfolding unless number
   both-room n l l′ w w′ =
-      let e : either ≡ false = rw (le-ltb (length before) (length u) l, le-ltb (length before′) (length v) l′) in
+      let e : either ≡ false = rw
+      (le-ltb (length before) (length u) l, le-ltb (length before′) (length v) l′) in
       record { code = rw e n; list = rw e w; list′ = rw e w′ }
 
-module _ {A B : Type 0} (rules more : List Rule) (u : List A) (v : List B) (before : List A) (before′ : List B) where
+module _ {A B : Type 0} (rules more : List Rule) (u : List A) (v : List B) (before : List A)
+    (before′ : List B) where
   abbrev last-both : List Rule
   last-both = (Refusal.ShortList when (is-short u before || is-short v before′)) ∷ []
 
-  pub both-refused-before : {k : ℕ} (r : Refusal) → Outcome.Refused r ≡ outcome-by rules → k ≡ number r →
+  pub both-refused-before : {k : ℕ} (r : Refusal) → Outcome.Refused r ≡ outcome-by rules →
+      k ≡ number r →
       ServedBoth (rules ++ more) u v before before before′ before′ k
   both-refused-before r e n =
       record {
         code = n ∙ first-refuses number rules more last-both 0 r e;
         list = first-refuses (λ x. before) rules more last-both (u ++ drop (length u) before) r e;
-        list′ = first-refuses (λ x. before′) rules more last-both (v ++ drop (length v) before′) r e;
+        list′ = first-refuses (λ x. before′) rules more last-both
+            (v ++ drop (length v) before′) r e;
       }
 
-  pub both-served-after : {after : List A} {after′ : List B} {k : ℕ} → Outcome.Served ≡ outcome-by rules →
-      ServedBoth more u v before after before′ after′ k → ServedBoth (rules ++ more) u v before after before′ after′ k
+  pub both-served-after : {after : List A} {after′ : List B} {k : ℕ} →
+      Outcome.Served ≡ outcome-by rules →
+      ServedBoth more u v before after before′ after′ k → ServedBoth
+      (rules ++ more) u v before after before′ after′ k
   both-served-after e s =
       record {
         code = first-serves number rules more last-both 0 e (s .code);
-        list = first-serves (λ x. before) rules more last-both (u ++ drop (length u) before) e (s .list);
-        list′ = first-serves (λ x. before′) rules more last-both (v ++ drop (length v) before′) e (s .list′);
+        list = first-serves (λ x. before) rules more last-both (u ++ drop (length u) before) e
+            (s .list);
+        list′ = first-serves (λ x. before′) rules more last-both (v ++ drop (length v) before′) e
+            (s .list′);
       }
 
 -- ---- the same reply to equal arguments
 
 pub served-at : {A C : Type 0} (q : C → Reply A) {x y : C} {before after : List A} {k : ℕ} → x ≡ y →
     Served (q x) before after k → Served (q y) before after k
-served-at {A} {C} q {x} {y} {before} {after} {k} e s = subst (λ (z : C). Served (q z) before after k) e s
+served-at {A} {C} q {x} {y} {before} {after} {k} e s = subst
+    (λ (z : C). Served (q z) before after k) e s
 
 pub both-at : {A B C : Type 0} (rules : C → List Rule) (u : C → List A) (v : C → List B) {x y : C}
     {before after : List A} {before′ after′ : List B} {k : ℕ} → x ≡ y →
@@ -188,7 +203,9 @@ both-at {A} {B} {C} rules u v {x} {y} {before} {after} {before′} {after′} {k
 -- ---- an answer that is an enum
 
 -- what the rules come to, by the outcome that an answer stands for
-pub answer-outcome : {A : Type 0} (f : A → Outcome) (refuse : Refusal → A) → ((r : Refusal) → f (refuse r) ≡ Outcome.Refused r) →
-    (rules : List Rule) (a : A) → f a ≡ Outcome.Served → f (unless refuse rules a) ≡ outcome-by rules
+pub answer-outcome : {A : Type 0} (f : A → Outcome) (refuse : Refusal → A) →
+    ((r : Refusal) → f (refuse r) ≡ Outcome.Refused r) →
+    (rules : List Rule) (a : A) → f a ≡ Outcome.Served → f
+    (unless refuse rules a) ≡ outcome-by rules
 answer-outcome f refuse same rules a e =
     unless-made f refuse Outcome.Refused same rules a ∙ ap (unless Outcome.Refused rules) e

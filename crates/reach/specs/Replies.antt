@@ -1,7 +1,7 @@
--- The rules and the values of each exported function, in the order of this page: values by the meaning
--- of an answer; a map that comes as a file; counts, orbits, walks and walkers; placing; an arrival.
--- Rules and values are those of the engine's calls (model/specs); where an answer has a word, a number
--- stands for it. Assumes nothing.
+-- The rules and the values of each exported function, in the order of this page: values by the
+-- meaning of an answer; a map that comes as a file; counts, orbits, walks and walkers; placing;
+-- an arrival. Rules and values are those of the engine's calls (model/specs); where an answer has
+-- a word, a number stands for it. Assumes nothing.
 use mathlib.Core.List.{List, [], _∷_, _++_, map}
 use Prim.Native.Nat.{ℕ}
 use lib.IntN.{ℤ, natAbs}
@@ -110,4 +110,5 @@ module _ (s : List ℕ) (p : Point) where
 
   abbrev pub Offering : List ℕ → List ℕ → List ℕ → List ℕ → ℕ → Type 0
   Offering =
-      ServedBoth (of-file s (λ m. offer-rules m p)) (saved (after .map)) (arrival-values (after .arrival))
+      ServedBoth (of-file s (λ m. offer-rules m p)) (saved (after .map))
+      (arrival-values (after .arrival))

@@ -1,8 +1,8 @@
--- What a function promises that crosses the boundary to other languages, in the order of this page:
--- the rules of a call and the values that it writes; one lent list; two lent lists.
--- Document 01: the number is that of the first rule that applies, 0 where the call is served. Number
--- 10 comes last: "lent list shorter than the result; a longer one keeps its tail", and a refused call
--- leaves every lent list as it was. Assumes nothing.
+-- What a function promises that crosses the boundary to other languages, in the order of this
+-- page: the rules of a call and the values that it writes; one lent list; two lent lists.
+-- Document 01: the number is that of the first rule that applies, 0 where the call is served.
+-- Number 10 comes last: "lent list shorter than the result; a longer one keeps its tail", and a
+-- refused call leaves every lent list as it was. Assumes nothing.
 use mathlib.Core.Path.{_≡_}
 use mathlib.Core.Bool.{Bool, _||_}
 use mathlib.Core.List.{List, [], _∷_, _++_}
@@ -45,7 +45,8 @@ module _ {A : Type 0} (reply : Reply A) (before after : List A) (r : ℕ) where
     pub list : after ≡ left-by rules (reply .values) before
 
 -- two lists: number 10 where either is too short
-pub record ServedBoth {A B : Type 0} (rules : List Rule) (u : List A) (v : List B) (before after : List A)
+pub record ServedBoth {A B : Type 0} (rules : List Rule) (u : List A) (v : List B)
+    (before after : List A)
     (before′ after′ : List B) (r : ℕ) : Type 0 where
   pub code : r ≡ number-by (and-short rules (is-short u before || is-short v before′))
   pub list : after ≡ left-by (and-short rules (is-short u before || is-short v before′)) u before

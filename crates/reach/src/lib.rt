@@ -1,7 +1,7 @@
-// The engine for other languages: one exported function for each call. A map comes as its saved bytes, which
-// are checked as a file is. The number that is returned is that of the refusal, 0 where the call is served;
-// values are written into lent lists. Each function loads, checks, computes its values, and then writes them
-// where there is room.
+// The engine for other languages: one exported function for each call. A map comes as its saved
+// bytes, which are checked as a file is. The number that is returned is that of the refusal, 0
+// where the call is served; values are written into lent lists. Each function loads, checks,
+// computes its values, and then writes them where there is room.
 
 mod opening;
 mod values;
@@ -52,7 +52,8 @@ ghost use Rattle.model.specs.Text.{line-call};
 ghost use Rattle.model.specs.Report.{report, report-rules};
 ghost use Rattle.reach.specs.Served.{Served, ServedBoth, number-by, only};
 ghost use Rattle.reach.specs.Opened.{of-file};
-ghost use Rattle.reach.specs.Replies.{Offering, counts-reply, from-file, orbit-reply, place-reply};
+ghost use Rattle.reach.specs.Replies.{Offering, counts-reply, from-file};
+ghost use Rattle.reach.specs.Replies.{orbit-reply, place-reply};
 ghost use Rattle.reach.specs.Replies.{signed-reply, walk-reply, walker-reply};
 
 // The orientation of three points: numbers 3 and 10.
@@ -74,7 +75,8 @@ pub extern "C" fn reach_orientation(
 
 // The orientation of three points.
 fn write_orientation(a: Point, b: Point, c: Point, out: &mut [i64]) -> u32
-    ensures { λ r. ⌜ Served (signed-reply (orientation-call a b c)) (now (out .entry)) (now (out .exit)) r ⌝ }
+    ensures { λ r. ⌜ Served (signed-reply (orientation-call a b c))
+        (now (out .entry)) (now (out .exit)) r ⌝ }
 {
     let oriented = orientation_of(a, b, c);
     match oriented {

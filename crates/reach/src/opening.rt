@@ -1,4 +1,5 @@
-// The map of a file, after the checks of a call: the file's own, and then those of a dart or of a point.
+// The map of a file, after the checks of a call: the file's own, and then those of a dart or of a
+// point.
 
 use engine::files::load;
 use maps::reading::is_present;
@@ -13,7 +14,8 @@ ghost use Rattle.reach.specs.Opened.{Opened, of-file};
 
 // The map of a file, for a call about one of its darts.
 pub(crate) fn load_at(file: &[u8], dart: usize) -> Loaded
-    ensures { λ r. ⌜ Opened (now (file .entry)) (of-file (now (file .entry)) (λ m. dart-rules m dart)) r ⌝ }
+    ensures { λ r. ⌜ Opened
+        (now (file .entry)) (of-file (now (file .entry)) (λ m. dart-rules m dart)) r ⌝ }
 {
     let loaded = load(file);
     let outcome = loaded.outcome;

@@ -7,7 +7,8 @@ use model::Point;
 use orbits::Ending;
 ghost use mathlib.Core.Path.{_≡_};
 ghost use Rattle.model.specs.Plane.{at};
-ghost use Rattle.reach.specs.Replies.{arrival-outcome, arrival-values, ending-number, place-values};
+ghost use Rattle.reach.specs.Replies.{arrival-outcome, arrival-values};
+ghost use Rattle.reach.specs.Replies.{ending-number, place-values};
 
 // The point of two coordinates.
 pub(crate) fn point(x: i64, y: i64) -> Point

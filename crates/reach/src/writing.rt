@@ -1,5 +1,5 @@
-// What the exported functions end in: the number of a refusal, and values that are written into lent
-// lists where these have room.
+// What the exported functions end in: the number of a refusal, and values that are written into
+// lent lists where these have room.
 
 use crate::values::arrival_outcome;
 use crate::values::arrival_values;
@@ -99,8 +99,8 @@ fn write_words(words: &[u64], out: &mut [u64])
     }
 }
 
-// Offers a point to a sound map, and writes the bytes of the map after it and the arrival: numbers 2 to
-// 5 and 10.
+// Offers a point to a sound map, and writes the bytes of the map after it and the arrival:
+// numbers 2 to 5 and 10.
 pub(crate) fn write_admitted(map: Map, p: Point, out: &mut [u8], arrival: &mut [usize]) -> u32
     requires { ⌜ Sound map ⌝ }
     ensures { λ r. ⌜ ServedBoth (admission-rules map p) (saved (arrive map p .map))

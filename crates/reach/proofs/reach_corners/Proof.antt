@@ -1,4 +1,5 @@
--- `reach::reach_corners` meets its contract. Assumes nothing.
+-- `reach::reach_corners` meets its contract: the file is loaded, and then its corners are listed.
+-- Assumes nothing.
 use mathlib.Core.Path.{sym, _∙_}
 use mathlib.Core.List.{[], _∷_}
 use lib.ListN.{length}
@@ -31,7 +32,8 @@ returns : tie.Need-returns
 returns c =
     let d = c .before .before in
     let l = d .before .before in
-    both-refused-before _ [] _ _ _ _ _ (sym (d .outcome .given .1) ∙ loads (l .load .ensures) .outcome)
+    both-refused-before _ [] _ _ _ _ _
+    (sym (d .outcome .given .1) ∙ loads (l .load .ensures) .outcome)
     (c .code .ensures)
 
 same-length : tie.Need-same-length

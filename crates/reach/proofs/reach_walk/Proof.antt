@@ -1,4 +1,5 @@
--- `reach::reach_walk` meets its contract. Assumes nothing.
+-- `reach::reach_walk` meets its contract: the file and the dart are checked, and then walked from.
+-- Assumes nothing.
 use mathlib.Core.Path.{ap, _∙_}
 use mathlib.Core.List.{[], _∷_}
 use Prim.Native.Nat.{ℕ}
@@ -57,9 +58,11 @@ returns-2 c =
     let e = t .enum-told .given .1 in
     let d = l .before .before .before .args .dart in
     opened-served o _ _ e
-    (ap (λ (i : ℕ). k .walk-of .result .last ∷ i ∷ k .walk-of .result .moves ∷ []) (n .ending-number .ensures)
+    (ap (λ (i : ℕ). k .walk-of .result .last ∷ i ∷ k .walk-of .result .moves ∷ [])
+    (n .ending-number .ensures)
     ∙ ap walk-values
-    (k .walk-of .ensures ∙ ap (λ (m : Map). walk (edge-link m) (point-link m) (darts m) d) (o .map e)))
+    (k .walk-of .ensures ∙ ap (λ (m : Map). walk (edge-link m) (point-link m) (darts m) d)
+    (o .map e)))
     (w .write-values .ensures)
 
 pub reach-walk-spec : {M : Type 1} → statement M

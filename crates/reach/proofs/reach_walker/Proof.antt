@@ -1,4 +1,4 @@
--- `reach::reach_walker` meets its contract. Assumes nothing.
+-- `reach::reach_walker` meets its contract: the file and the dart are checked. Assumes nothing.
 use mathlib.Core.Path.{ap}
 use mathlib.Core.List.{[], _∷_}
 use Rattle.orbits.specs.declared.Walker.{Walker}

@@ -1,4 +1,5 @@
--- `reach::reach_walker_edge` meets its contract. Assumes nothing.
+-- `reach::reach_walker_edge` meets its contract: the file and the dart are checked, and then the walker is moved.
+-- Assumes nothing.
 use mathlib.Core.Path.{ap, _∙_}
 use mathlib.Core.List.{[], _∷_}
 use Rattle.orbits.specs.declared.Walker.{Walker}
@@ -53,7 +54,8 @@ returns-2 c =
     let e = t .enum-told .given .1 in
     let d = l .before .before .before .args .dart in
     opened-served o _ _ e
-    (ap (λ (v : Walker). v .dart ∷ []) (n .moved-by-edge .ensures ∙ ap (λ (m : Map). walker-at (edge-link m d)) (o .map e)))
+    (ap (λ (v : Walker). v .dart ∷ [])
+    (n .moved-by-edge .ensures ∙ ap (λ (m : Map). walker-at (edge-link m d)) (o .map e)))
     (w .write-values .ensures)
 
 pub reach-walker-edge-spec : {M : Type 1} → statement M

@@ -1,4 +1,5 @@
--- `reach::write_offer` meets its contract. Assumes nothing.
+-- `reach::write_offer` meets its contract: the file is loaded, and then the point is offered.
+-- Assumes nothing.
 use mathlib.Core.Path.{sym, _∙_}
 use denote.Ref.{now}
 use Rattle.model.specs.declared.Map.{Map}
@@ -52,7 +53,8 @@ returns-2 c =
     let e = t .enum-told .given .1 in
     let p = s .p in
     both-served-after _ (admission-rules (map-in (now (s .map))) p) _ _ _ _ (sym e ∙ o .outcome)
-    (both-at (λ m. admission-rules m p) (λ m. saved (arrive m p .map)) (λ (m : Map). arrival-values (arrive m p .arrival))
+    (both-at (λ m. admission-rules m p) (λ m. saved (arrive m p .map))
+    (λ (m : Map). arrival-values (arrive m p .arrival))
     (o .map e) (w .write-admitted .ensures))
 
 pub write-offer-spec : {M : Type 1} → statement M

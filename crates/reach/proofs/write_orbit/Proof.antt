@@ -1,4 +1,5 @@
--- `reach::write_orbit` meets its contract. Assumes nothing.
+-- `reach::write_orbit` meets its contract: the file and the dart are checked, and then its orbit is written.
+-- Assumes nothing.
 use mathlib.Core.Path.{_≡_, ap, _∙_}
 use mathlib.Core.Bool.{Bool}
 use Prim.Native.Nat.{ℕ, _+_, _*_}
@@ -9,7 +10,8 @@ use Rattle.orbits.specs.Sets.{bits, set-of}
 use Rattle.model.specs.declared.Map.{Map}
 use Rattle.model.specs.Reading.{orbit-set}
 use Rattle.reach.specs.Replies.{set-values}
-use Rattle.reach.proofs.OpenedFiles.{opened-sound, opened-present, opened-refused, opened-served}
+use Rattle.reach.proofs.OpenedFiles.{opened-sound, opened-present}
+use Rattle.reach.proofs.OpenedFiles.{opened-refused, opened-served}
 use borrow.Author.Needs.{needs}
 use Rattle.reach.proofs.write_orbit.Statement.{statement}
 use Rattle.reach.proofs.write_orbit.Tie as tie
@@ -59,7 +61,8 @@ returns-2 c =
     let e = t .enum-told .given .1 in
     let s = l .before .before .before .args in
     opened-served o _ _ e
-    (ap set-values (n .orbit-of .ensures ∙ ap (λ (m : Map). orbit-set m (s .kind) (s .dart)) (o .map e)))
+    (ap set-values (n .orbit-of .ensures ∙ ap (λ (m : Map). orbit-set m (s .kind) (s .dart))
+    (o .map e)))
     (w .write-darts .ensures)
 
 pub write-orbit-spec : {M : Type 1} → statement M

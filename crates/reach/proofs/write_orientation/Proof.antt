@@ -1,4 +1,5 @@
--- `reach::write_orientation` meets its contract. Assumes nothing.
+-- `reach::write_orientation` meets its contract: the answer of the call, as a number and a value.
+-- Assumes nothing.
 use mathlib.Core.Path.{refl, sym, ap, _∙_}
 use mathlib.Core.List.{[], _∷_}
 use lib.IntN.{ℤ}
@@ -60,7 +61,8 @@ returns-2 c =
     let s = f .before .args in
     let call = orientation-call (s .a) (s .b) (s .c) in
     let is = sym (d .oriented2 .given .1) ∙ f .orientation-of .ensures .answer .equal in
-    let served = ap oriented-outcome is ∙ answer-outcome oriented-outcome Oriented.Refused (λ r. refl) (call .rules) (call .value) refl in
+    let served = ap oriented-outcome is ∙ answer-outcome oriented-outcome Oriented.Refused
+    (λ r. refl) (call .rules) (call .value) refl in
     served-after (call .rules) (only (meaning-of call .values)) _ served
     (served-as
     (ap (λ (i : ℤ). i ∷ []) (toZ-ofZ w64 z (record { sfits = told .known-told2 .given .0 .1 }))

@@ -1,9 +1,11 @@
--- `reach::write_placed` meets its contract. Assumes nothing.
+-- `reach::write_placed` meets its contract: the file and the point are checked, and then the point is placed.
+-- Assumes nothing.
 use mathlib.Core.Path.{ap, _∙_}
 use Rattle.model.specs.declared.Map.{Map}
 use Rattle.model.specs.Placing.{place-call}
 use Rattle.reach.specs.Replies.{place-values}
-use Rattle.reach.proofs.OpenedFiles.{opened-sound, opened-near, opened-refused, opened-served}
+use Rattle.reach.proofs.OpenedFiles.{opened-sound, opened-near}
+use Rattle.reach.proofs.OpenedFiles.{opened-refused, opened-served}
 use borrow.Author.Needs.{needs}
 use Rattle.reach.proofs.write_placed.Statement.{statement}
 use Rattle.reach.proofs.write_placed.Tie as tie

@@ -1,5 +1,5 @@
--- `engine::files::save` meets its contract: the map is checked, then the room, and then its bytes are
--- written. Assumes nothing.
+-- `engine::files::save` meets its contract: the map is checked, then the room, and then its bytes
+-- are written. Assumes nothing.
 use borrow.Author.Needs.{needs}
 use mathlib.Core.List.{[], _∷_}
 use native.Mathlib.Omega.{arith}

@@ -1,4 +1,5 @@
--- `reach::opening::load_at` meets its contract. Assumes nothing.
+-- `reach::opening::load_at` meets its contract: the file is loaded, and then the dart looked for.
+-- Assumes nothing.
 use mathlib.Core.Path.{_≡_, sym, ap, _∙_}
 use mathlib.Core.Bool.{Bool, not}
 use mathlib.Core.List.{List, [], _∷_}
@@ -31,7 +32,8 @@ is-present-requires : tie.Need-is-present-requires
 is-present-requires c κs = search needs
 
 -- the dart is looked for in the map of the file
-present-tested : {s : List ℕ} {rules : List Rule} {l : Loaded} → Opened s rules l → l .outcome ≡ Outcome.Served →
+present-tested : {s : List ℕ} {rules : List Rule} {l : Loaded} → Opened s rules l →
+    l .outcome ≡ Outcome.Served →
     (d : ℕ) {r b : Bool} → r ≡ is-present (l .map) d → r ≡ b → not (is-present (map-in s) d) ≡ not b
 present-tested o e d is t =
     ap not (sym (ap (λ (m : Map). is-present m d) (o .map e)) ∙ sym is ∙ t)
@@ -45,7 +47,8 @@ returns c =
     let o = loads (l .load .ensures) in
     let e = m .enum-told .given .1 in
     served-further o (absent (map-in (now (s .file))) (s .dart) ∷ []) e
-    (rule-passes Outcome.Refused _ _ _ (present-tested o e (s .dart) (c .before .is-present .ensures) (c .if1 .taken))
+    (rule-passes Outcome.Refused _ _ _
+    (present-tested o e (s .dart) (c .before .is-present .ensures) (c .if1 .taken))
     (no-rule Outcome.Refused _))
 
 returns-2 : tie.Need-returns-2
@@ -64,7 +67,8 @@ returns-3 c =
     let o = loads (l .load .ensures) in
     let e = m .enum-told .given .1 in
     refused-further o (absent (map-in (now (s .file))) (s .dart) ∷ []) e _
-    (rule-applies Outcome.Refused _ _ _ (present-tested o e (s .dart) (c .before .is-present .ensures) (c .if1 .left)))
+    (rule-applies Outcome.Refused _ _ _
+    (present-tested o e (s .dart) (c .before .is-present .ensures) (c .if1 .left)))
 
 pub load-at-spec : {M : Type 1} → statement M
 load-at-spec =

@@ -1,4 +1,5 @@
--- `reach::opening::load_near` meets its contract. Assumes nothing.
+-- `reach::opening::load_near` meets its contract: the file is loaded, and then the range looked at.
+-- Assumes nothing.
 use mathlib.Core.Path.{sym, ap, _∙_}
 use mathlib.Core.Bool.{not}
 use mathlib.Core.List.{[], _∷_}
@@ -49,7 +50,8 @@ returns-3 c =
     let p = l .before .before .args .p in
     refused-further (loads (l .load .ensures)) ((Refusal.OutOfRange when not (in-range p)) ∷ [])
     (m .enum-told .given .1) _
-    (rule-applies Outcome.Refused _ _ _ (ap not (sym (d .before .in-range .ensures) ∙ d .if1 .left)))
+    (rule-applies Outcome.Refused _ _ _
+    (ap not (sym (d .before .in-range .ensures) ∙ d .if1 .left)))
 
 pub load-near-spec : {M : Type 1} → statement M
 load-near-spec =

@@ -1,4 +1,4 @@
--- `reach::values::arrival_outcome` meets its contract. Assumes nothing.
+-- `reach::values::arrival_outcome` meets its contract: arrival by arrival. Assumes nothing.
 use mathlib.Core.Path.{sym, ap}
 use Rattle.reach.specs.Replies.{arrival-outcome}
 use borrow.Author.Needs.{needs}

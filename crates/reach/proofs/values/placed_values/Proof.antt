@@ -1,4 +1,4 @@
--- `reach::values::placed_values` meets its contract. Assumes nothing.
+-- `reach::values::placed_values` meets its contract: place by place. Assumes nothing.
 use mathlib.Core.Path.{sym, ap}
 use Rattle.reach.specs.Replies.{place-values}
 use borrow.Author.Needs.{needs}

@@ -14,12 +14,15 @@ use Rattle.reach.proofs.writing.uncounted.Tie as tie
 
 returns : tie.Need-returns
 unfolding number
-returns c = rule-applies number _ _ 0 (lt-ltb text-limit (length (now (c .before .args .text))) (c .if1 .taken))
+returns c =
+    rule-applies number _ _ 0
+    (lt-ltb text-limit (length (now (c .before .args .text))) (c .if1 .taken))
 
 returns-2 : tie.Need-returns-2
 unfolding number
 returns-2 c =
-    rule-passes number _ _ 0 (le-ltb text-limit (length (now (c .before .args .text))) (c .if1 .left))
+    rule-passes number _ _ 0
+    (le-ltb text-limit (length (now (c .before .args .text))) (c .if1 .left))
     (rule-applies number (Refusal.ShortList when true) [] 0 refl)
 
 pub uncounted-spec : {M : Type 1} → statement M

@@ -1,4 +1,5 @@
--- `reach::writing::write_admitted` meets its contract. Assumes nothing.
+-- `reach::writing::write_admitted` meets its contract: the point's rules, and then what is written.
+-- Assumes nothing.
 use mathlib.Core.Path.{sym, ap, subst, _∙_}
 use mathlib.Core.List.{[]}
 use Rattle.model.specs.declared.Offered.{Offered}
@@ -32,7 +33,8 @@ write-offered-requires : tie.Need-write-offered-requires
 write-offered-requires c κs =
     let a = c .before .before .before .before .before in
     let s = a .before .before .before in
-    subst (λ (o : Offered). Sound (o .map)) (sym (a .admitted .ensures)) (admitted-sound (s .args .map) (s .args .p) (s .pre))
+    subst (λ (o : Offered). Sound (o .map)) (sym (a .admitted .ensures))
+    (admitted-sound (s .args .map) (s .args .p) (s .pre))
 
 returns : tie.Need-returns
 returns c =
@@ -60,10 +62,15 @@ returns-2 c =
     let f = t .before .before in
     let a = f .before in
     let s = a .before .before .before .args in
-    let served = sym (t .enum-told .given .1) ∙ f .arrival-outcome .ensures ∙ ap (λ (o : Offered). arrival-outcome (o .arrival)) (a .admitted .ensures) ∙ admitted-outcome (s .map) (s .p) in
+    let served = sym (t .enum-told .given .1) ∙ f .arrival-outcome .ensures ∙ ap
+    (λ (o : Offered). arrival-outcome (o .arrival)) (a .admitted .ensures) ∙ admitted-outcome
+    (s .map) (s .p) in
     both-served-after (admission-rules (s .map) (s .p)) [] _ _ _ _ served
-    (both-at (λ o. []) (λ (o : Offered). saved (o .map)) (λ (o : Offered). arrival-values (o .arrival))
-    (a .admitted .ensures ∙ sym (outcome-serves (refusing (s .map)) (arrive (s .map) (s .p)) (admission-rules (s .map) (s .p)) served))
+    (both-at (λ o. []) (λ (o : Offered). saved (o .map))
+    (λ (o : Offered). arrival-values (o .arrival))
+    (a .admitted .ensures ∙ sym
+    (outcome-serves (refusing (s .map)) (arrive (s .map) (s .p))
+    (admission-rules (s .map) (s .p)) served))
     (w .write-offered .ensures))
 
 pub write-admitted-spec : {M : Type 1} → statement M

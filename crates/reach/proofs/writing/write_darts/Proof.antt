@@ -1,4 +1,5 @@
--- `reach::writing::write_darts` meets its contract. Assumes nothing.
+-- `reach::writing::write_darts` meets its contract: the room is checked, then the words are written, and then the size.
+-- Assumes nothing.
 use mathlib.Core.Path.{ap, _∙_}
 use mathlib.Core.List.{List, [], _∷_, _++_}
 use Prim.Native.Nat.{ℕ}
@@ -11,7 +12,14 @@ use Rattle.reach.proofs.writing.write_darts.Statement.{statement}
 use Rattle.reach.proofs.writing.write_darts.Tie as tie
 
 returns : tie.Need-returns
-returns c = short-list _ _ (omega (arith, c .before .before .pre, length-append (c .before .before .args .t1 .words) (c .before .before .args .t1 .size ∷ []), c .if1 .taken))
+returns c =
+    short-list _ _ (omega (
+      arith,
+      c .before .before .pre,
+      length-append (c .before .before .args .t1 .words)
+          (c .before .before .args .t1 .size ∷ []),
+      c .if1 .taken,
+    ))
 
 write-words-requires : tie.Need-write-words-requires
 write-words-requires c κs = omega (arith, c .before .before .before .before .before .before .pre)
@@ -29,8 +37,10 @@ returns-2 c =
     let s = d .before .before in
     let words = s .args .t1 .words in
     let size = s .args .t1 .size in
-    with-room (words ++ size ∷ []) _ (omega (arith, s .pre, length-append words (size ∷ []), d .if1 .left))
-    (ap (λ (l : List ℕ). set l 16 size) (w .write-words .ensures ∙ ap (λ (n : ℕ). words ++ drop n (now (s .args .out))) (s .pre))
+    with-room (words ++ size ∷ []) _
+    (omega (arith, s .pre, length-append words (size ∷ []), d .if1 .left))
+    (ap (λ (l : List ℕ). set l 16 size)
+    (w .write-words .ensures ∙ ap (λ (n : ℕ). words ++ drop n (now (s .args .out))) (s .pre))
     ∙ one-more words (now (s .args .out)) size 16 (s .pre) (d .if1 .left))
 
 pub write-darts-spec : {M : Type 1} → statement M

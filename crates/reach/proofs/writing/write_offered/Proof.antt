@@ -1,11 +1,13 @@
--- `reach::writing::write_offered` meets its contract. Assumes nothing.
+-- `reach::writing::write_offered` meets its contract: the room of both lists is checked, and then both are written.
+-- Assumes nothing.
 use native.Mathlib.Omega.{arith}
 use denote.Ref.{now}
 use Rattle.model.specs.Saved.{saved}
 use Rattle.saved.proofs.Places.{length-saved}
 use Rattle.reach.specs.Replies.{arrival-values}
 use Rattle.reach.proofs.Arrived.{four-values}
-use Rattle.reach.proofs.Serving.{first-short, second-short, both-room, room-serves, served-as}
+use Rattle.reach.proofs.Serving.{first-short, second-short, both-room}
+use Rattle.reach.proofs.Serving.{room-serves, served-as}
 use borrow.Author.Needs.{needs}
 use Rattle.reach.proofs.writing.write_offered.Statement.{statement}
 use Rattle.reach.proofs.writing.write_offered.Tie as tie
@@ -58,7 +60,8 @@ returns-3 c =
     let four = four-values (s .offered .arrival) in
     let written = served-as (a .arrival-values .ensures) (v .write-values .ensures) in
     let room = room-serves (omega (arith, e .if2 .left)) written in
-    both-room (saved (s .offered .map)) (arrival-values (s .offered .arrival)) (now (s .out)) (now (s .arrival))
+    both-room (saved (s .offered .map)) (arrival-values (s .offered .arrival)) (now (s .out))
+    (now (s .arrival))
     (room .0)
     (omega (arith, length-saved (s .offered .map), d .before .saved-length .ensures, d .if1 .left))
     (omega (arith, e .if2 .left)) (w .write-map .ensures) (room .1)

@@ -1,5 +1,5 @@
--- `reach::writing::write_values` meets its contract: the room is checked, and then a step writes one
--- value. Assumes nothing.
+-- `reach::writing::write_values` meets its contract: the room is checked, and then a step writes
+-- one value. Assumes nothing.
 use Prim.Native.Nat.{_-_, _≤_}
 use native.Mathlib.Omega.{arith}
 use lib.ListN.{length}
@@ -53,7 +53,8 @@ returns-2 : tie.Need-returns-2 Inv-loop μ-loop
 returns-2 c =
     let at-loop = c .before in
     let values = at-loop .before .before .args .values .now in
-    with-room values _ (at-loop .loop .inv .2) (all-written _ _ (at-loop .loop .inv .0) (at-loop .loop .inv .1) (c .loop-test .left))
+    with-room values _ (at-loop .loop .inv .2)
+    (all-written _ _ (at-loop .loop .inv .0) (at-loop .loop .inv .1) (c .loop-test .left))
 
 pub write-values-spec : {M : Type 1} → statement M
 write-values-spec =

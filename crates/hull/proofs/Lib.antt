@@ -7,6 +7,7 @@
 --     Indices        what the code takes for an index lies within its array
 --     Seeing         the way round an outline on which a point looks for its corners
 --     Cases          from the answer that the code makes to the definition, case by case
+--     Admissions     from a sound map's coordinates to the offer of a point
 --     Corners        the listing is the rotated outline; the lowest corner is the only one
 --     CornerLoops    the loops that look for, list and write the corners
 --     Views          placing by one look at each edge

@@ -1,8 +1,9 @@
 -- What the functions of this crate require and answer. Nothing is assumed.
---     Requires    what the inner functions require of a map and a point
---     Sight       a corner that is sought; what is seen of an outline
---     Listing     a list of corners, and a lent list with room for it
---     Viewing     how a query point lies to an edge, and what is found in turn
+--     Requires     what the inner functions require of a map and a point
+--     Admission    why a sound map refuses a point, by its coordinates
+--     Sight        a corner that is sought; what is seen of an outline
+--     Listing      a list of corners, and a lent list with room for it
+--     Viewing      how a query point lies to an edge, and what is found in turn
 pub mod Requires
 pub mod Admission
 pub mod Sight

@@ -74,6 +74,31 @@ module _ (n : ℕ) where
   unfolding spelt
   spelt-length = decimal-length 20 n
 
+ten-power : (k : ℕ) → 1 ≤ 10 ^ k
+ten-power zero = omega arith
+ten-power (suc k) = omega (arith, ten-power k)
+
+-- so many digits, told by the powers of ten between which a number lies
+pub length-between : (k n : ℕ) → 10 ^ k ≤ n → n < 10 ^ suc k → n < 2 ^ 64 → length (spelt (pos n)) ≡ suc k
+length-between zero n low high fits = length-one n high
+length-between (suc k) n low high fits =
+    let h : 10 ≤ n = omega (arith, ten-power k) in
+    omega (arith, length-more n h fits, length-between k (n / 10) (omega arith) (omega arith) (omega arith))
+
+-- four digits less
+pub length-four-less : (n : ℕ) → 10000 ≤ n → n < 2 ^ 64 →
+    length (spelt (pos n)) ≡ length (spelt (pos (n / 10000))) + 4
+length-four-less n h fits =
+    let e : n / 10 / 10 / 10 / 10 ≡ n / 10000 = omega arith in
+    omega (
+      arith,
+      length-more n (omega arith) fits,
+      length-more (n / 10) (omega arith) (omega arith),
+      length-more (n / 10 / 10) (omega arith) (omega arith),
+      length-more (n / 10 / 10 / 10) (omega arith) (omega arith),
+      ap (λ (m : ℕ). length (spelt (pos m))) e,
+    )
+
 -- the sign, and the magnitude
 pub spelt-negative : (z : ℤ) → ltZ z (pos 0) ≡ true → spelt z ≡ minus ∷ spelt (pos (natAbs z))
 unfolding spelt

@@ -66,12 +66,27 @@ pub fn put_natural(lent: &mut [u8], at: usize, n: u64) -> usize
     }
 }
 
-// How many digits a number without a sign takes.
+// How many digits a number without a sign takes. Few digits are told by comparison, without a division.
 pub fn natural_length(n: u64) -> usize
     ensures { λ r. ⌜ r ≡ length (spelt (pos n)) ⌝ }
 {
-    let mut rest = n;
-    let mut count = 1;
+    if n < 10 {
+        return 1;
+    }
+    if n < 100 {
+        return 2;
+    }
+    if n < 1000 {
+        return 3;
+    }
+    if n < 10000 {
+        return 4;
+    }
+    if n < 100000 {
+        return 5;
+    }
+    let mut rest = n / 10000;
+    let mut count = 5;
     while 10 <= rest {
         rest = rest / 10;
         count += 1;

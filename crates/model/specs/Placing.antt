@@ -1,5 +1,5 @@
 -- Placing a query point, in the order of this page: what is asked of one corner and the edge that
--- leaves it; the number of edges that are strictly visible; the verdict; the answer of the call.
+-- leaves it; the number of edges that are strictly visible; the verdict; the call.
 -- Document 01: "Placing a point: "none" with fewer than two points; else its corner; else the
 -- outline edge strictly between whose ends it lies, of two such edges the first in listing order;
 -- else "inside" if all orientations are positive; else "outside" with the number of visible edges."
@@ -14,7 +14,7 @@ use Rattle.model.specs.declared.Point.{Point}
 use Rattle.model.specs.declared.Map.{Map}
 use Rattle.model.specs.declared.Placed.{Placed}
 use Rattle.model.specs.Refusals.{_when_}
-use Rattle.model.specs.Answers.{Call, answer-of, placed-answer}
+use Rattle.model.specs.Answers.{Call, placed-answer}
 use Rattle.model.specs.Plane.{in-range, same-point, left-of, visible-from, strictly-between}
 use Rattle.model.specs.Maps.{point}
 use Rattle.model.specs.Outline.{next-corner, corners}
@@ -55,6 +55,3 @@ place-call m p =
       rules = unsound m ∷ (Refusal.OutOfRange when not (in-range p)) ∷ [];
       value = cond (ltb (m .count) 2) Placed.NoOutline (place-among m p);
     }
-
-unfoldable pub place : Map → Point → Placed
-place m p = answer-of (place-call m p)

@@ -115,6 +115,3 @@ walker-call f m d =
       rules = dart-rules m d;
       value = Moved.At (walker-at (f d));
     }
-
-unfoldable pub moved : (ℕ → ℕ) → Map → ℕ → Moved
-moved f m d = answer-of (walker-call f m d)

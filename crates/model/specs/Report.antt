@@ -1,5 +1,5 @@
 -- The whole report on a survey text, a function from bytes to bytes, in the order of this page: a
--- printed line; the arrivals; the last two lines; the report; the answer of the call.
+-- printed line; the arrivals; the last two lines; the report; when a call for it is refused.
 -- Document 01, "The text program": "Fields: line number from 0, arrival, point numbers of the left
 -- and right corner, visible edges. A refused line prints `N refused R`. Counts are darts, vertices,
 -- edges, faces, parts. Each printed line ends in a line feed." Assumes nothing.
@@ -15,7 +15,6 @@ use Rattle.model.specs.declared.Line.{Line}
 use Rattle.model.specs.declared.Arrival.{Arrival}
 use Rattle.model.specs.declared.Offered.{Offered}
 use Rattle.model.specs.declared.Counted.{Counted}
-use Rattle.model.specs.declared.Written.{Written}
 use Rattle.model.specs.Spelling.{bytes, line-feed, space, spelt}
 use Rattle.model.specs.Refusals.{Rule, _when_}
 use Rattle.model.specs.Answers.{Answer, served, refused, arrival-answer, counted-answer}
@@ -25,7 +24,6 @@ use Rattle.model.specs.Reading.{counts}
 use Rattle.model.specs.Arrival.{arrived}
 use Rattle.model.specs.Offers.{offer}
 use Rattle.model.specs.Text.{line-read, lines}
-use Rattle.model.specs.Lent.{written}
 
 -- "text above 65,536 bytes"
 abbrev pub text-limit : ℕ
@@ -65,9 +63,6 @@ report text =
     bytes "OUTLINE 1\n"
     ++ cond (ltb text-limit (length text)) (printed (refused Refusal.LongText)) lines-reported
 
--- the report written into a lent list: number 9 writes nothing there
+-- a report that is written into a lent list: number 9 writes nothing there
 abbrev pub report-rules : List ℕ → List Rule
 report-rules text = (Refusal.LongText when ltb text-limit (length text)) ∷ []
-
-unfoldable pub reporting : List ℕ → List ℕ → Written
-reporting text lent = written (report-rules text) (report text) lent

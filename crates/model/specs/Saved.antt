@@ -16,12 +16,10 @@ use Rattle.model.specs.declared.Refusal.{Refusal}
 use Rattle.model.specs.declared.Map.{Map}
 use Rattle.model.specs.declared.Outcome.{Outcome}
 use Rattle.model.specs.declared.Loaded.{Loaded}
-use Rattle.model.specs.declared.Written.{Written}
 use Rattle.model.specs.Refusals.{_when_}
 use Rattle.model.specs.Answers.{Call, answer-of, outcome-answer}
 use Rattle.model.specs.Maps.{point-limit, own, point, has-helper, edge-link, empty-map}
 use Rattle.model.specs.Reading.{unsound}
-use Rattle.model.specs.Lent.{written}
 
 -- "version byte 1"
 abbrev pub version : ℕ
@@ -175,7 +173,3 @@ load-call s =
 unfoldable pub loaded : List ℕ → Loaded
 loaded s =
     answer-of (load-call s)
-
--- saving into a lent list
-unfoldable pub saving : Map → List ℕ → Written
-saving m lent = written (unsound m ∷ []) (saved m) lent

@@ -1,7 +1,7 @@
 -- The number of classes, in the order of this page: what `is-least` says; every dart reaches one
 -- least dart of its class; links that reach the same give the same number; the number is the length
 -- of every list with one dart of each class; joining two classes lowers it by one, for just one
--- least dart is lost; what a closed part is, and the number of closed walks.
+-- least dart is lost; what a closed part is.
 -- Assumes nothing.
 use mathlib.Core.Path.{_≡_, refl, sym, subst}
 use mathlib.Core.Logic.{_⊎_, inl, inr, ⊎-elim, _≢_, _↔_}
@@ -294,10 +294,3 @@ module _ {n : ℕ} {present : ℕ → Bool} {f g : ℕ → ℕ} (k : Keeps n pre
         all-of-elem (λ e. not (is-fixed f e) && not (is-fixed g e)) (reached (by-two f g) n a)
         (λ d t. both-move f g d .1 (m d (reaches-sound (by-two f g) n a d t))),
   )
-
--- ---- the number of closed walks
-
-module _ {n : ℕ} {present : ℕ → Bool} {f g : ℕ → ℕ} (p : Permutes n present f) (q : Permutes n present g) where
-  closed-dart : {d : ℕ} → Dart n (λ a. present a && is-closed f g n a) d → Dart n present d
-  closed-dart {d} h =
-      record { below = h .below; is-present = and-left (present d) (is-closed f g n d) (h .is-present) }

@@ -14,7 +14,7 @@ use lib.ListN.{length}
 use Rattle.finite.specs.Tests.{equal-by}
 use Rattle.finite.specs.Bounded.{count}
 use Rattle.finite.specs.Counting.{least-passing}
-use Rattle.finite.specs.Lists.{elem, distinct, ring, elem-head, elem-cases}
+use Rattle.finite.specs.Lists.{elem, distinct, elem-head, elem-cases}
 use Rattle.finite.specs.Cycles.{Chain, Cycle}
 use Rattle.finite.specs.ListLaws.{distinct-cons}
 use Rattle.finite.specs.CycleLaws.{cycle-holds}

@@ -16,7 +16,7 @@ use lib.ListN.{length, length-append}
 use lib.Signed.{_≤ℤ_, _<ℤ_}
 use Rattle.integers.specs.Order.{order, negℤ-splits, <ℤ-weaken, ≡-≤ℤ}
 use Rattle.finite.specs.Tests.{and-left, decide, same-or-not}
-use Rattle.finite.specs.Bounded.{any, lt-or-ge}
+use Rattle.finite.specs.Bounded.{lt-or-ge}
 use Rattle.finite.specs.Counting.{count-small}
 use Rattle.finite.specs.Lists.{elem, distinct, ring, length-distinct, all-in, elem-head, elem-tail, all-elem, some-fails}
 use Rattle.finite.specs.Cycles.{Chain, Cycle}

@@ -25,15 +25,12 @@ use Rattle.integers.specs.Range.{Bounded, +ℤ-bounded, -ℤ-bounded, *ℤ-boun
 use Rattle.finite.specs.Tests.{and-both}
 use Rattle.finite.specs.Lists.{elem}
 use Rattle.model.specs.declared.Point.{Point}
-use Rattle.model.specs.Plane.{at, coordinate-limit, orientation, left-of, visible-from, in-line, strictly-between}
+use Rattle.model.specs.Plane.{at, orientation, left-of, visible-from, in-line, strictly-between}
 use Rattle.plane.specs.OrientedAnswer.{Near}
 use Rattle.plane.specs.Between.{dot, opposite}
 use Rattle.plane.proofs.Orientation.{orientation-expr, orientation-twice, left-positive, positive-left, negative-visible, zero-in-line}
-use Rattle.plane.proofs.Bounds.{read-back, read-point}
+use Rattle.plane.proofs.Bounds.{span, read-back, read-point}
 use Rattle.plane.proofs.Convex.{Convex, next-member, prev-member, prev-next, next-prev, next-below, next-differs, next-not-prev, entering-left}
-
-abbrev span : ℕ
-span = coordinate-limit + coordinate-limit
 
 module _ (a b p : Point) (near : Near (a .x) (a .y) (b .x) (b .y) (p .x) (p .y)) where
   dot-bounded : Bounded (span * span + span * span) (dot a b p)

@@ -1,6 +1,6 @@
 -- The plane: identities first, then convex outlines. Nothing is assumed. Each uses those above it.
 --     Orientation    identities of the orientation, and what its tests say of its sign
---     Bounds         points in range: coordinates and orientation are bounded
+--     Bounds         points in range: coordinates, products of differences and orientation are bounded
 --     Fan            the sum of orientations round points is the same from every base point
 --     Knuth          Knuth's five axioms, and what they give within an angle
 --     Convex         a convex outline; not all of its edges are visible from a point

@@ -12,9 +12,6 @@ use Rattle.model.specs.Maps.{point-limit, no-dart, empty-map}
 use Rattle.maps.proofs.empty_map.Statement.{statement}
 use Rattle.maps.proofs.empty_map.Tie as tie
 
-fixed-links-requires : tie.Need-fixed-links-requires
-fixed-links-requires c κs = search needs
-
 abbrev linked : List ℕ → Map
 linked edge =
     record {
@@ -31,4 +28,4 @@ unfolding empty-map
 returns c = ap linked (c .fixed-links .ensures)
 
 pub empty-map-spec : {M : Type 1} → statement M
-empty-map-spec = tie.close (tie.spec fixed-links-requires returns)
+empty-map-spec = tie.close (tie.spec (λ c κs. search needs) returns)

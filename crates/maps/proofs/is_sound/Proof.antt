@@ -11,9 +11,6 @@ use Rattle.finite.specs.Loops.{both-asked, one-asked}
 use Rattle.maps.proofs.is_sound.Statement.{statement}
 use Rattle.maps.proofs.is_sound.Tie as tie
 
-points-sound-requires : tie.Need-points-sound-requires
-points-sound-requires c κs = search needs
-
 whole : (c : tie.Start) → Whole (c .args .m)
 whole c =
     record { of-xs = search needs; of-ys = search needs; of-helpers = search needs; of-edge = search needs }
@@ -56,7 +53,7 @@ pub is-sound-spec : {M : Type 1} → statement M
 is-sound-spec =
     tie.close
     (tie.spec
-    points-sound-requires
+    (λ c κs. search needs)
     links-sound-requires
     outline-sound-requires
     returns

@@ -25,23 +25,8 @@ in-loop c = c .before .before .before .before
 loop-holds : tie.Need-loop-holds Inv-loop μ-loop
 loop-holds c = none-filled (length-replicate {A = ℕ} dart-limit 0)
 
-link-of-requires : tie.Need-link-of-requires Inv-loop μ-loop
-link-of-requires c κs = search needs
-
-link-of-requires-2 : tie.Need-link-of-requires-2 Inv-loop μ-loop
-link-of-requires-2 c κs = search needs
-
-mul-both : tie.Need-mul-both Inv-loop μ-loop
-mul-both c = omega arith
-
 array-write-both : tie.Need-array-write-both Inv-loop μ-loop
 array-write-both c = in-loop c .loop-test .taken
-
-add-d : tie.Need-add-d Inv-loop μ-loop
-add-d c = omega arith
-
-loop-less : tie.Need-loop-less Inv-loop μ-loop
-loop-less c = omega arith
 
 loop-again : tie.Need-loop-again Inv-loop μ-loop
 loop-again c =
@@ -60,11 +45,11 @@ composed-spec =
     Inv-loop
     μ-loop
     loop-holds
-    link-of-requires
-    link-of-requires-2
-    mul-both
+    (λ c κs. search needs)
+    (λ c κs. search needs)
+    (λ c. omega arith)
     array-write-both
-    add-d
-    loop-less
+    (λ c. omega arith)
+    (λ c. omega arith)
     loop-again
     returns)

@@ -6,12 +6,6 @@ use Rattle.finite.specs.Lists.{getD-any}
 use Rattle.orbits.proofs.link_of.Statement.{statement}
 use Rattle.orbits.proofs.link_of.Tie as tie
 
-mul-result : tie.Need-mul-result
-mul-result c = search needs
-
-shared-slice-read-result : tie.Need-shared-slice-read-result
-shared-slice-read-result c = search needs
-
 returns : tie.Need-returns
 returns c =
     let s = c .before .before in
@@ -21,4 +15,4 @@ returns-2 : tie.Need-returns-2
 returns-2 c = sym (List·getD-eq-default (c .before .args .links .now) (c .before .args .d) (c .if1 .left))
 
 pub link-of-spec : {M : Type 1} → statement M
-link-of-spec = tie.close (tie.spec mul-result shared-slice-read-result returns returns-2)
+link-of-spec = tie.close (tie.spec (λ c. search needs) (λ c. search needs) returns returns-2)

@@ -6,12 +6,9 @@ use Rattle.orbits.proofs.Counts.{orbits-counted}
 use Rattle.orbits.proofs.orbit_count.Statement.{statement}
 use Rattle.orbits.proofs.orbit_count.Tie as tie
 
-part-counts-requires : tie.Need-part-counts-requires
-part-counts-requires c κs = search needs
-
 returns : tie.Need-returns
 returns c =
     ap (λ (r : PartCounts). r .parts) (c .part-counts .ensures) ∙ orbits-counted (c .before .pre .first .permutes)
 
 pub orbit-count-spec : {M : Type 1} → statement M
-orbit-count-spec = tie.close (tie.spec part-counts-requires returns)
+orbit-count-spec = tie.close (tie.spec (λ c κs. search needs) returns)

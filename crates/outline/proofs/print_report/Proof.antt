@@ -17,20 +17,8 @@ Inv-loop decided buffer₀ from₀ t6 buffer from =
 abbrev μ-loop : tie.MeasureT-loop
 μ-loop decided buffer₀ from₀ t6 buffer from = line-count (decided .ends) - from
 
-large-buffer-requires : tie.Need-large-buffer-requires Inv-loop μ-loop
-large-buffer-requires c κs = search needs
-
 loop-holds : tie.Need-loop-holds Inv-loop μ-loop
 loop-holds c = (omega arith, sym (c .large-buffer .ensures))
-
-slice-aggregate-write-lines : tie.Need-slice-aggregate-write-lines Inv-loop μ-loop
-slice-aggregate-write-lines c = search needs
-
-write-lines-requires : tie.Need-write-lines-requires Inv-loop μ-loop
-write-lines-requires c κs = search needs
-
-returns : tie.Need-returns Inv-loop μ-loop
-returns c = search needs
 
 -- what was written lies within the buffer, which is as long as before
 long : (c : tie.After-write-lines Inv-loop μ-loop) → length (c .write-lines .last .1 .1 .0) ≡ 65536
@@ -52,18 +40,6 @@ slice-aggregate-write-all c =
       fits call,
       length-take (call .write-lines .result .length) (call .write-lines .last .1 .1 .0),
     )
-
-write-all-requires : tie.Need-write-all-requires Inv-loop μ-loop
-write-all-requires c κs = search needs
-
-slice-aggregate-write-all-2 : tie.Need-slice-aggregate-write-all-2 Inv-loop μ-loop
-slice-aggregate-write-all-2 c = search needs
-
-write-all-requires-2 : tie.Need-write-all-requires-2 Inv-loop μ-loop
-write-all-requires-2 c κs = search needs
-
-returns-2 : tie.Need-returns-2 Inv-loop μ-loop
-returns-2 c = search needs
 
 loop-less : tie.Need-loop-less Inv-loop μ-loop
 loop-less c =
@@ -88,16 +64,16 @@ print-report-spec =
     (tie.spec
     Inv-loop
     μ-loop
-    large-buffer-requires
+    (λ c κs. search needs)
     loop-holds
-    slice-aggregate-write-lines
-    write-lines-requires
-    returns
+    (λ c. search needs)
+    (λ c κs. search needs)
+    (λ c. search needs)
     array-share-prefix-buffer
     slice-aggregate-write-all
-    write-all-requires
-    slice-aggregate-write-all-2
-    write-all-requires-2
-    returns-2
+    (λ c κs. search needs)
+    (λ c. search needs)
+    (λ c κs. search needs)
+    (λ c. search needs)
     loop-less
     loop-again)

@@ -4,12 +4,9 @@ use Rattle.model.specs.Plane.{sees-edge}
 use Rattle.plane.proofs.sees_edge.Statement.{statement}
 use Rattle.plane.proofs.sees_edge.Tie as tie
 
-is-visible-from-requires : tie.Need-is-visible-from-requires
-is-visible-from-requires c κs = search needs
-
 returns : tie.Need-returns
 unfolding sees-edge
 returns c = c .is-visible-from .ensures
 
 pub sees-edge-spec : {M : Type 1} → statement M
-sees-edge-spec = tie.close (tie.spec is-visible-from-requires returns)
+sees-edge-spec = tie.close (tie.spec (λ c κs. search needs) returns)

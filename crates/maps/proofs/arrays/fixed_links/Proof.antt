@@ -18,18 +18,6 @@ abbrev μ-loop : tie.MeasureT-loop
 loop-holds : tie.Need-loop-holds Inv-loop μ-loop
 loop-holds c = none-filled (length-replicate {A = ℕ} dart-limit 0)
 
-mul-edge : tie.Need-mul-edge Inv-loop μ-loop
-mul-edge c = omega arith
-
-array-write-edge : tie.Need-array-write-edge Inv-loop μ-loop
-array-write-edge c = omega arith
-
-add-d : tie.Need-add-d Inv-loop μ-loop
-add-d c = omega arith
-
-loop-less : tie.Need-loop-less Inv-loop μ-loop
-loop-less c = omega arith
-
 loop-again : tie.Need-loop-again Inv-loop μ-loop
 loop-again c = one-filled (c .before .loop .d) (c .before .loop .inv) (omega arith) (c .before .loop .d) refl
 
@@ -43,9 +31,9 @@ fixed-links-spec =
     Inv-loop
     μ-loop
     loop-holds
-    mul-edge
-    array-write-edge
-    add-d
-    loop-less
+    (λ c. omega arith)
+    (λ c. omega arith)
+    (λ c. omega arith)
+    (λ c. omega arith)
     loop-again
     returns)

@@ -31,9 +31,6 @@ abbrev μ-loop : tie.MeasureT-loop
 loop-holds : tie.Need-loop-holds Inv-loop μ-loop
 loop-holds c = none-passed _ 0
 
-is-present-or-fixed-requires : tie.Need-is-present-or-fixed-requires Inv-loop μ-loop
-is-present-or-fixed-requires c κs = search needs
-
 module _ (c : tie.After-is-present-or-fixed Inv-loop μ-loop) where
   abbrev at-loop : tie.At-loop Inv-loop μ-loop
   at-loop = c .before .before .before .before .before .before .before
@@ -47,12 +44,6 @@ module _ (c : tie.After-is-present-or-fixed Inv-loop μ-loop) where
 
 returns : tie.Need-returns Inv-loop μ-loop
 returns c = one-failed (iteration (c .before)) (tests (map (c .before))) (omega arith) (c .if1 .taken)
-
-add-d : tie.Need-add-d Inv-loop μ-loop
-add-d c = omega arith
-
-loop-less : tie.Need-loop-less Inv-loop μ-loop
-loop-less c = omega arith
 
 loop-again : tie.Need-loop-again Inv-loop μ-loop
 loop-again c = one-passed (iteration (c .before)) (c .if1 .left)
@@ -69,9 +60,9 @@ absent-fixed-spec =
     Inv-loop
     μ-loop
     loop-holds
-    is-present-or-fixed-requires
+    (λ c κs. search needs)
     returns
-    add-d
-    loop-less
+    (λ c. omega arith)
+    (λ c. omega arith)
     loop-again
     returns-2)

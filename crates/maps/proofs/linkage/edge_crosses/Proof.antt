@@ -6,14 +6,8 @@ use borrow.Author.Tests.{eq-eqb, ne-eqb, not-true, not-false}
 use Rattle.maps.proofs.linkage.edge_crosses.Statement.{statement}
 use Rattle.maps.proofs.linkage.edge_crosses.Tie as tie
 
-is-present-requires : tie.Need-is-present-requires
-is-present-requires c κs = search needs
-
 returns : tie.Need-returns
 returns c = rw (sym (c .before .is-present .ensures) ∙ not-true _ (c .if1 .taken))
-
-link-of-requires : tie.Need-link-of-requires
-link-of-requires c κs = search needs
 
 returns-2 : tie.Need-returns-2
 returns-2 c =
@@ -47,4 +41,4 @@ returns-4 c =
 pub edge-crosses-spec : {M : Type 1} → statement M
 edge-crosses-spec =
     tie.close
-    (tie.spec is-present-requires returns link-of-requires returns-2 returns-3 returns-4)
+    (tie.spec (λ c κs. search needs) returns (λ c κs. search needs) returns-2 returns-3 returns-4)

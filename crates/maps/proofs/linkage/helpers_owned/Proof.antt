@@ -5,12 +5,9 @@ use Rattle.model.specs.Sound.{helpers-owned}
 use Rattle.maps.proofs.linkage.helpers_owned.Statement.{statement}
 use Rattle.maps.proofs.linkage.helpers_owned.Tie as tie
 
-is-bare-from-requires : tie.Need-is-bare-from-requires
-is-bare-from-requires c κs = search needs
-
 returns : tie.Need-returns
 unfolding helpers-owned
 returns c = c .is-bare-from .ensures
 
 pub helpers-owned-spec : {M : Type 1} → statement M
-helpers-owned-spec = tie.close (tie.spec is-bare-from-requires returns)
+helpers-owned-spec = tie.close (tie.spec (λ c κs. search needs) returns)

@@ -25,9 +25,6 @@ abbrev μ-loop : tie.MeasureT-loop
 loop-holds : tie.Need-loop-holds Inv-loop μ-loop
 loop-holds c = none-passed _ (c .before .args .n)
 
-has-helper-requires : tie.Need-has-helper-requires Inv-loop μ-loop
-has-helper-requires c κs = search needs
-
 module _ (c : tie.After-has-helper Inv-loop μ-loop) where
   abbrev at-loop : tie.At-loop Inv-loop μ-loop
   at-loop = c .before .before
@@ -40,12 +37,6 @@ module _ (c : tie.After-has-helper Inv-loop μ-loop) where
 
 returns : tie.Need-returns Inv-loop μ-loop
 returns c = one-failed (iteration (c .before)) (from-on _ _ false not) (omega arith) (not-twice (c .if1 .taken))
-
-add-k : tie.Need-add-k Inv-loop μ-loop
-add-k c = omega arith
-
-loop-less : tie.Need-loop-less Inv-loop μ-loop
-loop-less c = omega arith
 
 loop-again : tie.Need-loop-again Inv-loop μ-loop
 loop-again c = one-passed (iteration (c .before)) (not-twice (c .if1 .left))
@@ -60,9 +51,9 @@ is-bare-from-spec =
     Inv-loop
     μ-loop
     loop-holds
-    has-helper-requires
+    (λ c κs. search needs)
     returns
-    add-k
-    loop-less
+    (λ c. omega arith)
+    (λ c. omega arith)
     loop-again
     returns-2)

@@ -5,18 +5,6 @@ use mathlib.Core.Path.{sym, _∙_}
 use Rattle.maps.proofs.linkage.is_paired_or_fixed.Statement.{statement}
 use Rattle.maps.proofs.linkage.is_paired_or_fixed.Tie as tie
 
-has-helper-requires : tie.Need-has-helper-requires
-has-helper-requires c κs = search needs
-
-mul-link-of : tie.Need-mul-link-of
-mul-link-of c = search needs
-
-link-of-requires : tie.Need-link-of-requires
-link-of-requires c κs = search needs
-
-mul-result : tie.Need-mul-result
-mul-result c = search needs
-
 returns : tie.Need-returns
 returns c = rw (sym (c .before .has-helper .ensures) ∙ c .if1 .taken)
 
@@ -26,4 +14,4 @@ returns-2 c = rw (sym (c .before .before .has-helper .ensures) ∙ c .before .if
 pub is-paired-or-fixed-spec : {M : Type 1} → statement M
 is-paired-or-fixed-spec =
     tie.close
-    (tie.spec has-helper-requires mul-link-of link-of-requires mul-result returns returns-2)
+    (tie.spec (λ c κs. search needs) (λ c. search needs) (λ c κs. search needs) (λ c. search needs) returns returns-2)

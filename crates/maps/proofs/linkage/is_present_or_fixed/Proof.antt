@@ -5,12 +5,6 @@ use mathlib.Core.Path.{sym, _∙_}
 use Rattle.maps.proofs.linkage.is_present_or_fixed.Statement.{statement}
 use Rattle.maps.proofs.linkage.is_present_or_fixed.Tie as tie
 
-is-present-requires : tie.Need-is-present-requires
-is-present-requires c κs = search needs
-
-link-of-requires : tie.Need-link-of-requires
-link-of-requires c κs = search needs
-
 returns : tie.Need-returns
 returns c = rw (sym (c .before .is-present .ensures) ∙ c .if1 .taken) (c .if1 .taken)
 
@@ -19,4 +13,4 @@ returns-2 c = rw (sym (c .before .before .is-present .ensures) ∙ c .before .if
 
 pub is-present-or-fixed-spec : {M : Type 1} → statement M
 is-present-or-fixed-spec =
-    tie.close (tie.spec is-present-requires link-of-requires returns returns-2)
+    tie.close (tie.spec (λ c κs. search needs) (λ c κs. search needs) returns returns-2)

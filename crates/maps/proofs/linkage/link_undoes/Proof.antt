@@ -5,18 +5,6 @@ use mathlib.Core.Path.{sym, _∙_}
 use Rattle.maps.proofs.linkage.link_undoes.Statement.{statement}
 use Rattle.maps.proofs.linkage.link_undoes.Tie as tie
 
-is-present-requires : tie.Need-is-present-requires
-is-present-requires c κs = search needs
-
-link-of-requires : tie.Need-link-of-requires
-link-of-requires c κs = search needs
-
-is-present-requires-2 : tie.Need-is-present-requires-2
-is-present-requires-2 c κs = search needs
-
-link-of-requires-2 : tie.Need-link-of-requires-2
-link-of-requires-2 c κs = search needs
-
 returns : tie.Need-returns
 returns c =
     let first = c .before .before .before in
@@ -43,10 +31,10 @@ pub link-undoes-spec : {M : Type 1} → statement M
 link-undoes-spec =
     tie.close
     (tie.spec
-    is-present-requires
-    link-of-requires
-    is-present-requires-2
-    link-of-requires-2
+    (λ c κs. search needs)
+    (λ c κs. search needs)
+    (λ c κs. search needs)
+    (λ c κs. search needs)
     returns
     returns-2
     returns-3)

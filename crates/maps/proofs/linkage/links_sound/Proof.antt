@@ -9,21 +9,6 @@ use Rattle.finite.specs.Loops.{both-asked, one-asked}
 use Rattle.maps.proofs.linkage.links_sound.Statement.{statement}
 use Rattle.maps.proofs.linkage.links_sound.Tie as tie
 
-helpers-owned-requires : tie.Need-helpers-owned-requires
-helpers-owned-requires c κs = search needs
-
-absent-fixed-requires : tie.Need-absent-fixed-requires
-absent-fixed-requires c κs = search needs
-
-links-undo-requires : tie.Need-links-undo-requires
-links-undo-requires c κs = search needs
-
-edges-cross-requires : tie.Need-edges-cross-requires
-edges-cross-requires c κs = search needs
-
-lone-fixed-requires : tie.Need-lone-fixed-requires
-lone-fixed-requires c κs = search needs
-
 first-two : (c : tie.Joined1) →
     let m = c .before .before .args .m in
     c .if1 .if2 ≡ (helpers-owned m && absent-fixed m)
@@ -64,10 +49,10 @@ pub links-sound-spec : {M : Type 1} → statement M
 links-sound-spec =
     tie.close
     (tie.spec
-    helpers-owned-requires
-    absent-fixed-requires
-    links-undo-requires
-    edges-cross-requires
-    lone-fixed-requires
+    (λ c κs. search needs)
+    (λ c κs. search needs)
+    (λ c κs. search needs)
+    (λ c κs. search needs)
+    (λ c κs. search needs)
     returns
     returns-2)

@@ -26,14 +26,8 @@ Inv-loop m n d₀ d-end d = Passed (here m) 0 d
 abbrev μ-loop : tie.MeasureT-loop
 μ-loop m n d₀ d-end d = d-end - d
 
-mul-d-end : tie.Need-mul-d-end Inv-loop μ-loop
-mul-d-end c = omega arith
-
 loop-holds : tie.Need-loop-holds Inv-loop μ-loop
 loop-holds c = none-passed _ 0
-
-link-undoes-requires : tie.Need-link-undoes-requires Inv-loop μ-loop
-link-undoes-requires c κs = search needs
 
 module _ (c : tie.After-link-undoes Inv-loop μ-loop) where
   abbrev at-loop : tie.At-loop Inv-loop μ-loop
@@ -49,12 +43,6 @@ module _ (c : tie.After-link-undoes Inv-loop μ-loop) where
 returns : tie.Need-returns Inv-loop μ-loop
 returns c = one-failed (iteration (c .before)) (tests (map (c .before))) (omega arith) (c .if1 .taken)
 
-add-d : tie.Need-add-d Inv-loop μ-loop
-add-d c = omega arith
-
-loop-less : tie.Need-loop-less Inv-loop μ-loop
-loop-less c = omega arith
-
 loop-again : tie.Need-loop-again Inv-loop μ-loop
 loop-again c = one-passed (iteration (c .before)) (c .if1 .left)
 
@@ -67,11 +55,11 @@ links-undo-spec =
     (tie.spec
     Inv-loop
     μ-loop
-    mul-d-end
+    (λ c. omega arith)
     loop-holds
-    link-undoes-requires
+    (λ c κs. search needs)
     returns
-    add-d
-    loop-less
+    (λ c. omega arith)
+    (λ c. omega arith)
     loop-again
     returns-2)

@@ -28,9 +28,6 @@ abbrev μ-loop : tie.MeasureT-loop
 loop-holds : tie.Need-loop-holds Inv-loop μ-loop
 loop-holds c = none-passed _ 0
 
-is-paired-or-fixed-requires : tie.Need-is-paired-or-fixed-requires Inv-loop μ-loop
-is-paired-or-fixed-requires c κs = omega arith
-
 module _ (c : tie.After-is-paired-or-fixed Inv-loop μ-loop) where
   abbrev at-loop : tie.At-loop Inv-loop μ-loop
   at-loop = c .before .before .before .before .before .before .before
@@ -45,12 +42,6 @@ module _ (c : tie.After-is-paired-or-fixed Inv-loop μ-loop) where
 returns : tie.Need-returns Inv-loop μ-loop
 returns c = one-failed (iteration (c .before)) (tests (map (c .before))) (omega arith) (c .if1 .taken)
 
-add-k : tie.Need-add-k Inv-loop μ-loop
-add-k c = omega arith
-
-loop-less : tie.Need-loop-less Inv-loop μ-loop
-loop-less c = omega arith
-
 loop-again : tie.Need-loop-again Inv-loop μ-loop
 loop-again c = one-passed (iteration (c .before)) (c .if1 .left)
 
@@ -64,9 +55,9 @@ lone-fixed-spec =
     Inv-loop
     μ-loop
     loop-holds
-    is-paired-or-fixed-requires
+    (λ c κs. omega arith)
     returns
-    add-k
-    loop-less
+    (λ c. omega arith)
+    (λ c. omega arith)
     loop-again
     returns-2)

@@ -18,9 +18,6 @@ abbrev μ-loop : tie.MeasureT-loop
 loop-holds : tie.Need-loop-holds Inv-loop μ-loop
 loop-holds c = none-passed _ 0
 
-is-outside-or-moved-requires : tie.Need-is-outside-or-moved-requires Inv-loop μ-loop
-is-outside-or-moved-requires c κs = search needs
-
 module _ (c : tie.After-is-outside-or-moved Inv-loop μ-loop) where
   abbrev at-loop : tie.At-loop Inv-loop μ-loop
   at-loop = c .before .before
@@ -35,12 +32,6 @@ module _ (c : tie.After-is-outside-or-moved Inv-loop μ-loop) where
 returns : tie.Need-returns Inv-loop μ-loop
 returns c = one-failed (iteration (c .before)) (below dart-limit _) (omega arith) (c .if1 .taken)
 
-add-e : tie.Need-add-e Inv-loop μ-loop
-add-e c = omega arith
-
-loop-less : tie.Need-loop-less Inv-loop μ-loop
-loop-less c = omega arith
-
 loop-again : tie.Need-loop-again Inv-loop μ-loop
 loop-again c = one-passed (iteration (c .before)) (c .if1 .left)
 
@@ -54,9 +45,9 @@ all-moved-spec =
     Inv-loop
     μ-loop
     loop-holds
-    is-outside-or-moved-requires
+    (λ c κs. search needs)
     returns
-    add-e
-    loop-less
+    (λ c. omega arith)
+    (λ c. omega arith)
     loop-again
     returns-2)

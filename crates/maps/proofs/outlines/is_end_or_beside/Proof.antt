@@ -16,15 +16,6 @@ returns c = rw (eq-eqb _ _ (c .if1 .taken))
 returns-2 : tie.Need-returns-2
 returns-2 c = rw (ne-eqb _ _ (c .before .if1 .left), eq-eqb _ _ (c .if2 .taken))
 
-point-at-requires : tie.Need-point-at-requires
-point-at-requires c κs = search needs
-
-point-at-requires-2 : tie.Need-point-at-requires-2
-point-at-requires-2 c κs = search needs
-
-point-at-requires-3 : tie.Need-point-at-requires-3
-point-at-requires-3 c κs = search needs
-
 is-beside-requires : tie.Need-is-beside-requires
 is-beside-requires c κs =
     let pa = c .before .before .point-at in
@@ -52,8 +43,8 @@ is-end-or-beside-spec =
     (tie.spec
     returns
     returns-2
-    point-at-requires
-    point-at-requires-2
-    point-at-requires-3
+    (λ c κs. search needs)
+    (λ c κs. search needs)
+    (λ c κs. search needs)
     is-beside-requires
     returns-3)

@@ -6,15 +6,6 @@ use borrow.Author.Tests.{eq-eqb, ne-eqb}
 use Rattle.maps.proofs.outlines.is_outside_or_moved.Statement.{statement}
 use Rattle.maps.proofs.outlines.is_outside_or_moved.Tie as tie
 
-contains-requires : tie.Need-contains-requires
-contains-requires c κs = search needs
-
-link-of-requires : tie.Need-link-of-requires
-link-of-requires c κs = search needs
-
-link-of-requires-2 : tie.Need-link-of-requires-2
-link-of-requires-2 c κs = search needs
-
 returns : tie.Need-returns
 returns c =
     let first = c .before .before in
@@ -41,9 +32,9 @@ pub is-outside-or-moved-spec : {M : Type 1} → statement M
 is-outside-or-moved-spec =
     tie.close
     (tie.spec
-    contains-requires
-    link-of-requires
-    link-of-requires-2
+    (λ c κs. search needs)
+    (λ c κs. search needs)
+    (λ c κs. search needs)
     returns
     returns-2
     returns-3)

@@ -33,12 +33,6 @@ module _ (c : tie.After-is-end-or-beside Inv-loop μ-loop) where
 returns : tie.Need-returns Inv-loop μ-loop
 returns c = one-failed (iteration (c .before)) (below (at-start (c .before) .args .n) _) (omega arith) (c .if1 .taken)
 
-add-c : tie.Need-add-c Inv-loop μ-loop
-add-c c = omega arith
-
-loop-less : tie.Need-loop-less Inv-loop μ-loop
-loop-less c = omega arith
-
 loop-again : tie.Need-loop-again Inv-loop μ-loop
 loop-again c = one-passed (iteration (c .before)) (c .if1 .left)
 
@@ -54,7 +48,7 @@ is-supporting-edge-spec =
     loop-holds
     is-end-or-beside-requires
     returns
-    add-c
-    loop-less
+    (λ c. omega arith)
+    (λ c. omega arith)
     loop-again
     returns-2)

@@ -6,9 +6,6 @@ use Rattle.model.specs.Sound.{no-outline}
 use Rattle.maps.proofs.outlines.no_outline.Statement.{statement}
 use Rattle.maps.proofs.outlines.no_outline.Tie as tie
 
-is-bare-from-requires : tie.Need-is-bare-from-requires
-is-bare-from-requires c κs = search needs
-
 returns : tie.Need-returns
 unfolding no-outline
 returns c = sym (rw (sym (c .before .is-bare-from .ensures) ∙ c .if1 .taken))
@@ -18,4 +15,4 @@ unfolding no-outline
 returns-2 c = c .if1 .left ∙ sym (rw (sym (c .before .is-bare-from .ensures) ∙ c .if1 .left))
 
 pub no-outline-spec : {M : Type 1} → statement M
-no-outline-spec = tie.close (tie.spec is-bare-from-requires returns returns-2)
+no-outline-spec = tie.close (tie.spec (λ c κs. search needs) returns returns-2)

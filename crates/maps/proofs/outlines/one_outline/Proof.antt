@@ -19,15 +19,6 @@ use Rattle.maps.proofs.Tables.{point-table, present-table, undone-invol
 use Rattle.maps.proofs.outlines.one_outline.Statement.{statement}
 use Rattle.maps.proofs.outlines.one_outline.Tie as tie
 
-point-links-requires : tie.Need-point-links-requires
-point-links-requires c κs = search needs
-
-present-darts-requires : tie.Need-present-darts-requires
-present-darts-requires c κs = search needs
-
-mul-part-counts : tie.Need-mul-part-counts
-mul-part-counts c = search needs
-
 -- where the arrays are at-point-links
 module _ (c : tie.After-present) where
   abbrev at-point-links : tie.After-point-links
@@ -75,8 +66,8 @@ pub one-outline-spec : {M : Type 1} → statement M
 one-outline-spec =
     tie.close
     (tie.spec
-    point-links-requires
-    present-darts-requires
-    mul-part-counts
+    (λ c κs. search needs)
+    (λ c κs. search needs)
+    (λ c. search needs)
     part-counts-requires
     returns)

@@ -47,9 +47,6 @@ returns c = rw (lt-ltb _ _ (c .if1 .taken))
 loop-holds : tie.Need-loop-holds Inv-loop μ-loop
 loop-holds c = begun (c .before .args .t1) (c .if1 .left)
 
-next-corner-requires : tie.Need-next-corner-requires Inv-loop μ-loop
-next-corner-requires c κs = search needs
-
 is-supporting-edge-requires : tie.Need-is-supporting-edge-requires Inv-loop μ-loop
 unfolding point
 is-supporting-edge-requires c κs =
@@ -89,12 +86,6 @@ returns-2 c = corner-failed (corner (c .before)) (c .if2 .taken)
 returns-3 : tie.Need-returns-3 Inv-loop μ-loop
 returns-3 c = came-round (corner (c .before .before)) (c .before .if2 .left) (c .if3 .taken)
 
-add-counter : tie.Need-add-counter Inv-loop μ-loop
-add-counter c = omega arith
-
-loop-less : tie.Need-loop-less Inv-loop μ-loop
-loop-less c = omega arith
-
 loop-again : tie.Need-loop-again Inv-loop μ-loop
 loop-again c = corner-passed (corner (c .before .before)) (c .before .if2 .left) (c .if3 .left)
 
@@ -109,11 +100,11 @@ others-left-spec =
     μ-loop
     returns
     loop-holds
-    next-corner-requires
+    (λ c κs. search needs)
     is-supporting-edge-requires
     returns-2
     returns-3
-    add-counter
-    loop-less
+    (λ c. omega arith)
+    (λ c. omega arith)
     loop-again
     returns-4)

@@ -10,20 +10,8 @@ use Rattle.finite.specs.Loops.{both-asked, one-asked}
 use Rattle.maps.proofs.outlines.outline_sound.Statement.{statement}
 use Rattle.maps.proofs.outlines.outline_sound.Tie as tie
 
-no-outline-requires : tie.Need-no-outline-requires
-no-outline-requires c κs = search needs
-
 returns : tie.Need-returns
 returns c = c .no-outline .ensures ∙ sym (outline-of-few _ (c .before .if1 .taken))
-
-one-outline-requires : tie.Need-one-outline-requires
-one-outline-requires c κs = search needs
-
-reference-on-outline-requires : tie.Need-reference-on-outline-requires
-reference-on-outline-requires c κs = search needs
-
-others-left-requires : tie.Need-others-left-requires
-others-left-requires c κs = search needs
 
 first-two : (c : tie.Joined2) →
     let m = c .before .before .before .before .args .m in
@@ -50,10 +38,10 @@ pub outline-sound-spec : {M : Type 1} → statement M
 outline-sound-spec =
     tie.close
     (tie.spec
-    no-outline-requires
+    (λ c κs. search needs)
     returns
-    one-outline-requires
-    reference-on-outline-requires
-    others-left-requires
+    (λ c κs. search needs)
+    (λ c κs. search needs)
+    (λ c κs. search needs)
     returns-2
     returns-3)

@@ -45,9 +45,6 @@ returns : tie.Need-returns
 unfolding reference-on-outline
 returns c = rw (ne-eqb _ _ (c .if1 .taken))
 
-is-present-requires : tie.Need-is-present-requires
-is-present-requires c κs = search needs
-
 returns-2 : tie.Need-returns-2
 unfolding reference-on-outline
 returns-2 c =
@@ -55,9 +52,6 @@ returns-2 c =
       asked-own (c .before .before .before .before .before),
       sym (asked-present (c .before)) ∙ not-true _ (c .if2 .taken),
     )
-
-point-links-requires : tie.Need-point-links-requires
-point-links-requires c κs = search needs
 
 -- where the point links are filled, past the two tests of the reference
 module _ (c : tie.After-point-links) where
@@ -103,15 +97,6 @@ part-requires c κs =
           (part-stays (undone-keeps m (at-start d .pre .1)) (within d) (there d));
     }
 
-slice-aggregate-all-moved : tie.Need-slice-aggregate-all-moved
-slice-aggregate-all-moved c = search needs
-
-slice-aggregate-all-moved-2 : tie.Need-slice-aggregate-all-moved-2
-slice-aggregate-all-moved-2 c = search needs
-
-all-moved-requires : tie.Need-all-moved-requires
-all-moved-requires c κs = search needs
-
 returns-3 : tie.Need-returns-3
 unfolding reference-on-outline edge-link
 returns-3 c =
@@ -130,11 +115,11 @@ reference-on-outline-spec =
     tie.close
     (tie.spec
     returns
-    is-present-requires
+    (λ c κs. search needs)
     returns-2
-    point-links-requires
+    (λ c κs. search needs)
     part-requires
-    slice-aggregate-all-moved
-    slice-aggregate-all-moved-2
-    all-moved-requires
+    (λ c. search needs)
+    (λ c. search needs)
+    (λ c κs. search needs)
     returns-3)

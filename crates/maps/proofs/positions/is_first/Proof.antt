@@ -6,16 +6,10 @@ use Rattle.maps.specs.Checks.{new-at}
 use Rattle.maps.proofs.positions.is_first.Statement.{statement}
 use Rattle.maps.proofs.positions.is_first.Tie as tie
 
-point-at-requires : tie.Need-point-at-requires
-point-at-requires c κs = search needs
-
-is-new-requires : tie.Need-is-new-requires
-is-new-requires c κs = search needs
-
 returns : tie.Need-returns
 returns c =
     let a = c .before .before .args in
     c .is-new .ensures ∙ ap (new-at (a .xs .now) (a .ys .now) (a .k)) (c .before .point-at .ensures)
 
 pub is-first-spec : {M : Type 1} → statement M
-is-first-spec = tie.close (tie.spec point-at-requires is-new-requires returns)
+is-first-spec = tie.close (tie.spec (λ c κs. search needs) (λ c κs. search needs) returns)

@@ -30,9 +30,6 @@ abbrev μ-loop : tie.MeasureT-loop
 loop-holds : tie.Need-loop-holds Inv-loop μ-loop
 loop-holds c = none-passed _ (c .args .n)
 
-coordinate-requires : tie.Need-coordinate-requires Inv-loop μ-loop
-coordinate-requires c κs = search needs
-
 module _ (c : tie.After-coordinate Inv-loop μ-loop) where
   abbrev at-loop : tie.At-loop Inv-loop μ-loop
   at-loop = c .before .before
@@ -56,12 +53,6 @@ returns c =
     one-failed (iteration (c .before)) (from-on _ _ (pos 0) (eqZ (pos 0))) (omega arith)
     (ap not (ne-eqb 0 _ (λ e. c .if1 .taken (sym e))))
 
-add-k : tie.Need-add-k Inv-loop μ-loop
-add-k c = omega arith
-
-loop-less : tie.Need-loop-less Inv-loop μ-loop
-loop-less c = omega arith
-
 loop-again : tie.Need-loop-again Inv-loop μ-loop
 loop-again c = one-passed (iteration (c .before)) (ap not (eq-eqb 0 _ (sym (c .if1 .left))))
 
@@ -75,9 +66,9 @@ is-zero-from-spec =
     Inv-loop
     μ-loop
     loop-holds
-    coordinate-requires
+    (λ c κs. search needs)
     returns
-    add-k
-    loop-less
+    (λ c. omega arith)
+    (λ c. omega arith)
     loop-again
     returns-2)

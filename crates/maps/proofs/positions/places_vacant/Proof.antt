@@ -6,12 +6,6 @@ use Rattle.model.specs.Sound.{places-vacant}
 use Rattle.maps.proofs.positions.places_vacant.Statement.{statement}
 use Rattle.maps.proofs.positions.places_vacant.Tie as tie
 
-is-zero-from-requires : tie.Need-is-zero-from-requires
-is-zero-from-requires c κs = search needs
-
-is-zero-from-requires-2 : tie.Need-is-zero-from-requires-2
-is-zero-from-requires-2 c κs = search needs
-
 returns : tie.Need-returns
 unfolding places-vacant
 returns c =
@@ -24,4 +18,4 @@ returns-2 c = c .if1 .left ∙ sym (rw (sym (c .before .is-zero-from .ensures) �
 
 pub places-vacant-spec : {M : Type 1} → statement M
 places-vacant-spec =
-    tie.close (tie.spec is-zero-from-requires is-zero-from-requires-2 returns returns-2)
+    tie.close (tie.spec (λ c κs. search needs) (λ c κs. search needs) returns returns-2)

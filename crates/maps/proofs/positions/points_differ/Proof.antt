@@ -29,9 +29,6 @@ abbrev μ-loop : tie.MeasureT-loop
 loop-holds : tie.Need-loop-holds Inv-loop μ-loop
 loop-holds c = none-passed _ 0
 
-is-first-requires : tie.Need-is-first-requires Inv-loop μ-loop
-is-first-requires c κs = search needs
-
 module _ (c : tie.After-is-first Inv-loop μ-loop) where
   abbrev at-loop : tie.At-loop Inv-loop μ-loop
   at-loop = c .before .before .before .before .before .before .before
@@ -46,12 +43,6 @@ module _ (c : tie.After-is-first Inv-loop μ-loop) where
 returns : tie.Need-returns Inv-loop μ-loop
 returns c = one-failed (iteration (c .before)) (tests (map (c .before))) (omega arith) (c .if1 .taken)
 
-add-k : tie.Need-add-k Inv-loop μ-loop
-add-k c = omega arith
-
-loop-less : tie.Need-loop-less Inv-loop μ-loop
-loop-less c = omega arith
-
 loop-again : tie.Need-loop-again Inv-loop μ-loop
 loop-again c = one-passed (iteration (c .before)) (c .if1 .left)
 
@@ -65,9 +56,9 @@ points-differ-spec =
     Inv-loop
     μ-loop
     loop-holds
-    is-first-requires
+    (λ c κs. search needs)
     returns
-    add-k
-    loop-less
+    (λ c. omega arith)
+    (λ c. omega arith)
     loop-again
     returns-2)

@@ -29,12 +29,6 @@ abbrev μ-loop : tie.MeasureT-loop
 loop-holds : tie.Need-loop-holds Inv-loop μ-loop
 loop-holds c = none-passed _ 0
 
-point-at-requires : tie.Need-point-at-requires Inv-loop μ-loop
-point-at-requires c κs = search needs
-
-in-range-requires : tie.Need-in-range-requires Inv-loop μ-loop
-in-range-requires c κs = search needs
-
 module _ (c : tie.After-in-range Inv-loop μ-loop) where
   abbrev at-loop : tie.At-loop Inv-loop μ-loop
   at-loop = c .before .before .before .before .before .before .before .before
@@ -53,12 +47,6 @@ module _ (c : tie.After-in-range Inv-loop μ-loop) where
 returns : tie.Need-returns Inv-loop μ-loop
 returns c = one-failed (iteration (c .before)) (tests (map (c .before))) (omega arith) (c .if1 .taken)
 
-add-k : tie.Need-add-k Inv-loop μ-loop
-add-k c = omega arith
-
-loop-less : tie.Need-loop-less Inv-loop μ-loop
-loop-less c = omega arith
-
 loop-again : tie.Need-loop-again Inv-loop μ-loop
 loop-again c = one-passed (iteration (c .before)) (c .if1 .left)
 
@@ -72,10 +60,10 @@ points-in-range-spec =
     Inv-loop
     μ-loop
     loop-holds
-    point-at-requires
-    in-range-requires
+    (λ c κs. search needs)
+    (λ c κs. search needs)
     returns
-    add-k
-    loop-less
+    (λ c. omega arith)
+    (λ c. omega arith)
     loop-again
     returns-2)

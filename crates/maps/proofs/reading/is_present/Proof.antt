@@ -6,9 +6,6 @@ use borrow.Author.Tests.{lt-ltb, le-ltb, eq-eqb, ne-eqb}
 use Rattle.maps.proofs.reading.is_present.Statement.{statement}
 use Rattle.maps.proofs.reading.is_present.Tie as tie
 
-has-helper-requires : tie.Need-has-helper-requires
-has-helper-requires c κs = search needs
-
 returns : tie.Need-returns
 returns c = rw (lt-ltb _ _ (c .before .if1 .taken), eq-eqb _ _ (c .if2 .taken))
 
@@ -21,4 +18,4 @@ returns-3 : tie.Need-returns-3
 returns-3 c = rw (le-ltb _ _ (c .if1 .left))
 
 pub is-present-spec : {M : Type 1} → statement M
-is-present-spec = tie.close (tie.spec has-helper-requires returns returns-2 returns-3)
+is-present-spec = tie.close (tie.spec (λ c κs. search needs) returns returns-2 returns-3)

@@ -9,15 +9,6 @@ use Rattle.model.specs.Maps.{own, owner}
 use Rattle.maps.proofs.reading.next_corner.Statement.{statement}
 use Rattle.maps.proofs.reading.next_corner.Tie as tie
 
-mul-link-of : tie.Need-mul-link-of
-mul-link-of c = search needs
-
-link-of-requires : tie.Need-link-of-requires
-link-of-requires c κs = search needs
-
-returns : tie.Need-returns
-returns c = search needs
-
 returns-2 : tie.Need-returns-2
 returns-2 c = let a = c .before .before .args .a in
     let edge = c .before .before .args .edge .now in
@@ -25,4 +16,4 @@ returns-2 c = let a = c .before .before .args .a in
     sym (ap (λ (d : ℕ). owner d) past ∙ omega arith)
 
 pub next-corner-spec : {M : Type 1} → statement M
-next-corner-spec = tie.close (tie.spec mul-link-of link-of-requires returns returns-2)
+next-corner-spec = tie.close (tie.spec (λ c. search needs) (λ c κs. search needs) (λ c. search needs) returns-2)

@@ -7,12 +7,6 @@ use mir.ValLaws.{toZ-ofZ}
 use Rattle.maps.proofs.reading.point_at.Statement.{statement}
 use Rattle.maps.proofs.reading.point_at.Tie as tie
 
-coordinate-requires : tie.Need-coordinate-requires
-coordinate-requires c κs = search needs
-
-coordinate-requires-2 : tie.Need-coordinate-requires-2
-coordinate-requires-2 c κs = search needs
-
 returns : tie.Need-returns
 returns c =
     let first = c .before .coordinate in
@@ -22,4 +16,4 @@ returns c =
     λ i. record { x = x i; y = y i }
 
 pub point-at-spec : {M : Type 1} → statement M
-point-at-spec = tie.close (tie.spec coordinate-requires coordinate-requires-2 returns)
+point-at-spec = tie.close (tie.spec (λ c κs. search needs) (λ c κs. search needs) returns)

@@ -8,15 +8,6 @@ use Rattle.model.specs.Maps.{other-dart}
 use Rattle.maps.proofs.reading.point_link.Statement.{statement}
 use Rattle.maps.proofs.reading.point_link.Tie as tie
 
-has-helper-requires : tie.Need-has-helper-requires
-has-helper-requires c κs = search needs
-
-add-result : tie.Need-add-result
-add-result c = search needs
-
-sub-result : tie.Need-sub-result
-sub-result c = search needs
-
 returns : tie.Need-returns
 unfolding other-dart
 returns c =
@@ -34,4 +25,4 @@ returns-3 c = rw (sym (c .before .has-helper .ensures) ∙ c .if1 .left)
 
 pub point-link-spec : {M : Type 1} → statement M
 point-link-spec =
-    tie.close (tie.spec has-helper-requires add-result sub-result returns returns-2 returns-3)
+    tie.close (tie.spec (λ c κs. search needs) (λ c. search needs) (λ c. search needs) returns returns-2 returns-3)

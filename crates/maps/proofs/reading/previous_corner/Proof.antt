@@ -9,18 +9,6 @@ use Rattle.model.specs.Maps.{helper, owner}
 use Rattle.maps.proofs.reading.previous_corner.Statement.{statement}
 use Rattle.maps.proofs.reading.previous_corner.Tie as tie
 
-mul-link-of : tie.Need-mul-link-of
-mul-link-of c = search needs
-
-add-link-of : tie.Need-add-link-of
-add-link-of c = search needs
-
-link-of-requires : tie.Need-link-of-requires
-link-of-requires c κs = search needs
-
-returns : tie.Need-returns
-returns c = search needs
-
 returns-2 : tie.Need-returns-2
 returns-2 c = let a = c .before .before .args .a in
     let edge = c .before .before .args .edge .now in
@@ -29,4 +17,4 @@ returns-2 c = let a = c .before .before .args .a in
 
 pub previous-corner-spec : {M : Type 1} → statement M
 previous-corner-spec =
-    tie.close (tie.spec mul-link-of add-link-of link-of-requires returns returns-2)
+    tie.close (tie.spec (λ c. search needs) (λ c. search needs) (λ c κs. search needs) (λ c. search needs) returns-2)

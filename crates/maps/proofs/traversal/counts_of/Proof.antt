@@ -23,18 +23,6 @@ use Rattle.maps.proofs.Tables.{point-table, present-table, tables-permu
 use Rattle.maps.proofs.traversal.counts_of.Statement.{statement}
 use Rattle.maps.proofs.traversal.counts_of.Tie as tie
 
-point-links-requires : tie.Need-point-links-requires
-point-links-requires c κs = search needs
-
-composed-requires : tie.Need-composed-requires
-composed-requires c κs = search needs
-
-present-darts-requires : tie.Need-present-darts-requires
-present-darts-requires c κs = search needs
-
-mul-part-counts : tie.Need-mul-part-counts
-mul-part-counts c = search needs
-
 -- where the lists are filled
 module _ (c : tie.After-present) where
   abbrev told : tie.After-present-darts
@@ -100,17 +88,8 @@ from-faces c = from-edges (c .before .before .before)
 part-counts-requires : tie.Need-part-counts-requires
 part-counts-requires c κs = permuted c
 
-dart-count-requires : tie.Need-dart-count-requires
-dart-count-requires c κs = search needs
-
-mul-orbit-count : tie.Need-mul-orbit-count
-mul-orbit-count c = search needs
-
 orbit-count-requires : tie.Need-orbit-count-requires
 orbit-count-requires c κs = permuted-second (permuted (from-points c))
-
-mul-orbit-count-2 : tie.Need-mul-orbit-count-2
-mul-orbit-count-2 c = search needs
 
 orbit-count-requires-2 : tie.Need-orbit-count-requires-2
 orbit-count-requires-2 c κs = permuted-first (permuted (from-edges c))
@@ -151,15 +130,15 @@ pub counts-of-spec : {M : Type 1} → statement M
 counts-of-spec =
     tie.close
     (tie.spec
-    point-links-requires
-    composed-requires
-    present-darts-requires
-    mul-part-counts
+    (λ c κs. search needs)
+    (λ c κs. search needs)
+    (λ c κs. search needs)
+    (λ c. search needs)
     part-counts-requires
-    dart-count-requires
-    mul-orbit-count
+    (λ c κs. search needs)
+    (λ c. search needs)
     orbit-count-requires
-    mul-orbit-count-2
+    (λ c. search needs)
     orbit-count-requires-2
     mul-orbit-count-3
     orbit-count-requires-3

@@ -27,9 +27,6 @@ loop-holds : tie.Need-loop-holds Inv-loop μ-loop
 unfolding count
 loop-holds c = (omega arith, refl, refl)
 
-is-present-requires : tie.Need-is-present-requires Inv-loop μ-loop
-is-present-requires c κs = search needs
-
 cast-darts : tie.Need-cast-darts Inv-loop μ-loop
 cast-darts c = tt
 
@@ -42,12 +39,6 @@ add-darts c =
       count-small (s .loop .d) (present-by (test-of (s .before .before .args .helpers .now)) (s .before .before .args .points)),
       s .before .before .pre,
     )
-
-add-d : tie.Need-add-d Inv-loop μ-loop
-add-d c = omega arith
-
-loop-less : tie.Need-loop-less Inv-loop μ-loop
-loop-less c = omega arith
 
 loop-again : tie.Need-loop-again Inv-loop μ-loop
 loop-again c =
@@ -78,10 +69,10 @@ dart-count-spec =
     μ-loop
     mul-d-end
     loop-holds
-    is-present-requires
+    (λ c κs. search needs)
     cast-darts
     add-darts
-    add-d
-    loop-less
+    (λ c. omega arith)
+    (λ c. omega arith)
     loop-again
     returns)

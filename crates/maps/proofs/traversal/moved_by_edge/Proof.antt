@@ -4,12 +4,9 @@ use Rattle.model.specs.Maps.{edge-link}
 use Rattle.maps.proofs.traversal.moved_by_edge.Statement.{statement}
 use Rattle.maps.proofs.traversal.moved_by_edge.Tie as tie
 
-moved-requires : tie.Need-moved-requires
-moved-requires c κs = search needs
-
 returns : tie.Need-returns
 unfolding edge-link
 returns c = search needs
 
 pub moved-by-edge-spec : {M : Type 1} → statement M
-moved-by-edge-spec = tie.close (tie.spec moved-requires returns)
+moved-by-edge-spec = tie.close (tie.spec (λ c κs. search needs) returns)

@@ -11,15 +11,6 @@ use Rattle.maps.proofs.Tables.{point-table}
 use Rattle.maps.proofs.traversal.moved_by_point.Statement.{statement}
 use Rattle.maps.proofs.traversal.moved_by_point.Tie as tie
 
-point-links-requires : tie.Need-point-links-requires
-point-links-requires c κs = search needs
-
-slice-aggregate-moved : tie.Need-slice-aggregate-moved
-slice-aggregate-moved c = search needs
-
-moved-requires : tie.Need-moved-requires
-moved-requires c κs = search needs
-
 module _ (c : tie.After-moved) where
   abbrev start : tie.Start
   start = c .before .before .before .before .before .before
@@ -39,4 +30,4 @@ returns c = c .moved .ensures ∙ (λ i. walker-at (leads c i (start c .args .wa
 
 pub moved-by-point-spec : {M : Type 1} → statement M
 moved-by-point-spec =
-    tie.close (tie.spec point-links-requires slice-aggregate-moved moved-requires returns)
+    tie.close (tie.spec (λ c κs. search needs) (λ c. search needs) (λ c κs. search needs) returns)

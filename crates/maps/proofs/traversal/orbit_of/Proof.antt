@@ -18,9 +18,6 @@ use Rattle.maps.proofs.Orbits.{read-stays, read-orbit}
 use Rattle.maps.proofs.traversal.orbit_of.Statement.{statement}
 use Rattle.maps.proofs.traversal.orbit_of.Tie as tie
 
-point-links-requires : tie.Need-point-links-requires
-point-links-requires c κs = search needs
-
 -- where the point links are filled
 module _ (c : tie.After-point-links) where
   abbrev start : tie.Start
@@ -75,35 +72,20 @@ module _ (c : tie.After-composed) where
       (c .composed .ensures .leads
       ∙ (λ i d. point-leads filled i (edge-link (map filled) d)))
 
-enum-told : tie.Need-enum-told
-enum-told c = search needs
-
 orbit-requires : tie.Need-orbit-requires
 orbit-requires c κs =
     let f = c .before .before .before in
     (edge-whole f, read-stays (sound f) Kind.Edge _ (edges f) _ (there f))
-
-enum-told-2 : tie.Need-enum-told-2
-enum-told-2 c = search needs
 
 orbit-requires-2 : tie.Need-orbit-requires-2
 orbit-requires-2 c κs =
     let f = c .before .before .before in
     (point-whole f, read-stays (sound f) Kind.Vertex _ (vertices f) _ (there f))
 
-enum-told-3 : tie.Need-enum-told-3
-enum-told-3 c = search needs
-
-composed-requires : tie.Need-composed-requires
-composed-requires c κs = search needs
-
 orbit-requires-3 : tie.Need-orbit-requires-3
 orbit-requires-3 c κs =
     let f = filled (c .before) in
     (c .before .composed .ensures .whole, read-stays (sound f) Kind.Face _ (faces (c .before)) _ (there f))
-
-enum-told-4 : tie.Need-enum-told-4
-enum-told-4 c = search needs
 
 part-requires : tie.Need-part-requires
 part-requires c κs =
@@ -148,15 +130,15 @@ pub orbit-of-spec : {M : Type 1} → statement M
 orbit-of-spec =
     tie.close
     (tie.spec
-    point-links-requires
-    enum-told
+    (λ c κs. search needs)
+    (λ c. search needs)
     orbit-requires
-    enum-told-2
+    (λ c. search needs)
     orbit-requires-2
-    enum-told-3
-    composed-requires
+    (λ c. search needs)
+    (λ c κs. search needs)
     orbit-requires-3
-    enum-told-4
+    (λ c. search needs)
     part-requires
     returns
     returns-2

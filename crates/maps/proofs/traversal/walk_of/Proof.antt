@@ -12,21 +12,6 @@ use Rattle.maps.proofs.Tables.{point-table}
 use Rattle.maps.proofs.traversal.walk_of.Statement.{statement}
 use Rattle.maps.proofs.traversal.walk_of.Tie as tie
 
-point-links-requires : tie.Need-point-links-requires
-point-links-requires c κs = search needs
-
-slice-aggregate-walk : tie.Need-slice-aggregate-walk
-slice-aggregate-walk c = search needs
-
-slice-aggregate-walk-2 : tie.Need-slice-aggregate-walk-2
-slice-aggregate-walk-2 c = search needs
-
-dart-count-requires : tie.Need-dart-count-requires
-dart-count-requires c κs = search needs
-
-walk-requires : tie.Need-walk-requires
-walk-requires c κs = search needs
-
 -- where the darts are counted
 module _ (c : tie.After-dart-count) where
   abbrev filled : tie.After-point-links
@@ -59,9 +44,9 @@ pub walk-of-spec : {M : Type 1} → statement M
 walk-of-spec =
     tie.close
     (tie.spec
-    point-links-requires
-    slice-aggregate-walk
-    slice-aggregate-walk-2
-    dart-count-requires
-    walk-requires
+    (λ c κs. search needs)
+    (λ c. search needs)
+    (λ c. search needs)
+    (λ c κs. search needs)
+    (λ c κs. search needs)
     returns)

@@ -10,17 +10,8 @@ use Rattle.orbits.proofs.DartSet.contains.Tie as tie
 returns : tie.Need-returns
 returns c = sym (has-past (c .before .args .t1) (c .before .args .d) (omega arith))
 
-mul-word : tie.Need-mul-word
-mul-word c = search needs
-
-element-copy-out-word : tie.Need-element-copy-out-word
-element-copy-out-word c = search needs
-
-shl-result : tie.Need-shl-result
-shl-result c = search needs
-
 returns-2 : tie.Need-returns-2
 returns-2 c = has-by-mask (c .before .before .args .t1) (c .before .before .args .d) (omega arith)
 
 pub contains-spec : {M : Type 1} → statement M
-contains-spec = tie.close (tie.spec returns mul-word element-copy-out-word shl-result returns-2)
+contains-spec = tie.close (tie.spec returns (λ c. search needs) (λ c. search needs) (λ c. search needs) returns-2)

@@ -11,32 +11,11 @@ use Rattle.orbits.proofs.DartSet.with_dart.Tie as tie
 returns : tie.Need-returns
 returns c = sym (with-past (c .before .args .self) (c .before .args .d) (c .if1 .taken))
 
-contains-requires : tie.Need-contains-requires
-contains-requires c κs = search needs
-
 returns-2 : tie.Need-returns-2
 returns-2 c =
     let a = c .before .before .before .args in
     let e = sym (c .before .contains .ensures) ∙ c .if2 .taken in
     sym (with-member (a .self) (a .d) (c .before .before .if1 .left) e)
-
-mul-words : tie.Need-mul-words
-mul-words c = search needs
-
-array-read-words : tie.Need-array-read-words
-array-read-words c = search needs
-
-shl-words : tie.Need-shl-words
-shl-words c = search needs
-
-mul-words-2 : tie.Need-mul-words-2
-mul-words-2 c = search needs
-
-array-write-words : tie.Need-array-write-words
-array-write-words c = search needs
-
-add-size : tie.Need-add-size
-add-size c = search needs
 
 returns-3 : tie.Need-returns-3
 returns-3 c =
@@ -57,13 +36,13 @@ with-dart-spec =
     tie.close
     (tie.spec
     returns
-    contains-requires
+    (λ c κs. search needs)
     returns-2
-    mul-words
-    array-read-words
-    shl-words
-    mul-words-2
-    array-write-words
-    add-size
+    (λ c. search needs)
+    (λ c. search needs)
+    (λ c. search needs)
+    (λ c. search needs)
+    (λ c. search needs)
+    (λ c. search needs)
     returns-3
     returns-4)

@@ -8,12 +8,6 @@ use Rattle.orbits.specs.Walks.{walker-at}
 use Rattle.orbits.proofs.Walker.moved.Statement.{statement}
 use Rattle.orbits.proofs.Walker.moved.Tie as tie
 
-mul-t7 : tie.Need-mul-t7
-mul-t7 c = search needs
-
-shared-slice-read-t9 : tie.Need-shared-slice-read-t9
-shared-slice-read-t9 c = search needs
-
 returns : tie.Need-returns
 returns c =
     let s = c .before .before in
@@ -26,4 +20,4 @@ returns-2 c =
     ap walker-at (sym (List·getD-eq-default (c .before .args .link .now) d (c .if1 .left)))
 
 pub moved-spec : {M : Type 1} → statement M
-moved-spec = tie.close (tie.spec mul-t7 shared-slice-read-t9 returns returns-2)
+moved-spec = tie.close (tie.spec (λ c. search needs) (λ c. search needs) returns returns-2)

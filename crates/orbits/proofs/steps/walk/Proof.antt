@@ -7,12 +7,6 @@ use Rattle.orbits.specs.Walks.{edge-step, walk}
 use Rattle.orbits.proofs.steps.walk.Statement.{statement}
 use Rattle.orbits.proofs.steps.walk.Tie as tie
 
-starting-at-requires : tie.Need-starting-at-requires
-starting-at-requires c κs = search needs
-
-edge-step-requires : tie.Need-edge-step-requires
-edge-step-requires c κs = search needs
-
 returns : tie.Need-returns
 unfolding walk
 returns c =
@@ -22,4 +16,4 @@ returns c =
     (c .before .starting-at .ensures)
 
 pub walk-spec : {M : Type 1} → statement M
-walk-spec = tie.close (tie.spec starting-at-requires edge-step-requires returns)
+walk-spec = tie.close (tie.spec (λ c κs. search needs) (λ c κs. search needs) returns)

@@ -16,12 +16,6 @@ abbrev μ-loop : tie.MeasureT-loop
 loop-holds : tie.Need-loop-holds Inv-loop μ-loop
 loop-holds c = none-passed _ _
 
-mul-both-move : tie.Need-mul-both-move Inv-loop μ-loop
-mul-both-move c = omega arith
-
-element-copy-out-both-move : tie.Need-element-copy-out-both-move Inv-loop μ-loop
-element-copy-out-both-move c = omega arith
-
 both-move-requires : tie.Need-both-move-requires Inv-loop μ-loop
 both-move-requires c κs =
     let l = c .before .before in
@@ -43,12 +37,6 @@ module _ (c : tie.After-both-move Inv-loop μ-loop) where
 returns : tie.Need-returns Inv-loop μ-loop
 returns c = failed-tests (iteration (c .before)) (omega arith) (c .if1 .taken)
 
-add-i : tie.Need-add-i Inv-loop μ-loop
-add-i c = omega arith
-
-loop-less : tie.Need-loop-less Inv-loop μ-loop
-loop-less c = omega arith
-
 loop-again : tie.Need-loop-again Inv-loop μ-loop
 loop-again c = one-passed (iteration (c .before)) (c .if1 .left)
 
@@ -62,11 +50,11 @@ all-move-spec =
     Inv-loop
     μ-loop
     loop-holds
-    mul-both-move
-    element-copy-out-both-move
+    (λ c. omega arith)
+    (λ c. omega arith)
     both-move-requires
     returns
-    add-i
-    loop-less
+    (λ c. omega arith)
+    (λ c. omega arith)
     loop-again
     returns-2)

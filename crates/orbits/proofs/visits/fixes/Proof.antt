@@ -5,12 +5,6 @@ use borrow.Author.Needs.{needs}
 use Rattle.orbits.proofs.visits.fixes.Statement.{statement}
 use Rattle.orbits.proofs.visits.fixes.Tie as tie
 
-mul-result : tie.Need-mul-result
-mul-result c = search needs
-
-element-copy-out-result : tie.Need-element-copy-out-result
-element-copy-out-result c = search needs
-
 returns : tie.Need-returns
 unfolding is-fixed
 returns c =
@@ -18,4 +12,4 @@ returns c =
     rw (link-read (a .f .now) (c .before .pre .0) (a .a) (c .before .pre .1))
 
 pub fixes-spec : {M : Type 1} → statement M
-fixes-spec = tie.close (tie.spec mul-result element-copy-out-result returns)
+fixes-spec = tie.close (tie.spec (λ c. search needs) (λ c. search needs) returns)

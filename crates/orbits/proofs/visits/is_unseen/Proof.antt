@@ -3,12 +3,6 @@ use borrow.Author.Needs.{needs}
 use Rattle.orbits.proofs.visits.is_unseen.Statement.{statement}
 use Rattle.orbits.proofs.visits.is_unseen.Tie as tie
 
-element-copy-out-if1 : tie.Need-element-copy-out-if1
-element-copy-out-if1 c = search needs
-
-element-copy-out-result : tie.Need-element-copy-out-result
-element-copy-out-result c = search needs
-
 returns : tie.Need-returns
 returns c = rw (c .before .if1 .taken)
 
@@ -16,4 +10,4 @@ returns-2 : tie.Need-returns-2
 returns-2 c = rw (c .if1 .left)
 
 pub is-unseen-spec : {M : Type 1} → statement M
-is-unseen-spec = tie.close (tie.spec element-copy-out-if1 element-copy-out-result returns returns-2)
+is-unseen-spec = tie.close (tie.spec (λ c. search needs) (λ c. search needs) returns returns-2)

@@ -8,14 +8,8 @@ use Rattle.orbits.proofs.Queue.{queue-room, put-old, put-new}
 use Rattle.orbits.proofs.visits.put.Statement.{statement}
 use Rattle.orbits.proofs.visits.put.Tie as tie
 
-element-copy-out-if1 : tie.Need-element-copy-out-if1
-element-copy-out-if1 c = search needs
-
 returns : tie.Need-returns
 returns c = put-old (c .before .before .pre .0) (c .if1 .taken)
-
-element-write-seen : tie.Need-element-write-seen
-element-write-seen c = search needs
 
 room : (c : tie.Else1) → c .before .before .args .end < dart-limit
 room c = queue-room (c .before .before .pre .0) (c .before .before .pre .1) (c .if1 .left)
@@ -36,9 +30,9 @@ pub put-spec : {M : Type 1} → statement M
 put-spec =
     tie.close
     (tie.spec
-    element-copy-out-if1
+    (λ c. search needs)
     returns
-    element-write-seen
+    (λ c. search needs)
     mul-order
     element-write-order
     add-result

@@ -21,20 +21,8 @@ empty-requires c κs = tt
 loop-holds : tie.Need-loop-holds Inv-loop μ-loop
 loop-holds c = (omega arith, c .empty .ensures ∙ queued-none (c .before .args .order .now))
 
-mul-with-dart : tie.Need-mul-with-dart Inv-loop μ-loop
-mul-with-dart c = omega arith
-
-element-copy-out-with-dart : tie.Need-element-copy-out-with-dart Inv-loop μ-loop
-element-copy-out-with-dart c = omega arith
-
 with-dart-requires : tie.Need-with-dart-requires Inv-loop μ-loop
 with-dart-requires c κs = tt
-
-add-i : tie.Need-add-i Inv-loop μ-loop
-add-i c = omega arith
-
-loop-less : tie.Need-loop-less Inv-loop μ-loop
-loop-less c = omega arith
 
 loop-again : tie.Need-loop-again Inv-loop μ-loop
 loop-again c =
@@ -57,10 +45,10 @@ set-of-spec =
     μ-loop
     empty-requires
     loop-holds
-    mul-with-dart
-    element-copy-out-with-dart
+    (λ c. omega arith)
+    (λ c. omega arith)
     with-dart-requires
-    add-i
-    loop-less
+    (λ c. omega arith)
+    (λ c. omega arith)
     loop-again
     returns)

@@ -3,7 +3,6 @@
 use mathlib.Core.Path.{_≡_, refl, sym, ap, subst, _∙_}
 use mathlib.Core.Bool.{Bool, true, false, not, cond}
 use lib.Dec.{eqb}
-use lib.ListN.{length}
 use Rattle.finite.specs.Tests.{is-true}
 use Rattle.model.specs.declared.Refusal.{Refusal}
 use Rattle.model.specs.declared.Point.{Point}
@@ -22,16 +21,8 @@ use Rattle.model.specs.Reading.{unsound}
 use Rattle.model.proofs.Sound.{sound-by}
 use Rattle.model.proofs.Answers.{rule-passes}
 use Rattle.hull.proofs.Arrivals.{offer-sound}
-use Rattle.reach.specs.Replies.{arrival-outcome, arrival-values}
+use Rattle.reach.specs.Replies.{arrival-outcome}
 use Rattle.reach.proofs.Serving.{answer-outcome}
-
-pub four-values : (a : Arrival) → length (arrival-values a) ≡ 4
-unfolding arrival-values
-four-values Arrival.First = refl
-four-values Arrival.Second = refl
-four-values Arrival.Inside = refl
-four-values (Arrival.Outside l r v) = refl
-four-values (Arrival.Refused r) = refl
 
 abbrev outcome-of : Offered → Outcome
 outcome-of o = arrival-outcome (o .arrival)

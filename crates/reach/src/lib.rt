@@ -9,9 +9,9 @@ mod writing;
 
 use crate::opening::load_at;
 use crate::opening::load_near;
-use crate::values::ending_number;
 use crate::values::placed_values;
 use crate::values::point;
+use crate::values::walk_values;
 use crate::writing::code;
 use crate::writing::uncounted;
 use crate::writing::write_admitted;
@@ -42,7 +42,6 @@ use saved::write_map;
 use survey::lines::read_line;
 ghost use mathlib.Core.Path.{_≡_};
 ghost use mathlib.Core.List.{[], _∷_};
-ghost use lib.ListN.{length};
 ghost use Rattle.model.specs.Plane.{at, orientation-call};
 ghost use Rattle.model.specs.Maps.{edge-link, empty-map, point-link};
 ghost use Rattle.model.specs.Outline.{corners};
@@ -52,9 +51,9 @@ ghost use Rattle.model.specs.Text.{line-call};
 ghost use Rattle.model.specs.Report.{report, report-rules};
 ghost use Rattle.reach.specs.Served.{Served, ServedBoth, number-by, only};
 ghost use Rattle.reach.specs.Opened.{of-file};
-ghost use Rattle.reach.specs.Replies.{Offering, counts-reply, from-file};
-ghost use Rattle.reach.specs.Replies.{orbit-reply, place-reply};
-ghost use Rattle.reach.specs.Replies.{signed-reply, walk-reply, walker-reply};
+ghost use Rattle.reach.specs.Replies.{Offering, counts-reply, from-file, length-told};
+ghost use Rattle.reach.specs.Replies.{orbit-reply, place-reply, reply, signed};
+ghost use Rattle.reach.specs.Replies.{walk-reply, walker-reply};
 
 // The orientation of three points: numbers 3 and 10.
 #[no_mangle]
@@ -67,7 +66,7 @@ pub extern "C" fn reach_orientation(
     cy: i64,
     out: &mut [i64],
 ) -> u32
-    ensures { λ r. ⌜ Served (signed-reply (orientation-call (at ax ay) (at bx by) (at cx cy)))
+    ensures { λ r. ⌜ Served (reply signed (orientation-call (at ax ay) (at bx by) (at cx cy)))
         (now (out .entry)) (now (out .exit)) r ⌝ }
 {
     write_orientation(point(ax, ay), point(bx, by), point(cx, cy), out)
@@ -75,7 +74,7 @@ pub extern "C" fn reach_orientation(
 
 // The orientation of three points.
 fn write_orientation(a: Point, b: Point, c: Point, out: &mut [i64]) -> u32
-    ensures { λ r. ⌜ Served (signed-reply (orientation-call a b c))
+    ensures { λ r. ⌜ Served (reply signed (orientation-call a b c))
         (now (out .entry)) (now (out .exit)) r ⌝ }
 {
     let oriented = orientation_of(a, b, c);
@@ -217,9 +216,7 @@ pub extern "C" fn reach_walk(map: &[u8], dart: usize, out: &mut [usize]) -> u32
     match outcome {
         Outcome::Refused(refusal) => code(refusal),
         Outcome::Served => {
-            let walk = walk_of(loaded.map, dart);
-            let ending = walk.ending;
-            let values = [walk.last, ending_number(ending), walk.moves];
+            let values = walk_values(walk_of(loaded.map, dart));
             write_values(&values, out)
         }
     }
@@ -308,7 +305,7 @@ fn write_placed(map: &[u8], p: Point, out: &mut [usize]) -> u32
 #[no_mangle]
 pub extern "C" fn reach_corners(map: &[u8], out: &mut [usize], count: &mut [usize]) -> u32
     ensures { λ r. ⌜ ServedBoth (of-file (now (map .entry)) (λ m. unsound m ∷ []))
-        (corners (map-in (now (map .entry)))) (length (corners (map-in (now (map .entry)))) ∷ [])
+        (corners (map-in (now (map .entry)))) (length-told (corners (map-in (now (map .entry)))))
         (now (out .entry)) (now (out .exit)) (now (count .entry)) (now (count .exit)) r ⌝ }
 {
     let loaded = load(map);
@@ -322,7 +319,7 @@ pub extern "C" fn reach_corners(map: &[u8], out: &mut [usize], count: &mut [usiz
 // The point that a text line names: numbers 8 and 10.
 #[no_mangle]
 pub extern "C" fn reach_line(line: &[u8], out: &mut [i64]) -> u32
-    ensures { λ r. ⌜ Served (signed-reply (line-call (now (line .entry))))
+    ensures { λ r. ⌜ Served (reply signed (line-call (now (line .entry))))
         (now (out .entry)) (now (out .exit)) r ⌝ }
 {
     let read = read_line(line);
@@ -336,7 +333,7 @@ pub extern "C" fn reach_line(line: &[u8], out: &mut [i64]) -> u32
 #[no_mangle]
 pub extern "C" fn reach_report(text: &[u8], out: &mut [u8], count: &mut [usize]) -> u32
     ensures { λ r. ⌜ ServedBoth (report-rules (now (text .entry))) (report (now (text .entry)))
-        (length (report (now (text .entry))) ∷ []) (now (out .entry)) (now (out .exit))
+        (length-told (report (now (text .entry)))) (now (out .entry)) (now (out .exit))
         (now (count .entry)) (now (count .exit)) r ⌝ }
 {
     if count.len() < 1 {

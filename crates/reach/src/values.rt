@@ -5,10 +5,14 @@ use model::Outcome;
 use model::Placed;
 use model::Point;
 use orbits::Ending;
+use orbits::Walk;
+use survey::answers::refusal_number;
 ghost use mathlib.Core.Path.{_≡_};
 ghost use Rattle.model.specs.Plane.{at};
-ghost use Rattle.reach.specs.Replies.{arrival-outcome, arrival-values};
-ghost use Rattle.reach.specs.Replies.{ending-number, place-values};
+ghost use Rattle.model.specs.declared.Walked.{Walked};
+ghost use Rattle.model.specs.Answers.{arrival-answer, placed-answer, walked-answer};
+ghost use Rattle.reach.specs.Replies.{arrival-outcome, arrival-told};
+ghost use Rattle.reach.specs.Replies.{place-told, walk-told};
 
 // The point of two coordinates.
 pub(crate) fn point(x: i64, y: i64) -> Point
@@ -17,19 +21,20 @@ pub(crate) fn point(x: i64, y: i64) -> Point
     Point { x, y }
 }
 
-// The number of an ending.
-pub(crate) fn ending_number(ending: Ending) -> usize
-    ensures { λ r. ⌜ r ≡ ending-number ending ⌝ }
+// The last dart of a walk, the number of its ending, and its moves.
+pub(crate) fn walk_values(walk: Walk) -> [usize; 3]
+    ensures { λ r. ⌜ r ≡ walk-told (walked-answer (Walked.Ended walk)) ⌝ }
 {
+    let ending = walk.ending;
     match ending {
-        Ending::Home => 0,
-        Ending::Loose => 1,
+        Ending::Home => [walk.last, 0, walk.moves],
+        Ending::Loose => [walk.last, 1, walk.moves],
     }
 }
 
 // The number of a place, and its values.
 pub(crate) fn placed_values(placed: Placed) -> [usize; 3]
-    ensures { λ r. ⌜ r ≡ place-values placed ⌝ }
+    ensures { λ r. ⌜ r ≡ place-told (placed-answer placed) ⌝ }
 {
     match placed {
         Placed::NoOutline => [0, 0, 0],
@@ -37,13 +42,13 @@ pub(crate) fn placed_values(placed: Placed) -> [usize; 3]
         Placed::Edge { from, to } => [2, from, to],
         Placed::Inside => [3, 0, 0],
         Placed::Outside(visible) => [4, visible, 0],
-        Placed::Refused(refusal) => [0, 0, 0],
+        Placed::Refused(refusal) => [5, refusal_number(refusal), 0],
     }
 }
 
 // The number of an arrival, and its values.
 pub(crate) fn arrival_values(arrival: Arrival) -> [usize; 4]
-    ensures { λ r. ⌜ r ≡ arrival-values arrival ⌝ }
+    ensures { λ r. ⌜ r ≡ arrival-told (arrival-answer arrival) ⌝ }
 {
     match arrival {
         Arrival::First => [0, 0, 0, 0],
@@ -54,7 +59,7 @@ pub(crate) fn arrival_values(arrival: Arrival) -> [usize; 4]
             right,
             visible,
         } => [3, left, right, visible],
-        Arrival::Refused(refusal) => [0, 0, 0, 0],
+        Arrival::Refused(refusal) => [4, refusal_number(refusal), 0, 0],
     }
 }
 

@@ -22,13 +22,14 @@ ghost use mathlib.Core.List.{[], _∷_, _++_};
 ghost use Prim.Native.Nat.{_≤_};
 ghost use lib.ListN.{drop, length};
 ghost use Rattle.model.specs.Refusals.{number};
+ghost use Rattle.model.specs.Answers.{arrival-answer};
 ghost use Rattle.model.specs.Sound.{Sound};
 ghost use Rattle.model.specs.Outline.{corners};
 ghost use Rattle.model.specs.Arrival.{admission-rules, arrive};
 ghost use Rattle.model.specs.Saved.{saved};
 ghost use Rattle.model.specs.Report.{report-rules};
 ghost use Rattle.reach.specs.Served.{Served, ServedBoth, and-short, number-by, only};
-ghost use Rattle.reach.specs.Replies.{arrival-values, set-values};
+ghost use Rattle.reach.specs.Replies.{arrival-told};
 
 // The number of a refusal, as it is returned.
 pub(crate) fn code(refusal: Refusal) -> u32
@@ -78,7 +79,8 @@ pub(crate) fn write_point(p: Point, out: &mut [i64]) -> u32
 // Writes the words of a set of darts, and then its size, into a lent list: number 10.
 pub(crate) fn write_darts(orbit: DartSet, out: &mut [u64]) -> u32
     requires { ⌜ length (orbit .words) ≡ 16 ⌝ }
-    ensures { λ r. ⌜ Served (only (set-values orbit)) (now (out .entry)) (now (out .exit)) r ⌝ }
+    ensures { λ r. ⌜ Served (only (orbit .words ++ orbit .size ∷ []))
+        (now (out .entry)) (now (out .exit)) r ⌝ }
 {
     if out.len() < 17 {
         return 10;
@@ -104,7 +106,7 @@ fn write_words(words: &[u64], out: &mut [u64])
 pub(crate) fn write_admitted(map: Map, p: Point, out: &mut [u8], arrival: &mut [usize]) -> u32
     requires { ⌜ Sound map ⌝ }
     ensures { λ r. ⌜ ServedBoth (admission-rules map p) (saved (arrive map p .map))
-        (arrival-values (arrive map p .arrival)) (now (out .entry)) (now (out .exit))
+        (arrival-told (arrival-answer (arrive map p .arrival))) (now (out .entry)) (now (out .exit))
         (now (arrival .entry)) (now (arrival .exit)) r ⌝ }
 {
     let offered = admitted(map, p);
@@ -119,8 +121,9 @@ pub(crate) fn write_admitted(map: Map, p: Point, out: &mut [u8], arrival: &mut [
 // Writes the bytes of a sound map, and an arrival: number 10.
 fn write_offered(offered: Offered, out: &mut [u8], arrival: &mut [usize]) -> u32
     requires { ⌜ Sound (offered .map) ⌝ }
-    ensures { λ r. ⌜ ServedBoth [] (saved (offered .map)) (arrival-values (offered .arrival))
-        (now (out .entry)) (now (out .exit)) (now (arrival .entry)) (now (arrival .exit)) r ⌝ }
+    ensures { λ r. ⌜ ServedBoth [] (saved (offered .map))
+        (arrival-told (arrival-answer (offered .arrival))) (now (out .entry)) (now (out .exit))
+        (now (arrival .entry)) (now (arrival .exit)) r ⌝ }
 {
     let map = offered.map;
     let length = saved_length(map.count);

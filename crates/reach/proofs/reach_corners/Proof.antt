@@ -4,6 +4,7 @@ use mathlib.Core.Path.{sym, _∙_}
 use mathlib.Core.List.{[], _∷_}
 use lib.ListN.{length}
 use Rattle.model.specs.declared.Map.{Map}
+use Rattle.model.specs.Answers.{written-answer}
 use Rattle.model.specs.Outline.{corners}
 use Rattle.reach.proofs.OpenedFiles.{loads, opened-sound}
 use Rattle.reach.proofs.Serving.{both-refused-before, both-served-after, both-at}
@@ -43,6 +44,7 @@ same-length-2 : tie.Need-same-length-2
 same-length-2 c = search needs
 
 returns-2 : tie.Need-returns-2
+unfolding written-answer
 returns-2 c =
     let w = c .before .before .before .before in
     let t = w .before .before .before in

@@ -5,11 +5,12 @@ use mir.ValLaws.{toZ-ofZ}
 use denote.Ref.{now}
 use Rattle.model.specs.declared.Point.{Point}
 use Rattle.model.specs.Plane.{at}
+use Rattle.model.specs.Answers.{arrival-answer}
 use Rattle.model.specs.Arrival.{arrive}
 use Rattle.model.specs.Offers.{offer-rules}
 use Rattle.model.specs.Saved.{map-in, saved}
 use Rattle.reach.specs.Opened.{of-file}
-use Rattle.reach.specs.Replies.{arrival-values}
+use Rattle.reach.specs.Replies.{arrival-told}
 use Rattle.reach.proofs.Serving.{both-at}
 use borrow.Author.Needs.{needs}
 use Rattle.reach.proofs.reach_offer.Statement.{statement}
@@ -36,7 +37,7 @@ returns c =
     let f = start .fits in
     let m = map-in (now (s .map)) in
     both-at (λ p. of-file (now (s .map)) (λ m. offer-rules m p)) (λ p. saved (arrive m p .map))
-    (λ (p : Point). arrival-values (arrive m p .arrival))
+    (λ (p : Point). arrival-told (arrival-answer (arrive m p .arrival)))
     (n .point .ensures ∙ ap₂ at (toZ-ofZ w64 (s .x) (f .x)) (toZ-ofZ w64 (s .y) (f .y)))
     (w .write-offer .ensures)
 

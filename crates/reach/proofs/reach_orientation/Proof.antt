@@ -5,7 +5,7 @@ use mir.Syntax.{w64}
 use mir.ValLaws.{toZ-ofZ}
 use Rattle.model.specs.declared.Point.{Point}
 use Rattle.model.specs.Plane.{at, orientation-call}
-use Rattle.reach.specs.Replies.{signed-reply}
+use Rattle.reach.specs.Replies.{reply, signed}
 use Rattle.reach.proofs.Serving.{served-at}
 use borrow.Author.Needs.{needs}
 use Rattle.reach.proofs.reach_orientation.Statement.{statement}
@@ -36,11 +36,11 @@ returns c =
     let f = p .before .fits in
     let a = at (s .ax) (s .ay) in
     let b = at (s .bx) (s .by) in
-    served-at (λ (z : Point). signed-reply (orientation-call a b z))
+    served-at (λ (z : Point). reply signed (orientation-call a b z))
     (r .point3 .ensures ∙ ap₂ at (toZ-ofZ w64 (s .cx) (f .cx)) (toZ-ofZ w64 (s .cy) (f .cy)))
-    (served-at (λ (y : Point). signed-reply (orientation-call a y (r .point3 .result)))
+    (served-at (λ (y : Point). reply signed (orientation-call a y (r .point3 .result)))
     (q .point2 .ensures ∙ ap₂ at (toZ-ofZ w64 (s .bx) (f .bx)) (toZ-ofZ w64 (s .by) (f .by)))
-    (served-at (λ (x : Point). signed-reply
+    (served-at (λ (x : Point). reply signed
     (orientation-call x (q .point2 .result) (r .point3 .result)))
     (p .point .ensures ∙ ap₂ at (toZ-ofZ w64 (s .ax) (f .ax)) (toZ-ofZ w64 (s .ay) (f .ay)))
     (w .write-orientation .ensures)))

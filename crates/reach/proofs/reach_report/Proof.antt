@@ -1,6 +1,7 @@
 -- `reach::reach_report` meets its contract: there is room for the length, and then the report is
 -- written. Assumes nothing.
 use denote.Ref.{now}
+use Rattle.model.specs.Answers.{written-answer}
 use Rattle.model.specs.Report.{report, report-rules}
 use Rattle.reach.proofs.Reported.{no-room-for-length, result-refused, result-written}
 use borrow.Author.Needs.{needs}
@@ -11,6 +12,7 @@ uncounted-requires : tie.Need-uncounted-requires
 uncounted-requires c κs = search needs
 
 returns : tie.Need-returns
+unfolding written-answer
 returns c =
     let t = c .before in
     let s = t .before .before .before .before .args in
@@ -37,6 +39,7 @@ same-length : tie.Need-same-length
 same-length c = search needs
 
 returns-2 : tie.Need-returns-2
+unfolding written-answer
 returns-2 c =
     let w = c .before .before in
     let r = w .before .before .before .before in
@@ -53,6 +56,7 @@ same-length-3 : tie.Need-same-length-3
 same-length-3 c = search needs
 
 returns-3 : tie.Need-returns-3
+unfolding written-answer
 returns-3 c =
     let w = c .before in
     let r = w .before .before .before .before in

@@ -1,13 +1,14 @@
 -- `reach::reach_walk` meets its contract: the file and the dart are checked, and then walked from.
 -- Assumes nothing.
 use mathlib.Core.Path.{ap, _∙_}
-use mathlib.Core.List.{[], _∷_}
-use Prim.Native.Nat.{ℕ}
+use Rattle.orbits.specs.declared.Walk.{Walk}
 use Rattle.orbits.specs.Walks.{walk}
 use Rattle.model.specs.declared.Map.{Map}
+use Rattle.model.specs.declared.Walked.{Walked}
+use Rattle.model.specs.Answers.{walked-answer}
 use Rattle.model.specs.Maps.{edge-link, point-link}
 use Rattle.model.specs.Reading.{darts}
-use Rattle.reach.specs.Replies.{walk-values}
+use Rattle.reach.specs.Replies.{walk-told}
 use Rattle.reach.proofs.OpenedFiles.{opened-sound, opened-refused, opened-served}
 use borrow.Author.Needs.{needs}
 use Rattle.reach.proofs.reach_walk.Statement.{statement}
@@ -29,8 +30,8 @@ walk-of-requires : tie.Need-walk-of-requires
 walk-of-requires c κs =
     opened-sound (c .before .before .load-at .ensures) (c .enum-told .given .1) .links .fits
 
-ending-number-requires : tie.Need-ending-number-requires
-ending-number-requires c κs = search needs
+walk-values-requires : tie.Need-walk-values-requires
+walk-values-requires c κs = search needs
 
 slice-aggregate-write-values : tie.Need-slice-aggregate-write-values
 slice-aggregate-write-values c = search needs
@@ -58,9 +59,8 @@ returns-2 c =
     let e = t .enum-told .given .1 in
     let d = l .before .before .before .args .dart in
     opened-served o _ _ e
-    (ap (λ (i : ℕ). k .walk-of .result .last ∷ i ∷ k .walk-of .result .moves ∷ [])
-    (n .ending-number .ensures)
-    ∙ ap walk-values
+    (n .walk-values .ensures
+    ∙ ap (λ (w : Walk). walk-told (walked-answer (Walked.Ended w)))
     (k .walk-of .ensures ∙ ap (λ (m : Map). walk (edge-link m) (point-link m) (darts m) d)
     (o .map e)))
     (w .write-values .ensures)
@@ -74,7 +74,7 @@ reach-walk-spec =
     code-requires
     enum-told
     walk-of-requires
-    ending-number-requires
+    walk-values-requires
     slice-aggregate-write-values
     write-values-requires
     returns

@@ -3,9 +3,10 @@
 use mathlib.Core.Path.{sym, _∙_}
 use denote.Ref.{now}
 use Rattle.model.specs.declared.Map.{Map}
+use Rattle.model.specs.Answers.{arrival-answer}
 use Rattle.model.specs.Arrival.{admission-rules, arrive}
 use Rattle.model.specs.Saved.{map-in, saved}
-use Rattle.reach.specs.Replies.{arrival-values}
+use Rattle.reach.specs.Replies.{arrival-told}
 use Rattle.reach.proofs.OpenedFiles.{loads, opened-sound}
 use Rattle.reach.proofs.Serving.{both-refused-before, both-served-after, both-at}
 use borrow.Author.Needs.{needs}
@@ -54,7 +55,7 @@ returns-2 c =
     let p = s .p in
     both-served-after _ (admission-rules (map-in (now (s .map))) p) _ _ _ _ (sym e ∙ o .outcome)
     (both-at (λ m. admission-rules m p) (λ m. saved (arrive m p .map))
-    (λ (m : Map). arrival-values (arrive m p .arrival))
+    (λ (m : Map). arrival-told (arrival-answer (arrive m p .arrival)))
     (o .map e) (w .write-admitted .ensures))
 
 pub write-offer-spec : {M : Type 1} → statement M

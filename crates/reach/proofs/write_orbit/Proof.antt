@@ -2,6 +2,7 @@
 -- Assumes nothing.
 use mathlib.Core.Path.{_≡_, ap, _∙_}
 use mathlib.Core.Bool.{Bool}
+use mathlib.Core.List.{[], _∷_, _++_}
 use Prim.Native.Nat.{ℕ, _+_, _*_}
 use lib.ListN.{length}
 use Rattle.finite.specs.Bounded.{length-table}
@@ -9,7 +10,7 @@ use Rattle.orbits.specs.declared.DartSet.{DartSet}
 use Rattle.orbits.specs.Sets.{bits, set-of}
 use Rattle.model.specs.declared.Map.{Map}
 use Rattle.model.specs.Reading.{orbit-set}
-use Rattle.reach.specs.Replies.{set-values}
+use Rattle.reach.proofs.Told.{set-told}
 use Rattle.reach.proofs.OpenedFiles.{opened-sound, opened-present}
 use Rattle.reach.proofs.OpenedFiles.{opened-refused, opened-served}
 use borrow.Author.Needs.{needs}
@@ -61,8 +62,9 @@ returns-2 c =
     let e = t .enum-told .given .1 in
     let s = l .before .before .before .args in
     opened-served o _ _ e
-    (ap set-values (n .orbit-of .ensures ∙ ap (λ (m : Map). orbit-set m (s .kind) (s .dart))
-    (o .map e)))
+    (ap (λ (x : DartSet). x .words ++ x .size ∷ [])
+    (n .orbit-of .ensures ∙ ap (λ (m : Map). orbit-set m (s .kind) (s .dart)) (o .map e))
+    ∙ set-told _)
     (w .write-darts .ensures)
 
 pub write-orbit-spec : {M : Type 1} → statement M

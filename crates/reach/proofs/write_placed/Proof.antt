@@ -2,8 +2,10 @@
 -- Assumes nothing.
 use mathlib.Core.Path.{ap, _∙_}
 use Rattle.model.specs.declared.Map.{Map}
+use Rattle.model.specs.declared.Placed.{Placed}
+use Rattle.model.specs.Answers.{placed-answer}
 use Rattle.model.specs.Placing.{place-call}
-use Rattle.reach.specs.Replies.{place-values}
+use Rattle.reach.specs.Replies.{place-told}
 use Rattle.reach.proofs.OpenedFiles.{opened-sound, opened-near}
 use Rattle.reach.proofs.OpenedFiles.{opened-refused, opened-served}
 use borrow.Author.Needs.{needs}
@@ -58,7 +60,7 @@ returns-2 c =
     let p = l .before .before .before .args .p in
     opened-served o _ _ e
     (v .placed-values .ensures
-    ∙ ap place-values
+    ∙ ap (λ (a : Placed). place-told (placed-answer a))
     (n .placed .ensures ∙ ap (λ (m : Map). place-call m p .value) (o .map e)))
     (w .write-values .ensures)
 

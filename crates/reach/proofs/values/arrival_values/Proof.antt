@@ -1,6 +1,6 @@
 -- `reach::values::arrival_values` meets its contract: arrival by arrival. Assumes nothing.
-use mathlib.Core.Path.{sym, ap}
-use Rattle.reach.specs.Replies.{arrival-values}
+use Rattle.model.specs.Answers.{arrival-answer}
+use Rattle.reach.specs.Replies.{place-of, told}
 use borrow.Author.Needs.{needs}
 use Rattle.reach.proofs.values.arrival_values.Statement.{statement}
 use Rattle.reach.proofs.values.arrival_values.Tie as tie
@@ -20,25 +20,28 @@ enum-known-arrival c = search needs
 enum-known-arrival-2 : tie.Need-enum-known-arrival-2
 enum-known-arrival-2 c = search needs
 
+refusal-number-requires : tie.Need-refusal-number-requires
+refusal-number-requires c κs = search needs
+
 returns : tie.Need-returns
-unfolding arrival-values
-returns c = sym (ap arrival-values (c .enum-told .given .1))
+unfolding told place-of arrival-answer
+returns c = rw (c .enum-told .given .1)
 
 returns-2 : tie.Need-returns-2
-unfolding arrival-values
-returns-2 c = sym (ap arrival-values (c .enum-told2 .given .1))
+unfolding told place-of arrival-answer
+returns-2 c = rw (c .enum-told2 .given .1)
 
 returns-3 : tie.Need-returns-3
-unfolding arrival-values
-returns-3 c = sym (ap arrival-values (c .enum-told3 .given .1))
+unfolding told place-of arrival-answer
+returns-3 c = rw (c .enum-told3 .given .1)
 
 returns-4 : tie.Need-returns-4
-unfolding arrival-values
-returns-4 c = sym (ap arrival-values (c .before .arrival .given .1))
+unfolding told place-of arrival-answer
+returns-4 c = rw (c .before .arrival .given .1)
 
 returns-5 : tie.Need-returns-5
-unfolding arrival-values
-returns-5 c = sym (ap arrival-values (c .before .arrival2 .given .1))
+unfolding told place-of arrival-answer
+returns-5 c = rw (c .before .before .arrival2 .given .1, c .refusal-number .ensures)
 
 pub arrival-values-spec : {M : Type 1} → statement M
 arrival-values-spec =
@@ -49,6 +52,7 @@ arrival-values-spec =
     enum-told-3
     enum-known-arrival
     enum-known-arrival-2
+    refusal-number-requires
     returns
     returns-2
     returns-3

@@ -1,6 +1,6 @@
 -- `reach::values::placed_values` meets its contract: place by place. Assumes nothing.
-use mathlib.Core.Path.{sym, ap}
-use Rattle.reach.specs.Replies.{place-values}
+use Rattle.model.specs.Answers.{placed-answer}
+use Rattle.reach.specs.Replies.{place-of, told}
 use borrow.Author.Needs.{needs}
 use Rattle.reach.proofs.values.placed_values.Statement.{statement}
 use Rattle.reach.proofs.values.placed_values.Tie as tie
@@ -23,29 +23,32 @@ enum-known-placed-3 c = search needs
 enum-known-placed-4 : tie.Need-enum-known-placed-4
 enum-known-placed-4 c = search needs
 
+refusal-number-requires : tie.Need-refusal-number-requires
+refusal-number-requires c κs = search needs
+
 returns : tie.Need-returns
-unfolding place-values
-returns c = sym (ap place-values (c .enum-told .given .1))
+unfolding told place-of placed-answer
+returns c = rw (c .enum-told .given .1)
 
 returns-2 : tie.Need-returns-2
-unfolding place-values
-returns-2 c = sym (ap place-values (c .before .placed .given .1))
+unfolding told place-of placed-answer
+returns-2 c = rw (c .before .placed .given .1)
 
 returns-3 : tie.Need-returns-3
-unfolding place-values
-returns-3 c = sym (ap place-values (c .before .placed2 .given .1))
+unfolding told place-of placed-answer
+returns-3 c = rw (c .before .placed2 .given .1)
 
 returns-4 : tie.Need-returns-4
-unfolding place-values
-returns-4 c = sym (ap place-values (c .enum-told2 .given .1))
+unfolding told place-of placed-answer
+returns-4 c = rw (c .enum-told2 .given .1)
 
 returns-5 : tie.Need-returns-5
-unfolding place-values
-returns-5 c = sym (ap place-values (c .before .placed3 .given .1))
+unfolding told place-of placed-answer
+returns-5 c = rw (c .before .placed3 .given .1)
 
 returns-6 : tie.Need-returns-6
-unfolding place-values
-returns-6 c = sym (ap place-values (c .before .placed4 .given .1))
+unfolding told place-of placed-answer
+returns-6 c = rw (c .before .before .placed4 .given .1, c .refusal-number .ensures)
 
 pub placed-values-spec : {M : Type 1} → statement M
 placed-values-spec =
@@ -57,6 +60,7 @@ placed-values-spec =
     enum-told-2
     enum-known-placed-3
     enum-known-placed-4
+    refusal-number-requires
     returns
     returns-2
     returns-3

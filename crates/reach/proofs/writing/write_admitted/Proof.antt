@@ -3,11 +3,12 @@
 use mathlib.Core.Path.{sym, ap, subst, _∙_}
 use mathlib.Core.List.{[]}
 use Rattle.model.specs.declared.Offered.{Offered}
+use Rattle.model.specs.Answers.{arrival-answer}
 use Rattle.model.specs.Sound.{Sound}
 use Rattle.model.specs.Arrival.{admission-rules, arrive, refusing, admitted}
 use Rattle.model.specs.Saved.{saved}
 use Rattle.model.proofs.Answers.{outcome-serves}
-use Rattle.reach.specs.Replies.{arrival-outcome, arrival-values}
+use Rattle.reach.specs.Replies.{arrival-outcome, arrival-told}
 use Rattle.reach.proofs.Arrived.{admitted-outcome, admitted-sound}
 use Rattle.reach.proofs.Serving.{both-refused-before, both-served-after, both-at}
 use borrow.Author.Needs.{needs}
@@ -67,7 +68,7 @@ returns-2 c =
     (s .map) (s .p) in
     both-served-after (admission-rules (s .map) (s .p)) [] _ _ _ _ served
     (both-at (λ o. []) (λ (o : Offered). saved (o .map))
-    (λ (o : Offered). arrival-values (o .arrival))
+    (λ (o : Offered). arrival-told (arrival-answer (o .arrival)))
     (a .admitted .ensures ∙ sym
     (outcome-serves (refusing (s .map)) (arrive (s .map) (s .p))
     (admission-rules (s .map) (s .p)) served))

@@ -2,10 +2,11 @@
 -- Assumes nothing.
 use native.Mathlib.Omega.{arith}
 use denote.Ref.{now}
+use Rattle.model.specs.Answers.{arrival-answer}
 use Rattle.model.specs.Saved.{saved}
 use Rattle.saved.proofs.Places.{length-saved}
-use Rattle.reach.specs.Replies.{arrival-values}
-use Rattle.reach.proofs.Arrived.{four-values}
+use Rattle.reach.specs.Replies.{arrival-told}
+use Rattle.reach.proofs.Told.{four-values}
 use Rattle.reach.proofs.Serving.{first-short, second-short, both-room}
 use Rattle.reach.proofs.Serving.{room-serves, served-as}
 use borrow.Author.Needs.{needs}
@@ -19,13 +20,13 @@ returns : tie.Need-returns
 returns c =
     let d = c .before in
     let s = d .before .before .before .before .args in
-    first-short (saved (s .offered .map)) (arrival-values (s .offered .arrival)) _ _
+    first-short (saved (s .offered .map)) (arrival-told (arrival-answer (s .offered .arrival))) _ _
     (omega (arith, length-saved (s .offered .map), d .saved-length .ensures, c .if1 .taken))
 
 returns-2 : tie.Need-returns-2
 returns-2 c =
     let s = c .before .before .before .before .before .before .args in
-    second-short (saved (s .offered .map)) (arrival-values (s .offered .arrival)) _ _
+    second-short (saved (s .offered .map)) (arrival-told (arrival-answer (s .offered .arrival))) _ _
     (omega (arith, four-values (s .offered .arrival), c .if2 .taken))
 
 write-map-requires : tie.Need-write-map-requires
@@ -60,7 +61,7 @@ returns-3 c =
     let four = four-values (s .offered .arrival) in
     let written = served-as (a .arrival-values .ensures) (v .write-values .ensures) in
     let room = room-serves (omega (arith, e .if2 .left)) written in
-    both-room (saved (s .offered .map)) (arrival-values (s .offered .arrival)) (now (s .out))
+    both-room (saved (s .offered .map)) (arrival-told (arrival-answer (s .offered .arrival))) (now (s .out))
     (now (s .arrival))
     (room .0)
     (omega (arith, length-saved (s .offered .map), d .before .saved-length .ensures, d .if1 .left))

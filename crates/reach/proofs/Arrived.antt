@@ -1,13 +1,18 @@
--- A point offered to a sound map, in the order of this page: an arrival is served; the map after
--- it is sound; the outcome is that of the rules. Assumes nothing.
+-- A point offered to a sound map, in the order of this page: the refusal of an arrival, by the case
+-- that the code tests; an arrival is served; the outcome is that of the rules; the map after it is
+-- sound. Assumes nothing.
 use mathlib.Core.Path.{_≡_, refl, sym, ap, subst, _∙_}
 use mathlib.Core.Bool.{Bool, true, false, not, cond}
+use mathlib.Core.List.{[], _∷_}
+use types.Run.{OneOf, miss}
+use denote.Enum.Declared.{tagOf}
 use lib.Dec.{eqb}
 use Rattle.finite.specs.Tests.{is-true}
 use Rattle.model.specs.declared.Refusal.{Refusal}
 use Rattle.model.specs.declared.Point.{Point}
 use Rattle.model.specs.declared.Map.{Map}
 use Rattle.model.specs.declared.Arrival.{Arrival}
+use Rattle.model.proofs.Arrival.{the-type}
 use Rattle.model.specs.declared.Offered.{Offered}
 use Rattle.model.specs.declared.Outcome.{Outcome}
 use Rattle.model.specs.Refusals.{unless}
@@ -21,15 +26,30 @@ use Rattle.model.specs.Reading.{unsound}
 use Rattle.model.proofs.Sound.{sound-by}
 use Rattle.model.proofs.Answers.{rule-passes}
 use Rattle.hull.proofs.Arrivals.{offer-sound}
-use Rattle.reach.specs.Replies.{arrival-outcome}
 use Rattle.reach.proofs.Serving.{answer-outcome}
+
+abbrev pub arrival-outcome : Arrival → Outcome
+arrival-outcome Arrival.First = Outcome.Served
+arrival-outcome Arrival.Second = Outcome.Served
+arrival-outcome Arrival.Inside = Outcome.Served
+arrival-outcome (Arrival.Outside l r v) = Outcome.Served
+arrival-outcome (Arrival.Refused r) = Outcome.Refused r
+
+-- the code looks for the last of the five cases
+pub accepted : (a : Arrival) → OneOf (0 ∷ 1 ∷ 2 ∷ 3 ∷ []) (tagOf the-type a) →
+    arrival-outcome a ≡ Outcome.Served
+accepted Arrival.First among = refl
+accepted Arrival.Second among = refl
+accepted Arrival.Inside among = refl
+accepted (Arrival.Outside l r v) among = refl
+accepted (Arrival.Refused r) among = absurd (miss (0 ∷ 1 ∷ 2 ∷ 3 ∷ []) 4 tt among)
 
 abbrev outcome-of : Offered → Outcome
 outcome-of o = arrival-outcome (o .arrival)
 
 module _ (m : Map) (p : Point) where
   arrival-served : outcome-of (arrive m p) ≡ Outcome.Served
-  unfolding arrival-outcome arrive later-point
+  unfolding arrive later-point
   arrival-served =
       go (eqb (m .count) 0) (eqb (m .count) 1) (eqb (visible-edges m p) 0) (alone m p) (pair m p)
       (spliced m p (left-corner m p) (right-corner m p))
@@ -47,7 +67,7 @@ module _ (m : Map) (p : Point) where
       go false false false u v w = refl
 
   pub admitted-outcome : outcome-of (admitted m p) ≡ outcome-by (admission-rules m p)
-  unfolding arrival-outcome admitted
+  unfolding admitted
   admitted-outcome =
       answer-outcome outcome-of (refusing m) (λ r. refl) (admission-rules m p)
       (arrive m p) arrival-served

@@ -12,8 +12,6 @@ use lib.Text.{eqt}
 use Rattle.model.specs.declared.Point.{Point}
 use Rattle.model.specs.declared.Map.{Map}
 use Rattle.model.specs.declared.Kind.{Kind}
-use Rattle.model.specs.declared.Arrival.{Arrival}
-use Rattle.model.specs.declared.Outcome.{Outcome}
 use Rattle.model.specs.declared.Offered.{Offered}
 use Rattle.model.specs.declared.Written.{Written}
 use Rattle.model.specs.Answers.{Answer, Call, written-answer}
@@ -106,11 +104,3 @@ module _ (s : List ℕ) (p : Point) where
   Offering =
       ServedBoth (of-file s (λ m. offer-call m p .rules)) (saved (call .value .map))
       (arrival-told (meaning-of call))
-
--- the refusal of an arrival
-unfoldable pub arrival-outcome : Arrival → Outcome
-arrival-outcome Arrival.First = Outcome.Served
-arrival-outcome Arrival.Second = Outcome.Served
-arrival-outcome Arrival.Inside = Outcome.Served
-arrival-outcome (Arrival.Outside l r v) = Outcome.Served
-arrival-outcome (Arrival.Refused r) = Outcome.Refused r

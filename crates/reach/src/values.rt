@@ -1,7 +1,6 @@
 // The numbers that stand for the words of answers, and the values after them.
 
 use model::Arrival;
-use model::Outcome;
 use model::Placed;
 use model::Point;
 use orbits::Ending;
@@ -11,8 +10,7 @@ ghost use mathlib.Core.Path.{_≡_};
 ghost use Rattle.model.specs.Plane.{at};
 ghost use Rattle.model.specs.declared.Walked.{Walked};
 ghost use Rattle.model.specs.Answers.{arrival-answer, placed-answer, walked-answer};
-ghost use Rattle.reach.specs.Replies.{arrival-outcome, arrival-told};
-ghost use Rattle.reach.specs.Replies.{place-told, walk-told};
+ghost use Rattle.reach.specs.Replies.{arrival-told, place-told, walk-told};
 
 // The point of two coordinates.
 pub(crate) fn point(x: i64, y: i64) -> Point
@@ -60,22 +58,5 @@ pub(crate) fn arrival_values(arrival: Arrival) -> [usize; 4]
             visible,
         } => [3, left, right, visible],
         Arrival::Refused(refusal) => [4, refusal_number(refusal), 0, 0],
-    }
-}
-
-// Whether a point was accepted.
-pub(crate) fn arrival_outcome(arrival: Arrival) -> Outcome
-    ensures { λ r. ⌜ r ≡ arrival-outcome arrival ⌝ }
-{
-    match arrival {
-        Arrival::First => Outcome::Served,
-        Arrival::Second => Outcome::Served,
-        Arrival::Inside => Outcome::Served,
-        Arrival::Outside {
-            left,
-            right,
-            visible,
-        } => Outcome::Served,
-        Arrival::Refused(refusal) => Outcome::Refused(refusal),
     }
 }

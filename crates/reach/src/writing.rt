@@ -1,14 +1,13 @@
 // What the exported functions end in: the number of a refusal, and values that are written into
 // lent lists where these have room.
 
-use crate::values::arrival_outcome;
 use crate::values::arrival_values;
 use hull::admitted;
 use hull::listing::corners_of;
 use hull::listing::write_corners;
+use model::Arrival;
 use model::Map;
 use model::Offered;
-use model::Outcome;
 use model::Point;
 use model::Refusal;
 use orbits::DartSet;
@@ -111,11 +110,10 @@ pub(crate) fn write_admitted(map: Map, p: Point, out: &mut [u8], arrival: &mut [
 {
     let offered = admitted(map, p);
     let answer = offered.arrival;
-    let outcome = arrival_outcome(answer);
-    match outcome {
-        Outcome::Refused(refusal) => code(refusal),
-        Outcome::Served => write_offered(offered, out, arrival),
+    if let Arrival::Refused(refusal) = answer {
+        return code(refusal);
     }
+    write_offered(offered, out, arrival)
 }
 
 // Writes the bytes of a sound map, and an arrival: number 10.

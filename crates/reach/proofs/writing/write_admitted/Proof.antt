@@ -1,14 +1,15 @@
 -- `reach::writing::write_admitted` meets its contract: the point's rules, and then what is written.
 -- Assumes nothing.
-use mathlib.Core.Path.{sym, ap, subst, _∙_}
+use mathlib.Core.Path.{_≡_, sym, ap, subst, _∙_}
 use mathlib.Core.List.{[]}
 use Rattle.model.specs.declared.Offered.{Offered}
-use Rattle.model.specs.Answers.{arrival-answer}
+use Rattle.model.specs.Answers.{outcome-by, arrival-answer}
 use Rattle.model.specs.Sound.{Sound}
 use Rattle.model.specs.Arrival.{admission-rules, arrive, refusing, admitted}
 use Rattle.model.specs.Saved.{saved}
 use Rattle.model.proofs.Answers.{outcome-serves}
-use Rattle.reach.specs.Replies.{arrival-outcome, arrival-told}
+use Rattle.reach.specs.Replies.{arrival-told}
+use Rattle.reach.proofs.Arrived.{arrival-outcome, accepted}
 use Rattle.reach.proofs.Arrived.{admitted-outcome, admitted-sound}
 use Rattle.reach.proofs.Serving.{both-refused-before, both-served-after, both-at}
 use borrow.Author.Needs.{needs}
@@ -18,35 +19,35 @@ use Rattle.reach.proofs.writing.write_admitted.Tie as tie
 admitted-requires : tie.Need-admitted-requires
 admitted-requires c κs = search needs
 
-arrival-outcome-requires : tie.Need-arrival-outcome-requires
-arrival-outcome-requires c κs = search needs
-
-enum-known-outcome : tie.Need-enum-known-outcome
-enum-known-outcome c = search needs
+enum-known-answer : tie.Need-enum-known-answer
+enum-known-answer c = search needs
 
 code-requires : tie.Need-code-requires
 code-requires c κs = search needs
 
-enum-told : tie.Need-enum-told
-enum-told c = search needs
-
 write-offered-requires : tie.Need-write-offered-requires
 write-offered-requires c κs =
-    let a = c .before .before .before .before .before in
+    let a = c .before .before .before in
     let s = a .before .before .before in
     subst (λ (o : Offered). Sound (o .map)) (sym (a .admitted .ensures))
     (admitted-sound (s .args .map) (s .args .p) (s .pre))
 
+-- the answer has the outcome of the rules
+outcome-found : (c : tie.After-admitted) →
+    let s = c .before .before .before .args in
+    arrival-outcome (c .admitted .result .arrival) ≡ outcome-by (admission-rules (s .map) (s .p))
+outcome-found c =
+    let s = c .before .before .before .args in
+    ap (λ (o : Offered). arrival-outcome (o .arrival)) (c .admitted .ensures)
+    ∙ admitted-outcome (s .map) (s .p)
+
 returns : tie.Need-returns
 returns c =
     let d = c .before .before in
-    let f = d .before .before in
-    let a = f .before in
+    let a = d .before .before in
     let s = a .before .before .before .args in
     both-refused-before (admission-rules (s .map) (s .p)) [] _ _ _ _ _
-    (sym (d .outcome .given .1) ∙ f .arrival-outcome .ensures
-    ∙ ap (λ (o : Offered). arrival-outcome (o .arrival)) (a .admitted .ensures)
-    ∙ admitted-outcome (s .map) (s .p))
+    (sym (ap arrival-outcome (d .answer .given .1)) ∙ outcome-found a)
     (c .code .ensures)
 
 same-length : tie.Need-same-length
@@ -60,12 +61,9 @@ unfolding admitted
 returns-2 c =
     let w = c .before .before .before .before in
     let t = w .before .before .before in
-    let f = t .before .before in
-    let a = f .before in
+    let a = t .before in
     let s = a .before .before .before .args in
-    let served = sym (t .enum-told .given .1) ∙ f .arrival-outcome .ensures ∙ ap
-    (λ (o : Offered). arrival-outcome (o .arrival)) (a .admitted .ensures) ∙ admitted-outcome
-    (s .map) (s .p) in
+    let served = sym (accepted (a .admitted .result .arrival) (t .match .keys2)) ∙ outcome-found a in
     both-served-after (admission-rules (s .map) (s .p)) [] _ _ _ _ served
     (both-at (λ o. []) (λ (o : Offered). saved (o .map))
     (λ (o : Offered). arrival-told (arrival-answer (o .arrival)))
@@ -79,12 +77,10 @@ write-admitted-spec =
     tie.close
     (tie.spec
     admitted-requires
-    arrival-outcome-requires
-    enum-known-outcome
+    enum-known-answer
     code-requires
-    enum-told
-    write-offered-requires
     returns
+    write-offered-requires
     same-length
     same-length-2
     returns-2)

@@ -15,10 +15,12 @@ use Rattle.model.specs.declared.Kind.{Kind}
 use Rattle.model.specs.declared.Offered.{Offered}
 use Rattle.model.specs.declared.Written.{Written}
 use Rattle.model.specs.Answers.{Answer, Call, written-answer}
+use Rattle.model.specs.Maps.{edge-link, point-link}
 use Rattle.model.specs.Reading.{counts-call, orbit-call, walk-call, walker-call}
 use Rattle.model.specs.Placing.{place-call}
 use Rattle.model.specs.Offers.{offer-call}
 use Rattle.model.specs.Saved.{map-in, saved}
+use Rattle.reach.specs.declared.Link.{Link}
 use Rattle.reach.specs.Served.{Reply, ServedBoth}
 use Rattle.reach.specs.Opened.{of-file}
 
@@ -88,6 +90,12 @@ orbit-reply kind d m = reply naturals (orbit-call m kind d)
 
 abbrev pub walk-reply : ℕ → Map → Reply ℕ
 walk-reply d m = reply walk-told (walk-call m d)
+
+-- where a walker comes that is moved by a link, or by none
+abbrev pub along : Link → Map → ℕ → ℕ
+along Link.None m d = d
+along Link.Edge m d = edge-link m d
+along Link.Point m d = point-link m d
 
 abbrev pub walker-reply : (Map → ℕ → ℕ) → ℕ → Map → Reply ℕ
 walker-reply f d m = reply naturals (walker-call (f m) m d)

@@ -31,6 +31,7 @@ use maps::traversal::orbit_of;
 use maps::traversal::walk_of;
 use model::Kind;
 use model::Line;
+use model::Map;
 use model::Oriented;
 use model::Outcome;
 use model::Point;
@@ -43,6 +44,7 @@ use survey::lines::read_line;
 ghost use mathlib.Core.Path.{_≡_};
 ghost use mathlib.Core.List.{[], _∷_};
 ghost use Rattle.model.specs.Plane.{at, orientation-call};
+ghost use Rattle.orbits.specs.Walks.{walker-at};
 ghost use Rattle.model.specs.Maps.{edge-link, empty-map, point-link};
 ghost use Rattle.model.specs.Outline.{corners};
 ghost use Rattle.model.specs.Reading.{unsound};
@@ -51,7 +53,7 @@ ghost use Rattle.model.specs.Text.{line-call};
 ghost use Rattle.model.specs.Report.{report, report-rules};
 ghost use Rattle.reach.specs.Served.{Served, ServedBoth, number-by, only};
 ghost use Rattle.reach.specs.Opened.{of-file};
-ghost use Rattle.reach.specs.Replies.{Offering, counts-reply, from-file, length-told};
+ghost use Rattle.reach.specs.Replies.{Offering, along, counts-reply, from-file, length-told};
 ghost use Rattle.reach.specs.Replies.{orbit-reply, place-reply, reply, signed};
 ghost use Rattle.reach.specs.Replies.{walk-reply, walker-reply};
 
@@ -222,10 +224,16 @@ pub extern "C" fn reach_walk(map: &[u8], dart: usize, out: &mut [usize]) -> u32
     }
 }
 
-// A walker started at a dart: numbers 7, 1, 6 and 10.
-#[no_mangle]
-pub extern "C" fn reach_walker(map: &[u8], dart: usize, out: &mut [usize]) -> u32
-    ensures { λ r. ⌜ Served (from-file (walker-reply (λ m d. d) dart) (now (map .entry)))
+// By which link a walker is moved.
+enum Link {
+    None,
+    Edge,
+    Point,
+}
+
+// A walker started at a dart and moved: numbers 7, 1, 6 and 10.
+fn write_walker(map: &[u8], link: Link, dart: usize, out: &mut [usize]) -> u32
+    ensures { λ r. ⌜ Served (from-file (walker-reply (along link) dart) (now (map .entry)))
         (now (out .entry)) (now (out .exit)) r ⌝ }
 {
     let loaded = load_at(map, dart);
@@ -233,11 +241,32 @@ pub extern "C" fn reach_walker(map: &[u8], dart: usize, out: &mut [usize]) -> u3
     match outcome {
         Outcome::Refused(refusal) => code(refusal),
         Outcome::Served => {
-            let walker = Walker::starting_at(dart);
+            let walker = moved(loaded.map, link, dart);
             let values = [walker.dart];
             write_values(&values, out)
         }
     }
+}
+
+// A walker started at a dart and moved.
+fn moved(map: Map, link: Link, dart: usize) -> Walker
+    ensures { λ r. ⌜ r ≡ walker-at (along link map dart) ⌝ }
+{
+    let walker = Walker { dart };
+    match link {
+        Link::None => walker,
+        Link::Edge => moved_by_edge(map, walker),
+        Link::Point => moved_by_point(map, walker),
+    }
+}
+
+// A walker started at a dart: numbers 7, 1, 6 and 10.
+#[no_mangle]
+pub extern "C" fn reach_walker(map: &[u8], dart: usize, out: &mut [usize]) -> u32
+    ensures { λ r. ⌜ Served (from-file (walker-reply (λ m d. d) dart) (now (map .entry)))
+        (now (out .entry)) (now (out .exit)) r ⌝ }
+{
+    write_walker(map, Link::None, dart, out)
 }
 
 // A walker started at a dart and moved by the edge link: numbers 7, 1, 6 and 10.
@@ -246,16 +275,7 @@ pub extern "C" fn reach_walker_edge(map: &[u8], dart: usize, out: &mut [usize]) 
     ensures { λ r. ⌜ Served (from-file (walker-reply edge-link dart) (now (map .entry)))
         (now (out .entry)) (now (out .exit)) r ⌝ }
 {
-    let loaded = load_at(map, dart);
-    let outcome = loaded.outcome;
-    match outcome {
-        Outcome::Refused(refusal) => code(refusal),
-        Outcome::Served => {
-            let walker = moved_by_edge(loaded.map, Walker { dart });
-            let values = [walker.dart];
-            write_values(&values, out)
-        }
-    }
+    write_walker(map, Link::Edge, dart, out)
 }
 
 // A walker started at a dart and moved by the point link: numbers 7, 1, 6 and 10.
@@ -264,16 +284,7 @@ pub extern "C" fn reach_walker_point(map: &[u8], dart: usize, out: &mut [usize])
     ensures { λ r. ⌜ Served (from-file (walker-reply point-link dart) (now (map .entry)))
         (now (out .entry)) (now (out .exit)) r ⌝ }
 {
-    let loaded = load_at(map, dart);
-    let outcome = loaded.outcome;
-    match outcome {
-        Outcome::Refused(refusal) => code(refusal),
-        Outcome::Served => {
-            let walker = moved_by_point(loaded.map, Walker { dart });
-            let values = [walker.dart];
-            write_values(&values, out)
-        }
-    }
+    write_walker(map, Link::Point, dart, out)
 }
 
 // Where a query point lies: numbers 7, 1, 3 and 10.

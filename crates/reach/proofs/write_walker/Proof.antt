@@ -1,12 +1,16 @@
--- `reach::reach_walker` meets its contract: the file and the dart are checked. Assumes nothing.
-use mathlib.Core.Path.{ap}
+-- `reach::write_walker` meets its contract: the file and the dart are checked, and then the walker is moved.
+-- Assumes nothing.
+use mathlib.Core.Path.{ap, _∙_}
 use mathlib.Core.List.{[], _∷_}
 use Rattle.orbits.specs.declared.Walker.{Walker}
+use Rattle.orbits.specs.Walks.{walker-at}
+use Rattle.model.specs.declared.Map.{Map}
 use Rattle.model.specs.Answers.{moved-answer}
+use Rattle.reach.specs.Replies.{along}
 use Rattle.reach.proofs.OpenedFiles.{opened-refused, opened-served}
 use borrow.Author.Needs.{needs}
-use Rattle.reach.proofs.reach_walker.Statement.{statement}
-use Rattle.reach.proofs.reach_walker.Tie as tie
+use Rattle.reach.proofs.write_walker.Statement.{statement}
+use Rattle.reach.proofs.write_walker.Tie as tie
 
 load-at-requires : tie.Need-load-at-requires
 load-at-requires c κs = search needs
@@ -20,8 +24,8 @@ code-requires c κs = search needs
 enum-told : tie.Need-enum-told
 enum-told c = search needs
 
-starting-at-requires : tie.Need-starting-at-requires
-starting-at-requires c κs = search needs
+moved-requires : tie.Need-moved-requires
+moved-requires c κs = search needs
 
 slice-aggregate-write-values : tie.Need-slice-aggregate-write-values
 slice-aggregate-write-values c = search needs
@@ -48,19 +52,21 @@ returns-2 c =
     let l = t .before .before in
     let o = l .load-at .ensures in
     let e = t .enum-told .given .1 in
+    let s = l .before .before .before .args in
     opened-served o _ _ e
-    (ap (λ (v : Walker). v .dart ∷ []) (n .starting-at .ensures))
+    (ap (λ (v : Walker). v .dart ∷ [])
+    (n .moved .ensures ∙ ap (λ (m : Map). walker-at (along (s .link) m (s .dart))) (o .map e)))
     (w .write-values .ensures)
 
-pub reach-walker-spec : {M : Type 1} → statement M
-reach-walker-spec =
+pub write-walker-spec : {M : Type 1} → statement M
+write-walker-spec =
     tie.close
     (tie.spec
     load-at-requires
     enum-known-outcome
     code-requires
     enum-told
-    starting-at-requires
+    moved-requires
     slice-aggregate-write-values
     write-values-requires
     returns

@@ -119,7 +119,7 @@ pub extern "C" fn reach_offer(
     x: i64,
     y: i64,
     out: &mut [u8],
-    arrival: &mut [usize],
+    arrival: &mut [u64],
 ) -> u32
     ensures { λ r. ⌜ Offering (now (map .entry)) (at x y) (now (out .entry)) (now (out .exit))
         (now (arrival .entry)) (now (arrival .exit)) r ⌝ }
@@ -128,7 +128,7 @@ pub extern "C" fn reach_offer(
 }
 
 // The map of a file after a point is offered to it, and the arrival.
-fn write_offer(map: &[u8], p: Point, out: &mut [u8], arrival: &mut [usize]) -> u32
+fn write_offer(map: &[u8], p: Point, out: &mut [u8], arrival: &mut [u64]) -> u32
     ensures { λ r. ⌜ Offering (now (map .entry)) p (now (out .entry)) (now (out .exit))
         (now (arrival .entry)) (now (arrival .exit)) r ⌝ }
 {
@@ -142,7 +142,7 @@ fn write_offer(map: &[u8], p: Point, out: &mut [u8], arrival: &mut [usize]) -> u
 
 // The numbers of darts, vertices, edges, faces and connected parts: numbers 7, 1 and 10.
 #[no_mangle]
-pub extern "C" fn reach_counts(map: &[u8], out: &mut [usize]) -> u32
+pub extern "C" fn reach_counts(map: &[u8], out: &mut [u64]) -> u32
     ensures { λ r. ⌜ Served (from-file counts-reply (now (map .entry)))
         (now (out .entry)) (now (out .exit)) r ⌝ }
 {
@@ -152,7 +152,13 @@ pub extern "C" fn reach_counts(map: &[u8], out: &mut [usize]) -> u32
         Outcome::Refused(refusal) => code(refusal),
         Outcome::Served => {
             let n = counts_of(loaded.map);
-            let values = [n.darts, n.vertices, n.edges, n.faces, n.parts];
+            let values = [
+                n.darts as u64,
+                n.vertices as u64,
+                n.edges as u64,
+                n.faces as u64,
+                n.parts as u64,
+            ];
             write_values(&values, out)
         }
     }
@@ -209,7 +215,7 @@ pub extern "C" fn reach_part_orbit(map: &[u8], dart: usize, out: &mut [u64]) -> 
 
 // The walk from a dart: numbers 7, 1, 6 and 10.
 #[no_mangle]
-pub extern "C" fn reach_walk(map: &[u8], dart: usize, out: &mut [usize]) -> u32
+pub extern "C" fn reach_walk(map: &[u8], dart: usize, out: &mut [u64]) -> u32
     ensures { λ r. ⌜ Served (from-file (walk-reply dart) (now (map .entry)))
         (now (out .entry)) (now (out .exit)) r ⌝ }
 {
@@ -232,7 +238,7 @@ enum Link {
 }
 
 // A walker started at a dart and moved: numbers 7, 1, 6 and 10.
-fn write_walker(map: &[u8], link: Link, dart: usize, out: &mut [usize]) -> u32
+fn write_walker(map: &[u8], link: Link, dart: usize, out: &mut [u64]) -> u32
     ensures { λ r. ⌜ Served (from-file (walker-reply (along link) dart) (now (map .entry)))
         (now (out .entry)) (now (out .exit)) r ⌝ }
 {
@@ -242,7 +248,7 @@ fn write_walker(map: &[u8], link: Link, dart: usize, out: &mut [usize]) -> u32
         Outcome::Refused(refusal) => code(refusal),
         Outcome::Served => {
             let walker = moved(loaded.map, link, dart);
-            let values = [walker.dart];
+            let values = [walker.dart as u64];
             write_values(&values, out)
         }
     }
@@ -262,7 +268,7 @@ fn moved(map: Map, link: Link, dart: usize) -> Walker
 
 // A walker started at a dart: numbers 7, 1, 6 and 10.
 #[no_mangle]
-pub extern "C" fn reach_walker(map: &[u8], dart: usize, out: &mut [usize]) -> u32
+pub extern "C" fn reach_walker(map: &[u8], dart: usize, out: &mut [u64]) -> u32
     ensures { λ r. ⌜ Served (from-file (walker-reply (λ m d. d) dart) (now (map .entry)))
         (now (out .entry)) (now (out .exit)) r ⌝ }
 {
@@ -271,7 +277,7 @@ pub extern "C" fn reach_walker(map: &[u8], dart: usize, out: &mut [usize]) -> u3
 
 // A walker started at a dart and moved by the edge link: numbers 7, 1, 6 and 10.
 #[no_mangle]
-pub extern "C" fn reach_walker_edge(map: &[u8], dart: usize, out: &mut [usize]) -> u32
+pub extern "C" fn reach_walker_edge(map: &[u8], dart: usize, out: &mut [u64]) -> u32
     ensures { λ r. ⌜ Served (from-file (walker-reply edge-link dart) (now (map .entry)))
         (now (out .entry)) (now (out .exit)) r ⌝ }
 {
@@ -280,7 +286,7 @@ pub extern "C" fn reach_walker_edge(map: &[u8], dart: usize, out: &mut [usize]) 
 
 // A walker started at a dart and moved by the point link: numbers 7, 1, 6 and 10.
 #[no_mangle]
-pub extern "C" fn reach_walker_point(map: &[u8], dart: usize, out: &mut [usize]) -> u32
+pub extern "C" fn reach_walker_point(map: &[u8], dart: usize, out: &mut [u64]) -> u32
     ensures { λ r. ⌜ Served (from-file (walker-reply point-link dart) (now (map .entry)))
         (now (out .entry)) (now (out .exit)) r ⌝ }
 {
@@ -289,7 +295,7 @@ pub extern "C" fn reach_walker_point(map: &[u8], dart: usize, out: &mut [usize])
 
 // Where a query point lies: numbers 7, 1, 3 and 10.
 #[no_mangle]
-pub extern "C" fn reach_place(map: &[u8], x: i64, y: i64, out: &mut [usize]) -> u32
+pub extern "C" fn reach_place(map: &[u8], x: i64, y: i64, out: &mut [u64]) -> u32
     ensures { λ r. ⌜ Served (from-file (place-reply (at x y)) (now (map .entry)))
         (now (out .entry)) (now (out .exit)) r ⌝ }
 {
@@ -297,7 +303,7 @@ pub extern "C" fn reach_place(map: &[u8], x: i64, y: i64, out: &mut [usize]) -> 
 }
 
 // Where a point lies in the map of a file.
-fn write_placed(map: &[u8], p: Point, out: &mut [usize]) -> u32
+fn write_placed(map: &[u8], p: Point, out: &mut [u64]) -> u32
     ensures { λ r. ⌜ Served (from-file (place-reply p) (now (map .entry)))
         (now (out .entry)) (now (out .exit)) r ⌝ }
 {

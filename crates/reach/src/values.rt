@@ -20,32 +20,32 @@ pub(crate) fn point(x: i64, y: i64) -> Point
 }
 
 // The last dart of a walk, the number of its ending, and its moves.
-pub(crate) fn walk_values(walk: Walk) -> [usize; 3]
+pub(crate) fn walk_values(walk: Walk) -> [u64; 3]
     ensures { λ r. ⌜ r ≡ walk-told (walked-answer (Walked.Ended walk)) ⌝ }
 {
     let ending = walk.ending;
     match ending {
-        Ending::Home => [walk.last, 0, walk.moves],
-        Ending::Loose => [walk.last, 1, walk.moves],
+        Ending::Home => [walk.last as u64, 0, walk.moves as u64],
+        Ending::Loose => [walk.last as u64, 1, walk.moves as u64],
     }
 }
 
 // The number of a place, and its values.
-pub(crate) fn placed_values(placed: Placed) -> [usize; 3]
+pub(crate) fn placed_values(placed: Placed) -> [u64; 3]
     ensures { λ r. ⌜ r ≡ place-told (placed-answer placed) ⌝ }
 {
     match placed {
         Placed::NoOutline => [0, 0, 0],
-        Placed::Corner(k) => [1, k, 0],
-        Placed::Edge { from, to } => [2, from, to],
+        Placed::Corner(k) => [1, k as u64, 0],
+        Placed::Edge { from, to } => [2, from as u64, to as u64],
         Placed::Inside => [3, 0, 0],
-        Placed::Outside(visible) => [4, visible, 0],
-        Placed::Refused(refusal) => [5, refusal_number(refusal), 0],
+        Placed::Outside(visible) => [4, visible as u64, 0],
+        Placed::Refused(refusal) => [5, refusal_number(refusal) as u64, 0],
     }
 }
 
 // The number of an arrival, and its values.
-pub(crate) fn arrival_values(arrival: Arrival) -> [usize; 4]
+pub(crate) fn arrival_values(arrival: Arrival) -> [u64; 4]
     ensures { λ r. ⌜ r ≡ arrival-told (arrival-answer arrival) ⌝ }
 {
     match arrival {
@@ -56,7 +56,7 @@ pub(crate) fn arrival_values(arrival: Arrival) -> [usize; 4]
             left,
             right,
             visible,
-        } => [3, left, right, visible],
-        Arrival::Refused(refusal) => [4, refusal_number(refusal), 0, 0],
+        } => [3, left as u64, right as u64, visible as u64],
+        Arrival::Refused(refusal) => [4, refusal_number(refusal) as u64, 0, 0],
     }
 }

@@ -38,7 +38,7 @@ pub(crate) fn code(refusal: Refusal) -> u32
 }
 
 // Writes values into a lent list: number 10.
-pub(crate) fn write_values(values: &[usize], out: &mut [usize]) -> u32
+pub(crate) fn write_values(values: &[u64], out: &mut [u64]) -> u32
     ensures { λ r. ⌜ Served (only (now (values .entry))) (now (out .entry)) (now (out .exit)) r ⌝ }
 {
     if out.len() < values.len() {
@@ -84,25 +84,14 @@ pub(crate) fn write_darts(orbit: DartSet, out: &mut [u64]) -> u32
     if out.len() < 17 {
         return 10;
     }
-    write_words(&orbit.words, out);
+    write_values(&orbit.words, out);
     out[16] = orbit.size as u64;
     0
 }
 
-// Writes words over the front of a lent list that has room for them.
-fn write_words(words: &[u64], out: &mut [u64])
-    requires { ⌜ length (now words) ≤ length (now out) ⌝ }
-    ensures { λ _. ⌜ now (out .exit) ≡
-        now (words .entry) ++ drop (length (now (words .entry))) (now (out .entry)) ⌝ }
-{
-    for i in 0..words.len() {
-        out[i] = words[i];
-    }
-}
-
 // Offers a point to a sound map, and writes the bytes of the map after it and the arrival:
 // numbers 2 to 5 and 10.
-pub(crate) fn write_admitted(map: Map, p: Point, out: &mut [u8], arrival: &mut [usize]) -> u32
+pub(crate) fn write_admitted(map: Map, p: Point, out: &mut [u8], arrival: &mut [u64]) -> u32
     requires { ⌜ Sound map ⌝ }
     ensures { λ r. ⌜ ServedBoth (admission-rules map p) (saved (arrive map p .map))
         (arrival-told (arrival-answer (arrive map p .arrival))) (now (out .entry)) (now (out .exit))
@@ -117,7 +106,7 @@ pub(crate) fn write_admitted(map: Map, p: Point, out: &mut [u8], arrival: &mut [
 }
 
 // Writes the bytes of a sound map, and an arrival: number 10.
-fn write_offered(offered: Offered, out: &mut [u8], arrival: &mut [usize]) -> u32
+fn write_offered(offered: Offered, out: &mut [u8], arrival: &mut [u64]) -> u32
     requires { ⌜ Sound (offered .map) ⌝ }
     ensures { λ r. ⌜ ServedBoth [] (saved (offered .map))
         (arrival-told (arrival-answer (offered .arrival))) (now (out .entry)) (now (out .exit))

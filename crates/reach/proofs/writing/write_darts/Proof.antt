@@ -6,7 +6,7 @@ use Prim.Native.Nat.{ℕ}
 use native.Mathlib.Omega.{arith}
 use denote.Ref.{now}
 use lib.ListN.{drop, set, length-append}
-use Rattle.reach.proofs.Serving.{short-list, with-room, one-more}
+use Rattle.reach.proofs.Serving.{short-list, with-room, one-more, room-serves}
 use borrow.Author.Needs.{needs}
 use Rattle.reach.proofs.writing.write_darts.Statement.{statement}
 use Rattle.reach.proofs.writing.write_darts.Tie as tie
@@ -21,8 +21,8 @@ returns c =
       c .if1 .taken,
     ))
 
-write-words-requires : tie.Need-write-words-requires
-write-words-requires c κs = omega (arith, c .before .before .before .before .before .before .pre)
+write-values-requires : tie.Need-write-values-requires
+write-values-requires c κs = search needs
 
 slice-write-out : tie.Need-slice-write-out
 slice-write-out c = search needs
@@ -40,9 +40,10 @@ returns-2 c =
     with-room (words ++ size ∷ []) _
     (omega (arith, s .pre, length-append words (size ∷ []), d .if1 .left))
     (ap (λ (l : List ℕ). set l 16 size)
-    (w .write-words .ensures ∙ ap (λ (n : ℕ). words ++ drop n (now (s .args .out))) (s .pre))
+    (room-serves (omega (arith, s .pre, d .if1 .left)) (w .write-values .ensures) .1
+    ∙ ap (λ (n : ℕ). words ++ drop n (now (s .args .out))) (s .pre))
     ∙ one-more words (now (s .args .out)) size 16 (s .pre) (d .if1 .left))
 
 pub write-darts-spec : {M : Type 1} → statement M
 write-darts-spec =
-    tie.close (tie.spec returns write-words-requires slice-write-out same-length returns-2)
+    tie.close (tie.spec returns write-values-requires slice-write-out same-length returns-2)

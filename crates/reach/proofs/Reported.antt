@@ -2,7 +2,7 @@
 -- page: no room for the length; a result that is refused; a result that is written.
 -- Assumes nothing.
 use mathlib.Core.Path.{_≡_, refl, sym, ap, subst, _∙_}
-use mathlib.Core.Bool.{Bool, true, false, cond, _||_}
+use mathlib.Core.Bool.{Bool, true, false, cond, _||_, or-true, or-false}
 use mathlib.Core.List.{List, [], _∷_, _++_}
 use Prim.Native.Nat.{ℕ, _≤_, _<_}
 use native.Mathlib.Omega.{arith}
@@ -28,14 +28,6 @@ unless-same (rule ∷ rules) a =
     either : {A : Type 0} (b : Bool) (a : A) → cond b a a ≡ a
     either true a = refl
     either false a = refl
-
-or-true : (b : Bool) → (b || true) ≡ true
-or-true true = refl
-or-true false = refl
-
-or-false : (b : Bool) → (b || false) ≡ b
-or-false true = refl
-or-false false = refl
 
 abbrev written-outcome : Written → Outcome
 written-outcome (Written.Length n) = Outcome.Served

@@ -2,7 +2,7 @@
 -- two parts; values without a rule, written or not; rules that are checked before; two lists; the
 -- rules of an answer that is an enum. Assumes nothing.
 use mathlib.Core.Path.{_≡_, refl, sym, ap, subst, _∙_}
-use mathlib.Core.Bool.{Bool, true, false, cond, _||_}
+use mathlib.Core.Bool.{Bool, true, false, cond, _||_, or-true}
 use mathlib.Core.List.{List, [], _∷_, _++_, append-assoc}
 use Prim.Native.Nat.{ℕ, suc, _+_, _≤_, _<_}
 use native.Mathlib.Omega.{arith}
@@ -12,11 +12,12 @@ use borrow.Author.Tests.{lt-ltb, le-ltb}
 use Rattle.model.specs.declared.Refusal.{Refusal}
 use Rattle.model.specs.declared.Outcome.{Outcome}
 use Rattle.model.specs.Refusals.{number, Rule, _when_, unless}
-use Rattle.model.specs.Answers.{outcome-by}
+use Rattle.model.specs.Answers.{Answer, Call, answer-of, outcome-by}
 use Rattle.model.proofs.Answers.{outcome-refuses, outcome-serves, unless-made}
 use Rattle.hull.proofs.CornerLoops.{Writing, writing-end}
 use Rattle.reach.specs.Served.{Reply, only, and-short, is-short}
 use Rattle.reach.specs.Served.{number-by, left-by, Served, ServedBoth}
+use Rattle.reach.specs.Replies.{meaning-of}
 
 -- ---- rules in two parts
 
@@ -142,10 +143,6 @@ module _ {A B : Type 0} (u : List A) (v : List B) (before : List A) (before′ :
   pub second-short : length before′ < length v → ServedBoth [] u v before before before′ before′ 10
   second-short l = unwritten
       (rw (lt-ltb (length before′) (length v) l) (or-true (is-short u before)))
-    where
-      or-true : (b : Bool) → (b || true) ≡ true
-      or-true true = refl
-      or-true false = refl
 
   pub both-room : {after : List A} {after′ : List B} {k : ℕ} → k ≡ 0 → length u ≤ length before →
       length v ≤ length before′ →
@@ -209,3 +206,26 @@ pub answer-outcome : {A : Type 0} (f : A → Outcome) (refuse : Refusal → A) �
     (unless refuse rules a) ≡ outcome-by rules
 answer-outcome f refuse same rules a e =
     unless-made f refuse Outcome.Refused same rules a ∙ ap (unless Outcome.Refused rules) e
+
+-- what is written of the answer a of a call
+module _ {A B : Type 0} (tell : Answer → List B) (c : Call A) (f : A → Outcome)
+    (same : (r : Refusal) → f (c .refuse r) ≡ Outcome.Refused r)
+    (serves : f (c .value) ≡ Outcome.Served)
+    (before : List B) {a : A} (is : a ≡ answer-of c) where
+  found : f a ≡ outcome-by (c .rules)
+  found = ap f is ∙ answer-outcome f (c .refuse) same (c .rules) (c .value) serves
+
+  pub answer-refused : {k : ℕ} {r : Refusal} → f a ≡ Outcome.Refused r → k ≡ number r →
+      Served (record { rules = c .rules ++ []; values = tell (meaning-of c) }) before before k
+  answer-refused e n =
+      refused-before (c .rules) (only (tell (meaning-of c))) before _ (sym e ∙ found) n
+
+  pub answer-written : {after : List B} {k : ℕ} → f a ≡ Outcome.Served →
+      Served (only (tell (c .meaning a))) before after k →
+      Served (record { rules = c .rules ++ []; values = tell (meaning-of c) }) before after k
+  answer-written e w =
+      let served = sym e ∙ found in
+      served-after (c .rules) (only (tell (meaning-of c))) before served
+      (served-as
+      (ap (λ (x : A). tell (c .meaning x))
+      (is ∙ sym (outcome-serves (c .refuse) (c .value) (c .rules) served))) w)

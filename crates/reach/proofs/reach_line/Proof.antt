@@ -1,15 +1,13 @@
 -- `reach::reach_line` meets its contract: the answer of the call, as a number and two values.
 -- Assumes nothing.
-use mathlib.Core.Path.{refl, sym, ap, _∙_}
+use mathlib.Core.Path.{refl, sym, ap}
 use denote.Ref.{now}
 use Rattle.model.specs.declared.Line.{Line}
 use Rattle.model.specs.declared.Outcome.{Outcome}
 use Rattle.model.specs.Answers.{line-answer}
 use Rattle.model.specs.Text.{line-call, line-read}
-use Rattle.model.proofs.Answers.{outcome-serves}
-use Rattle.reach.specs.Served.{only}
-use Rattle.reach.specs.Replies.{meaning-of}
-use Rattle.reach.proofs.Serving.{refused-before, served-after, served-as, answer-outcome}
+use Rattle.reach.specs.Replies.{signed}
+use Rattle.reach.proofs.Serving.{served-as, answer-refused, answer-written}
 use borrow.Author.Needs.{needs}
 use Rattle.reach.proofs.reach_line.Statement.{statement}
 use Rattle.reach.proofs.reach_line.Tie as tie
@@ -38,11 +36,8 @@ unfolding line-read
 returns c =
     let d = c .before .before in
     let f = d .before .before in
-    let call = line-call (now (f .before .before .args .line)) in
-    refused-before (call .rules) (only (meaning-of call .values)) _ _
-    (ap line-outcome (sym (d .read .given .1) ∙ f .read-line .ensures)
-    ∙ answer-outcome line-outcome Line.Refused (λ r. refl) (call .rules) (call .value) refl)
-    (c .code .ensures)
+    answer-refused signed (line-call (now (f .before .before .args .line))) line-outcome (λ r. refl)
+    refl _ (f .read-line .ensures) (ap line-outcome (d .read .given .1)) (c .code .ensures)
 
 same-length : tie.Need-same-length
 same-length c = search needs
@@ -53,15 +48,10 @@ returns-2 c =
     let w = c .before in
     let d = w .before .before .before in
     let f = d .before .before in
-    let call = line-call (now (f .before .before .args .line)) in
-    let is = sym (d .read2 .given .1) ∙ f .read-line .ensures in
-    let served = ap line-outcome is ∙ answer-outcome line-outcome Line.Refused (λ r. refl)
-    (call .rules) (call .value) refl in
-    served-after (call .rules) (only (meaning-of call .values)) _ served
-    (served-as
-    (ap (λ (o : Line). line-answer o .values)
-    (is ∙ sym (outcome-serves Line.Refused (call .value) (call .rules) served)))
-    (w .write-point .ensures))
+    let is = d .read2 .given .1 in
+    answer-written signed (line-call (now (f .before .before .args .line))) line-outcome (λ r. refl)
+    refl _ (f .read-line .ensures) (ap line-outcome is)
+    (served-as (sym (ap (λ (o : Line). line-answer o .values) is)) (w .write-point .ensures))
 
 pub reach-line-spec : {M : Type 1} → statement M
 reach-line-spec =

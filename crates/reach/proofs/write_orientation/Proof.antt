@@ -9,10 +9,8 @@ use Rattle.model.specs.declared.Oriented.{Oriented}
 use Rattle.model.specs.declared.Outcome.{Outcome}
 use Rattle.model.specs.Answers.{oriented-answer}
 use Rattle.model.specs.Plane.{orientation-call}
-use Rattle.model.proofs.Answers.{outcome-serves}
-use Rattle.reach.specs.Served.{only}
-use Rattle.reach.specs.Replies.{meaning-of}
-use Rattle.reach.proofs.Serving.{refused-before, served-after, served-as, answer-outcome}
+use Rattle.reach.specs.Replies.{signed}
+use Rattle.reach.proofs.Serving.{served-as, answer-refused, answer-written}
 use borrow.Author.Needs.{needs}
 use Rattle.reach.proofs.write_orientation.Statement.{statement}
 use Rattle.reach.proofs.write_orientation.Tie as tie
@@ -41,11 +39,9 @@ returns c =
     let d = c .before .before in
     let f = d .before .before in
     let s = f .before .args in
-    let call = orientation-call (s .a) (s .b) (s .c) in
-    refused-before (call .rules) (only (meaning-of call .values)) _ _
-    (ap oriented-outcome (sym (d .oriented .given .1) ∙ f .orientation-of .ensures .answer .equal)
-    ∙ answer-outcome oriented-outcome Oriented.Refused (λ r. refl) (call .rules) (call .value) refl)
-    (c .code .ensures)
+    answer-refused signed (orientation-call (s .a) (s .b) (s .c)) oriented-outcome (λ r. refl) refl _
+    (f .orientation-of .ensures .answer .equal)
+    (ap oriented-outcome (d .oriented .given .1)) (c .code .ensures)
 
 same-length : tie.Need-same-length
 same-length c = search needs
@@ -59,15 +55,12 @@ returns-2 c =
     let z = d .oriented2 .given .0 .0 in
     let f = d .before .before in
     let s = f .before .args in
-    let call = orientation-call (s .a) (s .b) (s .c) in
-    let is = sym (d .oriented2 .given .1) ∙ f .orientation-of .ensures .answer .equal in
-    let served = ap oriented-outcome is ∙ answer-outcome oriented-outcome Oriented.Refused
-    (λ r. refl) (call .rules) (call .value) refl in
-    served-after (call .rules) (only (meaning-of call .values)) _ served
+    let is = d .oriented2 .given .1 in
+    answer-written signed (orientation-call (s .a) (s .b) (s .c)) oriented-outcome (λ r. refl) refl _
+    (f .orientation-of .ensures .answer .equal) (ap oriented-outcome is)
     (served-as
     (ap (λ (i : ℤ). i ∷ []) (toZ-ofZ w64 z (record { sfits = told .known-told2 .given .0 .1 }))
-    ∙ ap (λ (o : Oriented). oriented-answer o .values)
-    (is ∙ sym (outcome-serves Oriented.Refused (call .value) (call .rules) served)))
+    ∙ sym (ap (λ (o : Oriented). oriented-answer o .values) is))
     (w .write-number .ensures))
 
 pub write-orientation-spec : {M : Type 1} → statement M

@@ -24,11 +24,12 @@ tested e n = ap not (sym e) ∙ n
 pub found-sound : {m : Map} {r : Bool} → r ≡ sound m → not r ≡ false → Sound m
 found-sound {m} {r} e n = sound-holds m (of-true (sound m) (sym e ∙ not-false r n))
 
--- where a map and a dart passed their check
-not-not : (b : Bool) → ¬ T (not b) → T b
+-- a rule that does not apply, and what it asks
+pub not-not : (b : Bool) → ¬ T (not b) → T b
 not-not Bool.true n = tt
 not-not Bool.false n = n tt
 
+-- where a map and a dart passed their check
 module _ (m : Map) (d : ℕ) (served : Outcome.Served ≡ outcome-by (dart-rules m d)) where
   passed : NoneApplies (dart-rules m d) → Sound m × T (is-present m d)
   passed (nor unsound (nor absent none)) =

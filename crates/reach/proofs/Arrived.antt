@@ -1,21 +1,19 @@
 -- A point offered to a sound map, in the order of this page: the refusal of an arrival, by the case
 -- that the code tests; an arrival is served; the outcome is that of the rules; the map after it is
 -- sound. Assumes nothing.
-use mathlib.Core.Path.{_≡_, refl, sym, ap, subst, _∙_}
+use mathlib.Core.Path.{_≡_, refl, sym, ap, subst}
 use mathlib.Core.Bool.{Bool, true, false, not, cond}
 use mathlib.Core.List.{[], _∷_}
 use types.Run.{OneOf, miss}
 use denote.Enum.Declared.{tagOf}
 use lib.Dec.{eqb}
 use Rattle.finite.specs.Tests.{is-true}
-use Rattle.model.specs.declared.Refusal.{Refusal}
 use Rattle.model.specs.declared.Point.{Point}
 use Rattle.model.specs.declared.Map.{Map}
 use Rattle.model.specs.declared.Arrival.{Arrival}
 use Rattle.model.proofs.Arrival.{the-type}
 use Rattle.model.specs.declared.Offered.{Offered}
 use Rattle.model.specs.declared.Outcome.{Outcome}
-use Rattle.model.specs.Refusals.{unless}
 use Rattle.model.specs.Answers.{outcome-by}
 use Rattle.model.specs.Sound.{sound, Sound}
 use Rattle.model.specs.Outline.{visible-edges}

@@ -2,7 +2,7 @@
 -- answers; a check more; what a served file gives; what the exported functions promise from it.
 -- Assumes nothing.
 use mathlib.Core.Path.{_≡_, refl, sym, ap, subst, _∙_}
-use mathlib.Core.Bool.{Bool, true, false, not}
+use mathlib.Core.Bool.{Bool, not}
 use mathlib.Core.List.{List, [], _∷_, _++_}
 use Prim.Native.Nat.{ℕ}
 use native.Mathlib.Omega.{arith}
@@ -12,7 +12,7 @@ use Rattle.model.specs.declared.Point.{Point}
 use Rattle.model.specs.declared.Map.{Map}
 use Rattle.model.specs.declared.Outcome.{Outcome}
 use Rattle.model.specs.declared.Loaded.{Loaded}
-use Rattle.model.specs.Refusals.{number, Rule, _when_, unless, NoneApplies, none, nor}
+use Rattle.model.specs.Refusals.{number, Rule, _when_, NoneApplies, none, nor}
 use Rattle.model.specs.Answers.{Call, answer-of, Answered, outcome-by}
 use Rattle.model.specs.Plane.{in-range}
 use Rattle.model.specs.Maps.{empty-map, is-present}
@@ -22,10 +22,10 @@ use Rattle.model.specs.Placing.{place-call}
 use Rattle.model.specs.Saved.{load-call, map-in}
 use Rattle.model.proofs.Sound.{sound-holds}
 use Rattle.model.proofs.Answers.{outcome-refuses, outcome-serves, unless-made, served-none}
-use Rattle.reach.specs.Served.{Reply, only, Served, ServedBoth}
+use Rattle.engine.proofs.Rules.{not-not}
+use Rattle.reach.specs.Served.{only, Served}
 use Rattle.reach.specs.Opened.{Opened, of-file}
 use Rattle.reach.proofs.Serving.{unless-append, refused-before, served-after, served-as}
-use Rattle.reach.proofs.Serving.{both-refused-before, both-served-after}
 
 -- what loading answers
 pub loads : {s : List ℕ} {l : Loaded} → Answered (load-call s) l → Opened s (load-call s .rules) l
@@ -80,10 +80,6 @@ module _ {s : List ℕ} {rules : List Rule} {l : Loaded} (o : Opened s rules l)
         }
 
 -- ---- what a served file gives
-
-not-not : (b : Bool) → ¬ T (not b) → T b
-not-not true n = tt
-not-not false n = n tt
 
 module _ {s : List ℕ} {more : List Rule} {l : Loaded}
     (o : Opened s (of-file s (λ m. unsound m ∷ more)) l) (e : l .outcome ≡ Outcome.Served) where

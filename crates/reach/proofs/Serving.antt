@@ -15,8 +15,8 @@ use Rattle.model.specs.Refusals.{number, Rule, _when_, unless}
 use Rattle.model.specs.Answers.{Answer, Call, answer-of, outcome-by}
 use Rattle.model.proofs.Answers.{outcome-refuses, outcome-serves, unless-made}
 use Rattle.hull.proofs.CornerLoops.{Writing, writing-end}
-use Rattle.reach.specs.Served.{Reply, only, and-short, is-short}
-use Rattle.reach.specs.Served.{number-by, left-by, Served, ServedBoth}
+use Rattle.reach.specs.Served.{Reply, only, is-short}
+use Rattle.reach.specs.Served.{Served, ServedBoth}
 use Rattle.reach.specs.Replies.{meaning-of}
 
 -- ---- rules in two parts

@@ -3,7 +3,6 @@ use borrow.Author.Needs.{needs}
 use mathlib.Core.Path.{refl, ap, _∙_}
 use Rattle.model.specs.declared.Counted.{Counted}
 use Rattle.model.specs.Answers.{counted-answer}
-use Rattle.model.specs.Reading.{counts-call}
 use Rattle.model.proofs.Answers.{answered, rule-applies, rule-passes, no-rule}
 use Rattle.engine.proofs.Rules.{tested, found-sound}
 use Rattle.engine.proofs.counts.Statement.{statement}
@@ -15,7 +14,7 @@ is-sound-requires c κs = search needs
 returns : tie.Need-returns
 unfolding counted-answer
 returns c =
-    answered (counts-call (c .before .before .args .map)) (λ r. refl)
+    answered _ (λ r. refl)
     (rule-applies Counted.Refused _ _ _ (tested (c .before .is-sound .ensures) (c .if1 .taken)))
 
 counts-of-requires : tie.Need-counts-of-requires
@@ -25,7 +24,7 @@ returns-2 : tie.Need-returns-2
 unfolding counted-answer
 returns-2 c =
     let d = c .before in
-    answered (counts-call (d .before .before .args .map)) (λ r. refl)
+    answered _ (λ r. refl)
     (rule-passes Counted.Refused _ _ _ (tested (d .before .is-sound .ensures) (d .if1 .left))
     (ap Counted.Numbers (c .counts-of .ensures) ∙ no-rule Counted.Refused _))
 

@@ -2,19 +2,10 @@
 -- written. Assumes nothing.
 use borrow.Author.Needs.{needs}
 use mathlib.Core.Path.{_∙_}
-use mathlib.Core.List.{[], _∷_}
 use native.Mathlib.Omega.{arith}
-use borrow.Author.Tests.{lt-ltb, le-ltb}
-use denote.Ref.{now}
-use lib.ListN.{length}
-use Rattle.model.specs.declared.Refusal.{Refusal}
-use Rattle.model.specs.declared.Written.{Written}
-use Rattle.model.specs.Outline.{corners}
-use Rattle.model.specs.Reading.{unsound}
-use Rattle.model.proofs.Answers.{rule-applies, rule-passes, no-rule}
-use Rattle.model.proofs.Lent.{wrote-nothing, wrote-result}
 use Rattle.hull.proofs.CornerLoops.{corners-written}
 use Rattle.engine.proofs.Rules.{tested, found-sound}
+use Rattle.engine.proofs.Entries.{rule-refused, short-refused, result-written}
 use Rattle.engine.proofs.list_corners.Statement.{statement}
 use Rattle.engine.proofs.list_corners.Tie as tie
 
@@ -22,10 +13,7 @@ is-sound-requires : tie.Need-is-sound-requires
 is-sound-requires c κs = search needs
 
 returns : tie.Need-returns
-returns c =
-    let s = c .before .before .before .args in
-    wrote-nothing (unsound (s .map) ∷ []) (corners (s .map)) (now (s .lent)) Refusal.NotSound
-    (rule-applies Written.Refused _ _ _ (tested (c .before .is-sound .ensures) (c .if1 .taken)))
+returns c = rule-refused (tested (c .before .is-sound .ensures) (c .if1 .taken))
 
 corners-of-requires : tie.Need-corners-of-requires
 corners-of-requires c κs = found-sound (c .before .is-sound .ensures) (c .if1 .left)
@@ -33,10 +21,8 @@ corners-of-requires c κs = found-sound (c .before .is-sound .ensures) (c .if1 .
 returns-2 : tie.Need-returns-2
 returns-2 c =
     let d = c .before .before in
-    let s = d .before .before .before .args in
-    wrote-nothing (unsound (s .map) ∷ []) (corners (s .map)) (now (s .lent)) Refusal.ShortList
-    (rule-passes Written.Refused _ _ _ (tested (d .before .is-sound .ensures) (d .if1 .left))
-    (rule-applies Written.Refused _ _ _ (lt-ltb (length (now (s .lent))) (length (corners (s .map))) (omega (arith, c .before .corners-of .ensures .number, c .if2 .taken)))))
+    short-refused (tested (d .before .is-sound .ensures) (d .if1 .left))
+    (omega (arith, c .before .corners-of .ensures .number, c .if2 .taken))
 
 write-corners-requires : tie.Need-write-corners-requires
 write-corners-requires c κs = search needs
@@ -50,11 +36,9 @@ returns-3 c =
     let room = w .before .before in
     let lists = room .before .corners-of .ensures in
     let d = room .before .before in
-    let s = d .before .before .before .args in
-    wrote-result (unsound (s .map) ∷ []) (corners (s .map)) (now (s .lent)) _ _ (lists .number)
-    (rule-passes Written.Refused _ _ _ (tested (d .before .is-sound .ensures) (d .if1 .left))
-    (rule-passes Written.Refused _ _ _ (le-ltb (length (now (s .lent))) (length (corners (s .map))) (omega (arith, lists .number, room .if2 .left))) (no-rule Written.Refused _)))
-    (w .write-corners .ensures ∙ corners-written lists (now (s .lent)))
+    result-written (tested (d .before .is-sound .ensures) (d .if1 .left)) (lists .number)
+    (omega (arith, lists .number, room .if2 .left))
+    (w .write-corners .ensures ∙ corners-written lists _)
 
 pub list-corners-spec : {M : Type 1} → statement M
 list-corners-spec =

@@ -3,7 +3,6 @@ use borrow.Author.Needs.{needs}
 use mathlib.Core.Path.{refl}
 use Rattle.model.specs.Answers.{arrival-answer}
 use Rattle.model.specs.Arrival.{refusing, admitted}
-use Rattle.model.specs.Offers.{offer-call}
 use Rattle.model.proofs.Answers.{answered, rule-applies, rule-passes}
 use Rattle.engine.proofs.Rules.{tested, found-sound}
 use Rattle.engine.proofs.offer.Statement.{statement}
@@ -16,7 +15,7 @@ returns : tie.Need-returns
 unfolding arrival-answer
 returns c =
     let s = c .before .before .args in
-    answered (offer-call (s .map) (s .p)) (λ r. refl)
+    answered _ (λ r. refl)
     (rule-applies (refusing (s .map)) _ _ _ (tested (c .before .is-sound .ensures) (c .if1 .taken)))
 
 admitted-requires : tie.Need-admitted-requires
@@ -27,7 +26,7 @@ unfolding arrival-answer admitted
 returns-2 c =
     let d = c .before in
     let s = d .before .before .args in
-    answered (offer-call (s .map) (s .p)) (λ r. refl)
+    answered _ (λ r. refl)
     (rule-passes (refusing (s .map)) _ _ _ (tested (d .before .is-sound .ensures) (d .if1 .left)) (c .admitted .ensures))
 
 pub offer-spec : {M : Type 1} → statement M

@@ -6,9 +6,8 @@ use Rattle.orbits.specs.declared.DartSet.{DartSet}
 use Rattle.model.specs.declared.Orbit.{Orbit}
 use Rattle.model.specs.declared.Outcome.{Outcome}
 use Rattle.model.specs.Answers.{orbit-answer}
-use Rattle.model.specs.Reading.{dart-rules, no-orbit, orbit-call}
-use Rattle.model.proofs.Answers.{answered, outcome-refuses, outcome-serves}
 use Rattle.engine.proofs.Rules.{checked-sound, checked-present}
+use Rattle.engine.proofs.Entries.{refused-first, served-first}
 use Rattle.engine.proofs.orbit.Statement.{statement}
 use Rattle.engine.proofs.orbit.Tie as tie
 
@@ -38,22 +37,15 @@ orbit-of-requires c κs =
 returns : tie.Need-returns
 unfolding orbit-answer
 returns c =
-    let d = c .before .before .before .before in
-    let s = d .before .args in
-    answered (orbit-call (s .map) (s .kind) (s .dart)) (λ r. refl)
-    (ap (beside _) (c .empty .ensures)
-    ∙ outcome-refuses no-orbit _ (dart-rules (s .map) (s .dart)) _
-    (sym (c .before .before .checked .given .1) ∙ d .check-dart .ensures))
+    rw (c .empty .ensures)
+    (refused-first (c .before .before .before .before .check-dart .ensures)
+    (c .before .before .checked .given .1) (λ r. refl))
 
 returns-2 : tie.Need-returns-2
 unfolding orbit-answer
 returns-2 c =
-    let d = c .before .before .before in
-    let s = d .before .args in
-    answered (orbit-call (s .map) (s .kind) (s .dart)) (λ r. refl)
-    (ap (beside Outcome.Served) (c .orbit-of .ensures)
-    ∙ outcome-serves no-orbit _ (dart-rules (s .map) (s .dart))
-    (sym (c .before .enum-told .given .1) ∙ d .check-dart .ensures))
+    served-first (c .before .before .before .check-dart .ensures) (c .before .enum-told .given .1)
+    (ap (beside Outcome.Served) (c .orbit-of .ensures)) (λ r. refl)
 
 pub orbit-spec : {M : Type 1} → statement M
 orbit-spec =

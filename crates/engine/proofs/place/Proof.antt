@@ -5,7 +5,6 @@ use borrow.Author.Tests.{not-false}
 use Rattle.finite.specs.Tests.{of-true}
 use Rattle.model.specs.declared.Placed.{Placed}
 use Rattle.model.specs.Answers.{placed-answer}
-use Rattle.model.specs.Placing.{place-call}
 use Rattle.model.proofs.Answers.{answered, rule-applies, rule-passes, no-rule}
 use Rattle.engine.proofs.Rules.{tested, found-sound}
 use Rattle.engine.proofs.place.Statement.{statement}
@@ -17,8 +16,7 @@ is-sound-requires c κs = search needs
 returns : tie.Need-returns
 unfolding placed-answer
 returns c =
-    let s = c .before .before .args in
-    answered (place-call (s .map) (s .p)) (λ r. refl)
+    answered _ (λ r. refl)
     (rule-applies Placed.Refused _ _ _ (tested (c .before .is-sound .ensures) (c .if1 .taken)))
 
 in-range-requires : tie.Need-in-range-requires
@@ -28,8 +26,7 @@ returns-2 : tie.Need-returns-2
 unfolding placed-answer
 returns-2 c =
     let d = c .before .before in
-    let s = d .before .before .args in
-    answered (place-call (s .map) (s .p)) (λ r. refl)
+    answered _ (λ r. refl)
     (rule-passes Placed.Refused _ _ _ (tested (d .before .is-sound .ensures) (d .if1 .left))
     (rule-applies Placed.Refused _ _ _ (tested (c .before .in-range .ensures) (c .if2 .taken))))
 
@@ -45,8 +42,7 @@ unfolding placed-answer
 returns-3 c =
     let e = c .before in
     let d = e .before .before in
-    let s = d .before .before .args in
-    answered (place-call (s .map) (s .p)) (λ r. refl)
+    answered _ (λ r. refl)
     (rule-passes Placed.Refused _ _ _ (tested (d .before .is-sound .ensures) (d .if1 .left))
     (rule-passes Placed.Refused _ _ _ (tested (e .before .in-range .ensures) (e .if2 .left))
     (c .placed .ensures ∙ no-rule Placed.Refused _)))

@@ -3,9 +3,8 @@ use borrow.Author.Needs.{needs}
 use mathlib.Core.Path.{refl, sym, ap, _∙_}
 use Rattle.model.specs.declared.Walked.{Walked}
 use Rattle.model.specs.Answers.{walked-answer}
-use Rattle.model.specs.Reading.{dart-rules, walk-call}
-use Rattle.model.proofs.Answers.{answered, outcome-refuses, outcome-serves}
 use Rattle.engine.proofs.Rules.{checked-sound}
+use Rattle.engine.proofs.Entries.{refused-first, served-first}
 use Rattle.engine.proofs.walk.Statement.{statement}
 use Rattle.engine.proofs.walk.Tie as tie
 
@@ -27,21 +26,14 @@ walk-of-requires c κs =
 returns : tie.Need-returns
 unfolding walked-answer
 returns c =
-    let d = c .before .before .before in
-    let s = d .before .args in
-    answered (walk-call (s .map) (s .dart)) (λ r. refl)
-    (outcome-refuses Walked.Refused _ (dart-rules (s .map) (s .dart)) _
-    (sym (c .before .checked .given .1) ∙ d .check-dart .ensures))
+    refused-first (c .before .before .before .check-dart .ensures) (c .before .checked .given .1)
+    (λ r. refl)
 
 returns-2 : tie.Need-returns-2
 unfolding walked-answer
 returns-2 c =
-    let d = c .before .before .before in
-    let s = d .before .args in
-    answered (walk-call (s .map) (s .dart)) (λ r. refl)
-    (ap Walked.Ended (c .walk-of .ensures)
-    ∙ outcome-serves Walked.Refused _ (dart-rules (s .map) (s .dart))
-    (sym (c .before .enum-told .given .1) ∙ d .check-dart .ensures))
+    served-first (c .before .before .before .check-dart .ensures) (c .before .enum-told .given .1)
+    (ap Walked.Ended (c .walk-of .ensures)) (λ r. refl)
 
 pub walk-spec : {M : Type 1} → statement M
 walk-spec =

@@ -1,11 +1,10 @@
 -- `engine::walker_at` meets its contract: the map and the dart are checked, and then a walker starts there.
 -- Assumes nothing.
 use borrow.Author.Needs.{needs}
-use mathlib.Core.Path.{refl, sym, ap, _∙_}
+use mathlib.Core.Path.{refl, ap}
 use Rattle.model.specs.declared.Moved.{Moved}
 use Rattle.model.specs.Answers.{moved-answer}
-use Rattle.model.specs.Reading.{dart-rules, walker-call}
-use Rattle.model.proofs.Answers.{answered, outcome-refuses, outcome-serves}
+use Rattle.engine.proofs.Entries.{refused-first, served-first}
 use Rattle.engine.proofs.walker_at.Statement.{statement}
 use Rattle.engine.proofs.walker_at.Tie as tie
 
@@ -24,21 +23,14 @@ starting-at-requires c κs = search needs
 returns : tie.Need-returns
 unfolding moved-answer
 returns c =
-    let d = c .before .before .before in
-    let s = d .before .args in
-    answered (walker-call (λ d. d) (s .map) (s .dart)) (λ r. refl)
-    (outcome-refuses Moved.Refused _ (dart-rules (s .map) (s .dart)) _
-    (sym (c .before .checked .given .1) ∙ d .check-dart .ensures))
+    refused-first (c .before .before .before .check-dart .ensures) (c .before .checked .given .1)
+    (λ r. refl)
 
 returns-2 : tie.Need-returns-2
 unfolding moved-answer
 returns-2 c =
-    let d = c .before .before .before in
-    let s = d .before .args in
-    answered (walker-call (λ d. d) (s .map) (s .dart)) (λ r. refl)
-    (ap Moved.At (c .starting-at .ensures)
-    ∙ outcome-serves Moved.Refused _ (dart-rules (s .map) (s .dart))
-    (sym (c .before .enum-told .given .1) ∙ d .check-dart .ensures))
+    served-first (c .before .before .before .check-dart .ensures) (c .before .enum-told .given .1)
+    (ap Moved.At (c .starting-at .ensures)) (λ r. refl)
 
 pub walker-at-spec : {M : Type 1} → statement M
 walker-at-spec =

@@ -1,18 +1,16 @@
 -- `saved::write_map` meets its contract: block after block, each over what follows the blocks
 -- before it. Assumes nothing.
-use mathlib.Core.Path.{_≡_, sym, ap, _∙_}
+use mathlib.Core.Path.{_≡_, sym, _∙_}
 use mathlib.Core.List.{List, _++_}
-use Prim.Native.Nat.{ℕ, _-_, _*_, _≤_}
+use Prim.Native.Nat.{ℕ, _-_, _*_}
 use native.Mathlib.Omega.{arith}
-use borrow.Rule.Slice.PartMut.{putMid}
 use lib.ListN.{length, length-append, length-take, length-drop}
 use Rattle.finite.specs.Bounded.{one-if}
 use Rattle.model.specs.declared.Map.{Map}
 use Rattle.model.specs.Maps.{point, has-helper, edge-link}
 use Rattle.model.specs.Saved.{header, header-length, helpers-place, links-place, block, complement}
-use Rattle.model.specs.Saved.{coordinate, saved, saved-length}
-use Rattle.saved.specs.Writing.{over}
-use Rattle.saved.proofs.Blocks.{length-block, length-over, piece-written}
+use Rattle.model.specs.Saved.{coordinate, saved}
+use Rattle.saved.proofs.Blocks.{length-block, piece-written}
 use Rattle.saved.proofs.Places.{length-header}
 use Rattle.saved.proofs.Files.{points-ranged}
 use borrow.Author.Needs.{needs}
@@ -93,85 +91,39 @@ length-3 m =
       length-block (m .count) 1 (λ k. one-if (has-helper m k)),
     ))
 
--- the list after each of them
-module _ (c : tie.After-write-header) where
-  abbrev start : tie.Start
-  start = c .before .before .before
-
-  abbrev map : Map
-  map = start .args .t1
-
-  abbrev before : List ℕ
-  before = start .args .lent .now
-
-  abbrev lent-1 : List ℕ
-  lent-1 = c .write-header .last .1 .1 .0
-
-module _ (c : tie.After-write-coordinates) where
-  abbrev at-1 : tie.After-write-header
-  at-1 = c .before .before .before .before .before .before .before .before .before
-
-  abbrev lent-2 : List ℕ
-  lent-2 =
-      putMid header-length (length (lent-1 at-1) - header-length) (lent-1 at-1)
-      (c .write-coordinates .last .1 .1 .1 .0)
-
-  after-2 : lent-2 ≡ over (first-2 (map at-1)) (before at-1)
-  unfolding coordinate point
-  after-2 =
-      piece-written (first-1 (map at-1))
-      (block (2 * map at-1 .count) 4 (λ i. complement (coordinate (map at-1) i))) (before at-1)
-      header-length (lent-1 at-1) (c .write-coordinates .last .1 .1 .1 .0)
-      (at-1 .write-header .ensures)
-      (sym (length-header (map at-1))) (omega arith) (c .write-coordinates .ensures)
-
-module _ (c : tie.After-write-helpers) where
-  abbrev at-2 : tie.After-write-coordinates
-  at-2 = c .before .before .before .before .before .before .before .before
-
-  abbrev m-3 : Map
-  m-3 = map (at-1 at-2)
-
-  -- where the helper bytes begin
-  abbrev placed : tie.After-helpers-place
-  placed = c .before .before .before .before .before
-
-  abbrev helpers-start : ℕ
-  helpers-start = placed .helpers-place .result
-
-  abbrev lent-3 : List ℕ
-  lent-3 =
-      putMid helpers-start (length (lent-2 at-2) - helpers-start) (lent-2 at-2)
-      (c .write-helpers .last .1 .1 .0)
-
-  after-3 : lent-3 ≡ over (first-3 m-3) (before (at-1 at-2))
-  unfolding has-helper
-  after-3 =
-      piece-written (first-2 m-3) (block (m-3 .count) 1 (λ k. one-if (has-helper m-3 k)))
-      (before (at-1 at-2)) helpers-start (lent-2 at-2) (c .write-helpers .last .1 .1 .0)
-      (after-2 at-2) (placed .helpers-place .ensures ∙ length-2 m-3) (omega arith)
-      (c .write-helpers .ensures)
-
-  long-3 : links-place (m-3 .count) ≤ length lent-3
-  long-3 =
-      let room : saved-length (m-3 .count) ≤ length (before (at-1 at-2)) = start (at-1 at-2) .pre .1 in
-      let l = length-3 m-3 in
-      let whole = length-over (first-3 m-3) (before (at-1 at-2)) (omega arith) in
-      omega (arith, ap length after-3)
-
 same-length : tie.Need-same-length
 same-length c = search needs
 
 returns : tie.Need-returns
-unfolding saved edge-link
+unfolding saved coordinate point has-helper edge-link
 returns c =
     let c-4 = c .before .before in
-    let at = c-4 .before .before .before .before .before .links-place in
-    let c-3 = c-4 .before .before .before .before .before .before .before .before in
-    let m = m-3 c-3 in
-    piece-written (first-3 m) (block (2 * m .count) 2 (edge-link m)) (before (at-1 (at-2 c-3)))
-    (at .result) (lent-3 c-3) (c-4 .write-links .last .1 .1 .0) (after-3 c-3)
-    (at .ensures ∙ length-3 m) (omega (arith, at .ensures, long-3 c-3)) (c-4 .write-links .ensures)
+    let links = c-4 .before .before .before .before .before in
+    let lent-3 = links .before .before in
+    let c-3 = lent-3 .before in
+    let helpers = c-3 .before .before .before .before .before in
+    let lent-2 = helpers .before .before in
+    let c-2 = lent-2 .before in
+    let c-1 = c-2 .before .before .before .before .before .before .before .before .before in
+    let s = c-1 .before .before .before .args in
+    let m = s .t1 in
+    let before = s .lent .now in
+    let after-2 =
+    piece-written (first-1 m) (block (2 * m .count) 4 (λ i. complement (coordinate m i))) before
+    header-length _ _
+    (c-1 .write-header .ensures) (sym (length-header m)) (omega arith)
+    (c-2 .write-coordinates .ensures) in
+    let after-3 =
+    piece-written (first-2 m) (block (m .count) 1 (λ k. one-if (has-helper m k))) before
+    (helpers .helpers-place .result) _ _
+    after-2 (helpers .helpers-place .ensures ∙ length-2 m)
+    (omega (arith, helpers .helpers-place .ensures, lent-2 .lent2 .given))
+    (c-3 .write-helpers .ensures) in
+    piece-written (first-3 m) (block (2 * m .count) 2 (edge-link m)) before
+    (links .links-place .result) _ _
+    after-3 (links .links-place .ensures ∙ length-3 m)
+    (omega (arith, links .links-place .ensures, lent-2 .lent2 .given, lent-3 .lent3 .given))
+    (c-4 .write-links .ensures)
 
 pub write-map-spec : {M : Type 1} → statement M
 write-map-spec =

@@ -104,40 +104,41 @@ all-bytes-put {before} {width} {value} {left} p l =
 
 -- ---- a block that is written field by field
 
--- k fields of w bytes are written over the front of what the list held before
-pub record BlockPut (f : ℕ → ℕ) (w : ℕ) (before : List ℕ) (k : ℕ) (lent : List ℕ) : Type 0 where
+-- k of n fields of w bytes are written over the front of what the list held before
+pub record BlockPut (f : ℕ → ℕ) (w n : ℕ) (before : List ℕ) (k : ℕ) (lent : List ℕ) : Type 0 where
+  pub within : k ≤ n
   pub lent-is : lent ≡ over (block k w f) before
   pub same-length : length lent ≡ length before
 
-pub no-field-put : (f : ℕ → ℕ) (w : ℕ) (before : List ℕ) → BlockPut f w before 0 before
+pub no-field-put : {f : ℕ → ℕ} {w n : ℕ} {before : List ℕ} → BlockPut f w n before 0 before
 unfolding block table table-onto flatten
-no-field-put f w before = record { lent-is = refl; same-length = refl }
+no-field-put = record { within = omega arith; lent-is = refl; same-length = refl }
 
--- one field more: `number` is what is put into the part from `at` on, and `last` what the part then
--- holds
-pub one-field-put : {f : ℕ → ℕ} {w : ℕ} {before : List ℕ} {k : ℕ} {lent : List ℕ} →
-    BlockPut f w before k lent →
-    (at : ℕ) → at ≡ w * k → w * (k + 1) ≤ length before → (number : ℕ) → number ≡ f k →
-    (last : List ℕ) →
-    last ≡ over (big-endian w number) (midOf at (length lent - at) lent) →
-    BlockPut f w before (k + 1) (putMid at (length lent - at) lent last)
-one-field-put {f} {w} {before} {k} {lent} p at e h number n last g =
-    record {
-      lent-is = is;
-      same-length = ap length is ∙ length-over (block (k + 1) w f) before
-          (rw length-block h);
-    }
-  where
-    is : putMid at (length lent - at) lent last ≡ over (block (k + 1) w f) before
-    is =
-        piece-written (block k w f) (big-endian w (f k)) before at lent last (p .lent-is)
-        (e ∙ sym (length-block k w f))
-        (omega (arith, p .same-length, mul-add w k 1))
-        (g ∙ ap (λ (v : ℕ). over (big-endian w v) (midOf at (length lent - at) lent)) n)
-        ∙ ap (λ (s : List ℕ). over s before)
-        (sym (ap (λ (j : ℕ). block j w f) (add-one k) ∙ block-more k w f))
+module _ {f : ℕ → ℕ} {w n : ℕ} {before : List ℕ} {k : ℕ} {lent : List ℕ}
+    (p : BlockPut f w n before k lent) where
+  -- one field more: `number` is what is put into the part from `at` on, and `last` what the part then
+  -- holds
+  pub one-field-put : {at number : ℕ} {last : List ℕ} → k < n → at ≡ w * k →
+      w * (k + 1) ≤ length before → number ≡ f k →
+      last ≡ over (big-endian w number) (midOf at (length lent - at) lent) →
+      BlockPut f w n before (k + 1) (putMid at (length lent - at) lent last)
+  one-field-put {at} {number} {last} l e h is g =
+      record {
+        within = omega arith;
+        lent-is = written;
+        same-length = ap length written ∙ length-over (block (k + 1) w f) before (rw length-block h);
+      }
+    where
+      written : putMid at (length lent - at) lent last ≡ over (block (k + 1) w f) before
+      written =
+          piece-written (block k w f) (big-endian w (f k)) before at lent last (p .lent-is)
+          (e ∙ sym (length-block k w f))
+          (omega (arith, p .same-length, mul-add w k 1))
+          (g ∙ ap (λ (v : ℕ). over (big-endian w v) (midOf at (length lent - at) lent)) is)
+          ∙ ap (λ (s : List ℕ). over s before)
+          (sym (ap (λ (j : ℕ). block j w f) (add-one k) ∙ block-more k w f))
 
-pub all-fields-put : {f : ℕ → ℕ} {w : ℕ} {before : List ℕ} {k : ℕ} {lent : List ℕ} →
-    BlockPut f w before k lent →
-    (n : ℕ) → k ≡ n → lent ≡ over (block n w f) before
-all-fields-put {f} {w} {before} p n e = p .lent-is ∙ ap (λ (j : ℕ). over (block j w f) before) e
+  pub all-fields-put : n ≤ k → lent ≡ over (block n w f) before
+  all-fields-put l =
+      let e : k ≡ n = omega (arith, p .within) in
+      p .lent-is ∙ ap (λ (j : ℕ). over (block j w f) before) e

@@ -1,7 +1,7 @@
 -- `saved::writing::write_coordinates` meets its contract: the loop has written i coordinates.
 -- Assumes nothing.
 use borrow.Author.Needs.{needs}
-use Prim.Native.Nat.{_*_, _-_, _≤_}
+use Prim.Native.Nat.{_*_, _-_}
 use native.Mathlib.Omega.{arith}
 use Rattle.saved.specs.Fields.{coordinate-field}
 use Rattle.saved.proofs.Loops.{BlockPut, no-field-put, one-field-put, all-fields-put}
@@ -9,8 +9,7 @@ use Rattle.saved.proofs.writing.write_coordinates.Statement.{statement}
 use Rattle.saved.proofs.writing.write_coordinates.Tie as tie
 
 abbrev Inv-loop : tie.InvT-loop
-Inv-loop xs ys count lent₀ i₀ i-end lent i =
-    BlockPut (coordinate-field xs ys) 4 lent₀ i lent × (i ≤ 2 * count)
+Inv-loop xs ys count lent₀ i₀ i-end lent i = BlockPut (coordinate-field xs ys) 4 (2 * count) lent₀ i lent
 
 abbrev μ-loop : tie.MeasureT-loop
 μ-loop xs ys count lent₀ i₀ i-end lent i = 2 * count - i
@@ -19,7 +18,7 @@ mul-i-end : tie.Need-mul-i-end Inv-loop μ-loop
 mul-i-end c = omega arith
 
 loop-holds : tie.Need-loop-holds Inv-loop μ-loop
-loop-holds c = (no-field-put _ _ _, omega arith)
+loop-holds c = no-field-put
 
 mul-at : tie.Need-mul-at Inv-loop μ-loop
 mul-at c = omega arith
@@ -49,17 +48,14 @@ loop-again : tie.Need-loop-again Inv-loop μ-loop
 loop-again c =
     let s = c .before .before .before .before .before .before .loop in
     let p = c .before .before in
-    let found = p .before .before .coordinate-field in (
-      one-field-put (s .inv .0) (4 * s .i) (omega arith) (omega arith) (found .result)
-          (found .ensures) (p .put-number .last .0) (p .put-number .ensures),
-      omega arith,
-    )
+    one-field-put (s .inv) (omega arith) (omega arith) (omega arith)
+    (p .before .before .coordinate-field .ensures) (p .put-number .ensures)
 
 same-length : tie.Need-same-length Inv-loop μ-loop
 same-length c = omega arith
 
 returns : tie.Need-returns Inv-loop μ-loop
-returns c = all-fields-put (c .before .loop .inv .0) _ (omega arith)
+returns c = all-fields-put (c .before .loop .inv) (omega arith)
 
 pub write-coordinates-spec : {M : Type 1} → statement M
 write-coordinates-spec =

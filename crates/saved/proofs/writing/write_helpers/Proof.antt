@@ -1,7 +1,7 @@
 -- `saved::writing::write_helpers` meets its contract: the loop has written the helper bytes of k
 -- points. Assumes nothing.
 use borrow.Author.Needs.{needs}
-use Prim.Native.Nat.{_-_, _≤_}
+use Prim.Native.Nat.{_-_}
 use native.Mathlib.Omega.{arith}
 use Rattle.saved.specs.Fields.{helper-field}
 use Rattle.saved.proofs.Loops.{BlockPut, no-field-put, one-field-put, all-fields-put}
@@ -9,14 +9,13 @@ use Rattle.saved.proofs.writing.write_helpers.Statement.{statement}
 use Rattle.saved.proofs.writing.write_helpers.Tie as tie
 
 abbrev Inv-loop : tie.InvT-loop
-Inv-loop helpers count lent₀ k₀ lent k =
-    BlockPut (helper-field helpers) 1 lent₀ k lent × (k ≤ count)
+Inv-loop helpers count lent₀ k₀ lent k = BlockPut (helper-field helpers) 1 count lent₀ k lent
 
 abbrev μ-loop : tie.MeasureT-loop
 μ-loop helpers count lent₀ k₀ lent k = count - k
 
 loop-holds : tie.Need-loop-holds Inv-loop μ-loop
-loop-holds c = (no-field-put _ _ _, omega arith)
+loop-holds c = no-field-put
 
 helper-field-requires : tie.Need-helper-field-requires Inv-loop μ-loop
 helper-field-requires c κs = search needs
@@ -43,17 +42,14 @@ loop-again : tie.Need-loop-again Inv-loop μ-loop
 loop-again c =
     let s = c .before .before .before .before .before .before .loop in
     let p = c .before .before in
-    let found = p .before .before .helper-field in (
-      one-field-put (s .inv .0) (s .k) (omega arith) (omega arith) (found .result) (found .ensures)
-          (p .put-number .last .0) (p .put-number .ensures),
-      omega arith,
-    )
+    one-field-put (s .inv) (omega arith) (omega arith) (omega arith)
+    (p .before .before .helper-field .ensures) (p .put-number .ensures)
 
 same-length : tie.Need-same-length Inv-loop μ-loop
 same-length c = omega arith
 
 returns : tie.Need-returns Inv-loop μ-loop
-returns c = all-fields-put (c .before .loop .inv .0) _ (omega arith)
+returns c = all-fields-put (c .before .loop .inv) (omega arith)
 
 pub write-helpers-spec : {M : Type 1} → statement M
 write-helpers-spec =

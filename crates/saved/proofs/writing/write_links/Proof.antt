@@ -1,7 +1,7 @@
 -- `saved::writing::write_links` meets its contract: the loop has written the links of d darts.
 -- Assumes nothing.
 use borrow.Author.Needs.{needs}
-use Prim.Native.Nat.{_*_, _-_, _≤_}
+use Prim.Native.Nat.{_*_, _-_}
 use native.Mathlib.Omega.{arith}
 use Rattle.orbits.specs.Links.{link-of}
 use Rattle.saved.proofs.Loops.{BlockPut, no-field-put, one-field-put, all-fields-put}
@@ -9,7 +9,7 @@ use Rattle.saved.proofs.writing.write_links.Statement.{statement}
 use Rattle.saved.proofs.writing.write_links.Tie as tie
 
 abbrev Inv-loop : tie.InvT-loop
-Inv-loop edge count lent₀ d₀ d-end lent d = BlockPut (link-of edge) 2 lent₀ d lent × (d ≤ 2 * count)
+Inv-loop edge count lent₀ d₀ d-end lent d = BlockPut (link-of edge) 2 (2 * count) lent₀ d lent
 
 abbrev μ-loop : tie.MeasureT-loop
 μ-loop edge count lent₀ d₀ d-end lent d = 2 * count - d
@@ -18,7 +18,7 @@ mul-d-end : tie.Need-mul-d-end Inv-loop μ-loop
 mul-d-end c = omega arith
 
 loop-holds : tie.Need-loop-holds Inv-loop μ-loop
-loop-holds c = (no-field-put _ _ _, omega arith)
+loop-holds c = no-field-put
 
 mul-at : tie.Need-mul-at Inv-loop μ-loop
 mul-at c = omega arith
@@ -48,17 +48,14 @@ loop-again : tie.Need-loop-again Inv-loop μ-loop
 loop-again c =
     let s = c .before .before .before .before .before .before .loop in
     let p = c .before .before in
-    let found = p .before .before .link-of in (
-      one-field-put (s .inv .0) (2 * s .d) (omega arith) (omega arith) (found .result)
-          (found .ensures) (p .put-number .last .0) (p .put-number .ensures),
-      omega arith,
-    )
+    one-field-put (s .inv) (omega arith) (omega arith) (omega arith)
+    (p .before .before .link-of .ensures) (p .put-number .ensures)
 
 same-length : tie.Need-same-length Inv-loop μ-loop
 same-length c = omega arith
 
 returns : tie.Need-returns Inv-loop μ-loop
-returns c = all-fields-put (c .before .loop .inv .0) _ (omega arith)
+returns c = all-fields-put (c .before .loop .inv) (omega arith)
 
 pub write-links-spec : {M : Type 1} → statement M
 write-links-spec =

@@ -2,7 +2,7 @@
 -- answers; a check more; what a served file gives; what the exported functions promise from it.
 -- Assumes nothing.
 use mathlib.Core.Path.{_≡_, refl, sym, ap, subst, _∙_}
-use mathlib.Core.Bool.{Bool, not}
+use mathlib.Core.Bool.{Bool, true, false, not}
 use mathlib.Core.List.{List, [], _∷_, _++_}
 use Prim.Native.Nat.{ℕ}
 use native.Mathlib.Omega.{arith}
@@ -21,9 +21,10 @@ use Rattle.model.specs.Reading.{unsound, dart-rules}
 use Rattle.model.specs.Placing.{place-call}
 use Rattle.model.specs.Saved.{load-call, map-in}
 use Rattle.model.proofs.Sound.{sound-holds}
-use Rattle.model.proofs.Answers.{outcome-refuses, outcome-serves, unless-made, served-none}
+use Rattle.model.proofs.Answers.{rule-applies, rule-passes, no-rule, unless-made, served-none}
+use Rattle.model.proofs.Answers.{outcome-refuses, outcome-serves}
 use Rattle.engine.proofs.Rules.{not-not}
-use Rattle.reach.specs.Served.{only, Served}
+use Rattle.reach.specs.Served.{Reply, only, Served}
 use Rattle.reach.specs.Opened.{Opened, of-file}
 use Rattle.reach.proofs.Serving.{unless-append, refused-before, served-after, served-as}
 
@@ -52,30 +53,39 @@ loads {s} {l} a =
 -- ---- a check more
 
 module _ {s : List ℕ} {rules : List Rule} {l : Loaded} (o : Opened s rules l)
-    (more : List Rule) where
-  pub refused-already : {r : Refusal} → l .outcome ≡ Outcome.Refused r → Opened s (rules ++ more) l
+    (rule : Rule) where
+  pub refused-already : {r : Refusal} → l .outcome ≡ Outcome.Refused r →
+      Opened s (rules ++ rule ∷ []) l
   refused-already {r} e =
       record {
         outcome =
-            e ∙ outcome-refuses Outcome.Refused (outcome-by more) rules r (sym e ∙ o .outcome)
-            ∙ sym (unless-append Outcome.Refused rules more Outcome.Served);
+            e ∙ outcome-refuses Outcome.Refused (outcome-by (rule ∷ [])) rules r (sym e ∙ o .outcome)
+            ∙ sym (unless-append Outcome.Refused rules (rule ∷ []) Outcome.Served);
         map = o .map;
       }
 
   module _ (e : l .outcome ≡ Outcome.Served) where
-    second-part : outcome-by more ≡ outcome-by (rules ++ more)
-    second-part =
-        outcome-serves Outcome.Refused (outcome-by more) rules (sym e ∙ o .outcome)
-        ∙ sym (unless-append Outcome.Refused rules more Outcome.Served)
+    last-rule : outcome-by (rule ∷ []) ≡ outcome-by (rules ++ rule ∷ [])
+    last-rule =
+        outcome-serves Outcome.Refused (outcome-by (rule ∷ [])) rules (sym e ∙ o .outcome)
+        ∙ sym (unless-append Outcome.Refused rules (rule ∷ []) Outcome.Served)
 
-    pub served-further : Outcome.Served ≡ outcome-by more → Opened s (rules ++ more) l
-    served-further f = record { outcome = e ∙ f ∙ second-part; map = o .map }
+    pub served-further : rule .applies ≡ false → Opened s (rules ++ rule ∷ []) l
+    served-further f =
+        record {
+          outcome =
+              e
+              ∙ rule-passes Outcome.Refused rule [] Outcome.Served f (no-rule Outcome.Refused _)
+              ∙ last-rule;
+          map = o .map;
+        }
 
-    pub refused-further : {r : Refusal} (m : Map) → Outcome.Refused r ≡ outcome-by more →
-        Opened s (rules ++ more) (record { outcome = Outcome.Refused r; map = m })
+    pub refused-further : (m : Map) → rule .applies ≡ true →
+        Opened s (rules ++ rule ∷ [])
+        (record { outcome = Outcome.Refused (rule .refusal); map = m })
     refused-further m f =
         record {
-          outcome = f ∙ second-part;
+          outcome = rule-applies Outcome.Refused rule [] Outcome.Served f ∙ last-rule;
           map = λ n. absurd (let z : _≡_ {A = ℕ} 0 1 = cc in omega arith);
         }
 
@@ -111,14 +121,21 @@ opened-near p o e = passed Refusal.OutOfRange (in-range p) (opened-further o e)
 
 -- ---- what is promised from it
 
-module _ {A : Type 0} {s : List ℕ} {rules : List Rule} {l : Loaded} (o : Opened s rules l)
-    (values before : List A) where
-  pub opened-refused : {k : ℕ} {r : Refusal} → l .outcome ≡ Outcome.Refused r → k ≡ number r →
+module _ {A : Type 0} {s : List ℕ} {before : List A} where
+  pub opened-refused : {rules : List Rule} {l : Loaded} {values : List A} {k : ℕ} {r : Refusal} →
+      Opened s rules l → l .outcome ≡ Outcome.Refused r → k ≡ number r →
       Served (record { rules = rules ++ []; values = values }) before before k
-  opened-refused e n = refused-before rules (only values) before _ (sym e ∙ o .outcome) n
+  opened-refused {rules} {l} {values} o e n =
+      refused-before rules (only values) before _ (sym e ∙ o .outcome) n
 
-  pub opened-served : {u after : List A} {k : ℕ} → l .outcome ≡ Outcome.Served → u ≡ values →
-      Served (only u) before after k → Served
-      (record { rules = rules ++ []; values = values }) before after k
-  opened-served e same w = served-after rules (only values) before (sym e ∙ o .outcome)
-      (served-as same w)
+  -- what was written is the reply at the map that was loaded
+  pub opened-served : (f : Map → Reply A) {l : Loaded} {u after : List A} {k : ℕ} →
+      Opened s (of-file s (λ m. f m .rules)) l → l .outcome ≡ Outcome.Served →
+      u ≡ f (l .map) .values → Served (only u) before after k →
+      Served
+      (record { rules = of-file s (λ m. f m .rules) ++ []; values = f (map-in s) .values })
+      before after k
+  opened-served f o e same w =
+      served-after (of-file s (λ m. f m .rules)) (only (f (map-in s) .values)) before
+      (sym e ∙ o .outcome)
+      (served-as (same ∙ ap (λ (m : Map). f m .values) (o .map e)) w)

@@ -1,16 +1,22 @@
 -- The laws of what the exported functions promise, in the order of this page: rules that stand in
--- two parts; values without a rule, written or not; rules that are checked before; two lists; the
--- rules of an answer that is an enum. Assumes nothing.
-use mathlib.Core.Path.{_≡_, refl, sym, ap, subst, _∙_}
+-- two parts; values without a rule, written or not; rules that are checked before; two lists; equal
+-- arguments, and the point of two coordinates; an answer that is an enum. Assumes nothing.
+use mathlib.Core.Path.{_≡_, refl, sym, ap, ap₂, subst, _∙_}
 use mathlib.Core.Bool.{Bool, true, false, cond, _||_, or-true}
 use mathlib.Core.List.{List, [], _∷_, _++_, append-assoc}
 use Prim.Native.Nat.{ℕ, suc, _+_, _≤_, _<_}
 use native.Mathlib.Omega.{arith}
+use mir.Syntax.{w64}
+use mir.Val.{SFits, toZ, ofZ}
+use mir.ValLaws.{toZ-ofZ}
+use lib.IntN.{ℤ}
 use lib.ListN.{length, drop, getD, set, length-append}
 use lib.Seq.{take-length, drop-cons, set-at, append-snoc, sets, sets-eq}
 use borrow.Author.Tests.{lt-ltb, le-ltb}
 use Rattle.model.specs.declared.Refusal.{Refusal}
 use Rattle.model.specs.declared.Outcome.{Outcome}
+use Rattle.model.specs.declared.Point.{Point}
+use Rattle.model.specs.Plane.{at}
 use Rattle.model.specs.Refusals.{number, Rule, _when_, unless}
 use Rattle.model.specs.Answers.{Answer, Call, answer-of, outcome-by}
 use Rattle.model.proofs.Answers.{outcome-refuses, outcome-serves, unless-made}
@@ -183,7 +189,7 @@ module _ {A B : Type 0} (rules more : List Rule) (u : List A) (v : List B) (befo
             (s .list′);
       }
 
--- ---- the same reply to equal arguments
+-- ---- equal arguments
 
 pub served-at : {A C : Type 0} (q : C → Reply A) {x y : C} {before after : List A} {k : ℕ} → x ≡ y →
     Served (q x) before after k → Served (q y) before after k
@@ -196,6 +202,11 @@ pub both-at : {A B C : Type 0} (rules : C → List Rule) (u : C → List A) (v :
     ServedBoth (rules y) (u y) (v y) before after before′ after′ k
 both-at {A} {B} {C} rules u v {x} {y} {before} {after} {before′} {after′} {k} e s =
     subst (λ (z : C). ServedBoth (rules z) (u z) (v z) before after before′ after′ k) e s
+
+-- the point that was made of two coordinates
+pub point-made : {p : Point} (x y : ℤ) → SFits w64 x → SFits w64 y →
+    p ≡ at (toZ w64 (ofZ w64 x)) (toZ w64 (ofZ w64 y)) → p ≡ at x y
+point-made x y f g e = e ∙ ap₂ at (toZ-ofZ w64 x f) (toZ-ofZ w64 y g)
 
 -- ---- an answer that is an enum
 

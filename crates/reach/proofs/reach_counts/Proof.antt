@@ -1,10 +1,10 @@
 -- `reach::reach_counts` meets its contract: the file is loaded, and then its counts are written.
 -- Assumes nothing.
-use mathlib.Core.Path.{ap, _∙_}
+use mathlib.Core.Path.{ap}
 use mathlib.Core.List.{[], _∷_}
 use Rattle.model.specs.declared.Counts.{Counts}
 use Rattle.model.specs.Answers.{counted-answer}
-use Rattle.model.specs.Reading.{counts}
+use Rattle.reach.specs.Replies.{counts-reply}
 use Rattle.reach.proofs.OpenedFiles.{loads, opened-sound, opened-refused, opened-served}
 use borrow.Author.Needs.{needs}
 use Rattle.reach.proofs.reach_counts.Statement.{statement}
@@ -37,7 +37,7 @@ unfolding counted-answer
 returns c =
     let d = c .before .before in
     let l = d .before .before in
-    opened-refused (loads (l .load .ensures)) _ _ (d .outcome .given .1) (c .code .ensures)
+    opened-refused (loads (l .load .ensures)) (d .outcome .given .1) (c .code .ensures)
 
 same-length : tie.Need-same-length
 same-length c = search needs
@@ -51,9 +51,9 @@ returns-2 c =
     let l = t .before .before in
     let o = loads (l .load .ensures) in
     let e = t .enum-told .given .1 in
-    opened-served o _ _ e
+    opened-served counts-reply o e
     (ap (λ (n : Counts). n .darts ∷ n .vertices ∷ n .edges ∷ n .faces ∷ n .parts ∷ [])
-    (n .counts-of .ensures ∙ ap counts (o .map e)))
+    (n .counts-of .ensures))
     (w .write-values .ensures)
 
 pub reach-counts-spec : {M : Type 1} → statement M

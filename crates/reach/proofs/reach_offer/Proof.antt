@@ -1,17 +1,13 @@
 -- `reach::reach_offer` meets its contract: the point is that of the coordinates. Assumes nothing.
-use mathlib.Core.Path.{ap₂, _∙_}
-use mir.Syntax.{w64}
-use mir.ValLaws.{toZ-ofZ}
 use denote.Ref.{now}
 use Rattle.model.specs.declared.Point.{Point}
-use Rattle.model.specs.Plane.{at}
 use Rattle.model.specs.Answers.{arrival-answer}
 use Rattle.model.specs.Arrival.{arrive}
 use Rattle.model.specs.Offers.{offer-rules}
 use Rattle.model.specs.Saved.{map-in, saved}
 use Rattle.reach.specs.Opened.{of-file}
 use Rattle.reach.specs.Replies.{arrival-told}
-use Rattle.reach.proofs.Serving.{both-at}
+use Rattle.reach.proofs.Serving.{both-at, point-made}
 use borrow.Author.Needs.{needs}
 use Rattle.reach.proofs.reach_offer.Statement.{statement}
 use Rattle.reach.proofs.reach_offer.Tie as tie
@@ -38,7 +34,7 @@ returns c =
     let m = map-in (now (s .map)) in
     both-at (λ p. of-file (now (s .map)) (λ m. offer-rules m p)) (λ p. saved (arrive m p .map))
     (λ (p : Point). arrival-told (arrival-answer (arrive m p .arrival)))
-    (n .point .ensures ∙ ap₂ at (toZ-ofZ w64 (s .x) (f .x)) (toZ-ofZ w64 (s .y) (f .y)))
+    (point-made (s .x) (s .y) (f .x) (f .y) (n .point .ensures))
     (w .write-offer .ensures)
 
 pub reach-offer-spec : {M : Type 1} → statement M

@@ -1,12 +1,9 @@
 -- `reach::reach_orientation` meets its contract: the points are those of the coordinates.
 -- Assumes nothing.
-use mathlib.Core.Path.{ap₂, _∙_}
-use mir.Syntax.{w64}
-use mir.ValLaws.{toZ-ofZ}
 use Rattle.model.specs.declared.Point.{Point}
 use Rattle.model.specs.Plane.{at, orientation-call}
 use Rattle.reach.specs.Replies.{reply, signed}
-use Rattle.reach.proofs.Serving.{served-at}
+use Rattle.reach.proofs.Serving.{served-at, point-made}
 use borrow.Author.Needs.{needs}
 use Rattle.reach.proofs.reach_orientation.Statement.{statement}
 use Rattle.reach.proofs.reach_orientation.Tie as tie
@@ -37,12 +34,12 @@ returns c =
     let a = at (s .ax) (s .ay) in
     let b = at (s .bx) (s .by) in
     served-at (λ (z : Point). reply signed (orientation-call a b z))
-    (r .point3 .ensures ∙ ap₂ at (toZ-ofZ w64 (s .cx) (f .cx)) (toZ-ofZ w64 (s .cy) (f .cy)))
+    (point-made (s .cx) (s .cy) (f .cx) (f .cy) (r .point3 .ensures))
     (served-at (λ (y : Point). reply signed (orientation-call a y (r .point3 .result)))
-    (q .point2 .ensures ∙ ap₂ at (toZ-ofZ w64 (s .bx) (f .bx)) (toZ-ofZ w64 (s .by) (f .by)))
+    (point-made (s .bx) (s .by) (f .bx) (f .by) (q .point2 .ensures))
     (served-at (λ (x : Point). reply signed
     (orientation-call x (q .point2 .result) (r .point3 .result)))
-    (p .point .ensures ∙ ap₂ at (toZ-ofZ w64 (s .ax) (f .ax)) (toZ-ofZ w64 (s .ay) (f .ay)))
+    (point-made (s .ax) (s .ay) (f .ax) (f .ay) (p .point .ensures))
     (w .write-orientation .ensures)))
 
 pub reach-orientation-spec : {M : Type 1} → statement M

@@ -1,12 +1,8 @@
 -- `reach::reach_place` meets its contract: the point is that of the coordinates. Assumes nothing.
-use mathlib.Core.Path.{ap₂, _∙_}
-use mir.Syntax.{w64}
-use mir.ValLaws.{toZ-ofZ}
 use denote.Ref.{now}
 use Rattle.model.specs.declared.Point.{Point}
-use Rattle.model.specs.Plane.{at}
 use Rattle.reach.specs.Replies.{from-file, place-reply}
-use Rattle.reach.proofs.Serving.{served-at}
+use Rattle.reach.proofs.Serving.{served-at, point-made}
 use borrow.Author.Needs.{needs}
 use Rattle.reach.proofs.reach_place.Statement.{statement}
 use Rattle.reach.proofs.reach_place.Tie as tie
@@ -28,7 +24,7 @@ returns c =
     let s = start .args in
     let f = start .fits in
     served-at (λ (p : Point). from-file (place-reply p) (now (s .map)))
-    (n .point .ensures ∙ ap₂ at (toZ-ofZ w64 (s .x) (f .x)) (toZ-ofZ w64 (s .y) (f .y)))
+    (point-made (s .x) (s .y) (f .x) (f .y) (n .point .ensures))
     (w .write-placed .ensures)
 
 pub reach-place-spec : {M : Type 1} → statement M

@@ -2,13 +2,9 @@
 -- Assumes nothing.
 use mathlib.Core.Path.{ap, _∙_}
 use Rattle.orbits.specs.declared.Walk.{Walk}
-use Rattle.orbits.specs.Walks.{walk}
-use Rattle.model.specs.declared.Map.{Map}
 use Rattle.model.specs.declared.Walked.{Walked}
 use Rattle.model.specs.Answers.{walked-answer}
-use Rattle.model.specs.Maps.{edge-link, point-link}
-use Rattle.model.specs.Reading.{darts}
-use Rattle.reach.specs.Replies.{walk-told}
+use Rattle.reach.specs.Replies.{walk-told, walk-reply}
 use Rattle.reach.proofs.OpenedFiles.{opened-sound, opened-refused, opened-served}
 use borrow.Author.Needs.{needs}
 use Rattle.reach.proofs.reach_walk.Statement.{statement}
@@ -43,7 +39,7 @@ returns : tie.Need-returns
 returns c =
     let d = c .before .before in
     let l = d .before .before in
-    opened-refused (l .load-at .ensures) _ _ (d .outcome .given .1) (c .code .ensures)
+    opened-refused (l .load-at .ensures) (d .outcome .given .1) (c .code .ensures)
 
 same-length : tie.Need-same-length
 same-length c = search needs
@@ -58,11 +54,9 @@ returns-2 c =
     let o = l .load-at .ensures in
     let e = t .enum-told .given .1 in
     let d = l .before .before .before .args .dart in
-    opened-served o _ _ e
+    opened-served (walk-reply d) o e
     (n .walk-values .ensures
-    ∙ ap (λ (w : Walk). walk-told (walked-answer (Walked.Ended w)))
-    (k .walk-of .ensures ∙ ap (λ (m : Map). walk (edge-link m) (point-link m) (darts m) d)
-    (o .map e)))
+    ∙ ap (λ (w : Walk). walk-told (walked-answer (Walked.Ended w))) (k .walk-of .ensures))
     (w .write-values .ensures)
 
 pub reach-walk-spec : {M : Type 1} → statement M

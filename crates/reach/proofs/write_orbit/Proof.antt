@@ -8,8 +8,7 @@ use lib.ListN.{length}
 use Rattle.finite.specs.Bounded.{length-table}
 use Rattle.orbits.specs.declared.DartSet.{DartSet}
 use Rattle.orbits.specs.Sets.{bits, set-of}
-use Rattle.model.specs.declared.Map.{Map}
-use Rattle.model.specs.Reading.{orbit-set}
+use Rattle.reach.specs.Replies.{orbit-reply}
 use Rattle.reach.proofs.Told.{set-told}
 use Rattle.reach.proofs.OpenedFiles.{opened-sound, opened-present}
 use Rattle.reach.proofs.OpenedFiles.{opened-refused, opened-served}
@@ -47,7 +46,7 @@ returns : tie.Need-returns
 returns c =
     let d = c .before .before in
     let l = d .before .before in
-    opened-refused (l .load-at .ensures) _ _ (d .outcome .given .1) (c .code .ensures)
+    opened-refused (l .load-at .ensures) (d .outcome .given .1) (c .code .ensures)
 
 same-length : tie.Need-same-length
 same-length c = search needs
@@ -61,10 +60,8 @@ returns-2 c =
     let o = l .load-at .ensures in
     let e = t .enum-told .given .1 in
     let s = l .before .before .before .args in
-    opened-served o _ _ e
-    (ap (λ (x : DartSet). x .words ++ x .size ∷ [])
-    (n .orbit-of .ensures ∙ ap (λ (m : Map). orbit-set m (s .kind) (s .dart)) (o .map e))
-    ∙ set-told _)
+    opened-served (orbit-reply (s .kind) (s .dart)) o e
+    (ap (λ (x : DartSet). x .words ++ x .size ∷ []) (n .orbit-of .ensures) ∙ set-told _)
     (w .write-darts .ensures)
 
 pub write-orbit-spec : {M : Type 1} → statement M

@@ -1,11 +1,9 @@
 -- `reach::write_placed` meets its contract: the file and the point are checked, and then the point is placed.
 -- Assumes nothing.
 use mathlib.Core.Path.{ap, _∙_}
-use Rattle.model.specs.declared.Map.{Map}
 use Rattle.model.specs.declared.Placed.{Placed}
 use Rattle.model.specs.Answers.{placed-answer}
-use Rattle.model.specs.Placing.{place-call}
-use Rattle.reach.specs.Replies.{place-told}
+use Rattle.reach.specs.Replies.{place-told, place-reply}
 use Rattle.reach.proofs.OpenedFiles.{opened-sound, opened-near}
 use Rattle.reach.proofs.OpenedFiles.{opened-refused, opened-served}
 use borrow.Author.Needs.{needs}
@@ -43,7 +41,7 @@ returns : tie.Need-returns
 returns c =
     let d = c .before .before in
     let l = d .before .before in
-    opened-refused (l .load-near .ensures) _ _ (d .outcome .given .1) (c .code .ensures)
+    opened-refused (l .load-near .ensures) (d .outcome .given .1) (c .code .ensures)
 
 same-length : tie.Need-same-length
 same-length c = search needs
@@ -58,10 +56,9 @@ returns-2 c =
     let o = l .load-near .ensures in
     let e = t .enum-told .given .1 in
     let p = l .before .before .before .args .p in
-    opened-served o _ _ e
+    opened-served (place-reply p) o e
     (v .placed-values .ensures
-    ∙ ap (λ (a : Placed). place-told (placed-answer a))
-    (n .placed .ensures ∙ ap (λ (m : Map). place-call m p .value) (o .map e)))
+    ∙ ap (λ (a : Placed). place-told (placed-answer a)) (n .placed .ensures))
     (w .write-values .ensures)
 
 pub write-placed-spec : {M : Type 1} → statement M

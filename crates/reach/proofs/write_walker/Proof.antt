@@ -1,12 +1,10 @@
 -- `reach::write_walker` meets its contract: the file and the dart are checked, and then the walker is moved.
 -- Assumes nothing.
-use mathlib.Core.Path.{ap, _∙_}
+use mathlib.Core.Path.{ap}
 use mathlib.Core.List.{[], _∷_}
 use Rattle.orbits.specs.declared.Walker.{Walker}
-use Rattle.orbits.specs.Walks.{walker-at}
-use Rattle.model.specs.declared.Map.{Map}
 use Rattle.model.specs.Answers.{moved-answer}
-use Rattle.reach.specs.Replies.{along}
+use Rattle.reach.specs.Replies.{along, walker-reply}
 use Rattle.reach.proofs.OpenedFiles.{opened-refused, opened-served}
 use borrow.Author.Needs.{needs}
 use Rattle.reach.proofs.write_walker.Statement.{statement}
@@ -38,7 +36,7 @@ unfolding moved-answer
 returns c =
     let d = c .before .before in
     let l = d .before .before in
-    opened-refused (l .load-at .ensures) _ _ (d .outcome .given .1) (c .code .ensures)
+    opened-refused (l .load-at .ensures) (d .outcome .given .1) (c .code .ensures)
 
 same-length : tie.Need-same-length
 same-length c = search needs
@@ -53,9 +51,8 @@ returns-2 c =
     let o = l .load-at .ensures in
     let e = t .enum-told .given .1 in
     let s = l .before .before .before .args in
-    opened-served o _ _ e
-    (ap (λ (v : Walker). v .dart ∷ [])
-    (n .moved .ensures ∙ ap (λ (m : Map). walker-at (along (s .link) m (s .dart))) (o .map e)))
+    opened-served (walker-reply (along (s .link)) (s .dart)) o e
+    (ap (λ (v : Walker). v .dart ∷ []) (n .moved .ensures))
     (w .write-values .ensures)
 
 pub write-walker-spec : {M : Type 1} → statement M

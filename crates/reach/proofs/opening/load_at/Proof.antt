@@ -2,17 +2,14 @@
 -- Assumes nothing.
 use mathlib.Core.Path.{_≡_, sym, ap, _∙_}
 use mathlib.Core.Bool.{Bool, not}
-use mathlib.Core.List.{List, [], _∷_}
+use mathlib.Core.List.{List}
 use Prim.Native.Nat.{ℕ}
-use denote.Ref.{now}
 use Rattle.model.specs.declared.Map.{Map}
 use Rattle.model.specs.declared.Loaded.{Loaded}
 use Rattle.model.specs.declared.Outcome.{Outcome}
 use Rattle.model.specs.Refusals.{Rule}
 use Rattle.model.specs.Maps.{is-present, has-helper}
-use Rattle.model.specs.Reading.{absent}
 use Rattle.model.specs.Saved.{map-in}
-use Rattle.model.proofs.Answers.{rule-applies, rule-passes, no-rule}
 use Rattle.reach.specs.Opened.{Opened}
 use Rattle.reach.proofs.OpenedFiles.{loads, refused-already, served-further, refused-further}
 use borrow.Author.Needs.{needs}
@@ -46,17 +43,13 @@ returns c =
     let s = l .before .before .args in
     let o = loads (l .load .ensures) in
     let e = m .enum-told .given .1 in
-    served-further o (absent (map-in (now (s .file))) (s .dart) ∷ []) e
-    (rule-passes Outcome.Refused _ _ _
+    served-further o _ e
     (present-tested o e (s .dart) (c .before .is-present .ensures) (c .if1 .taken))
-    (no-rule Outcome.Refused _))
 
 returns-2 : tie.Need-returns-2
 returns-2 c =
     let l = c .before .before .before in
-    let s = l .before .before .args in
-    refused-already (loads (l .load .ensures)) (absent (map-in (now (s .file))) (s .dart) ∷ [])
-    (c .before .outcome .given .1)
+    refused-already (loads (l .load .ensures)) _ (c .before .outcome .given .1)
 
 returns-3 : tie.Need-returns-3
 unfolding is-present has-helper
@@ -66,9 +59,8 @@ returns-3 c =
     let s = l .before .before .args in
     let o = loads (l .load .ensures) in
     let e = m .enum-told .given .1 in
-    refused-further o (absent (map-in (now (s .file))) (s .dart) ∷ []) e _
-    (rule-applies Outcome.Refused _ _ _
-    (present-tested o e (s .dart) (c .before .is-present .ensures) (c .if1 .left)))
+    refused-further o _ e _
+    (present-tested o e (s .dart) (c .before .is-present .ensures) (c .if1 .left))
 
 pub load-at-spec : {M : Type 1} → statement M
 load-at-spec =

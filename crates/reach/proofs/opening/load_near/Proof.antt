@@ -2,12 +2,7 @@
 -- Assumes nothing.
 use mathlib.Core.Path.{sym, ap, _∙_}
 use mathlib.Core.Bool.{not}
-use mathlib.Core.List.{[], _∷_}
-use Rattle.model.specs.declared.Refusal.{Refusal}
-use Rattle.model.specs.declared.Outcome.{Outcome}
-use Rattle.model.specs.Refusals.{_when_}
 use Rattle.model.specs.Plane.{in-range}
-use Rattle.model.proofs.Answers.{rule-applies, rule-passes, no-rule}
 use Rattle.reach.proofs.OpenedFiles.{loads, refused-already, served-further, refused-further}
 use borrow.Author.Needs.{needs}
 use Rattle.reach.proofs.opening.load_near.Statement.{statement}
@@ -29,29 +24,21 @@ returns : tie.Need-returns
 returns c =
     let m = c .before .before in
     let l = m .before .before in
-    let p = l .before .before .args .p in
-    served-further (loads (l .load .ensures)) ((Refusal.OutOfRange when not (in-range p)) ∷ [])
-    (m .enum-told .given .1)
-    (rule-passes Outcome.Refused _ _ _ (ap not (sym (c .before .in-range .ensures) ∙ c .if1 .taken))
-    (no-rule Outcome.Refused _))
+    served-further (loads (l .load .ensures)) _ (m .enum-told .given .1)
+    (ap not (sym (c .before .in-range .ensures) ∙ c .if1 .taken))
 
 returns-2 : tie.Need-returns-2
 returns-2 c =
     let l = c .before .before .before in
-    let p = l .before .before .args .p in
-    refused-already (loads (l .load .ensures)) ((Refusal.OutOfRange when not (in-range p)) ∷ [])
-    (c .before .outcome .given .1)
+    refused-already (loads (l .load .ensures)) _ (c .before .outcome .given .1)
 
 returns-3 : tie.Need-returns-3
 returns-3 c =
     let d = c .before in
     let m = d .before .before in
     let l = m .before .before in
-    let p = l .before .before .args .p in
-    refused-further (loads (l .load .ensures)) ((Refusal.OutOfRange when not (in-range p)) ∷ [])
-    (m .enum-told .given .1) _
-    (rule-applies Outcome.Refused _ _ _
-    (ap not (sym (d .before .in-range .ensures) ∙ d .if1 .left)))
+    refused-further (loads (l .load .ensures)) _ (m .enum-told .given .1) _
+    (ap not (sym (d .before .in-range .ensures) ∙ d .if1 .left))
 
 pub load-near-spec : {M : Type 1} → statement M
 load-near-spec =

@@ -8,9 +8,6 @@ use Rattle.engine.proofs.Rules.{tested, found-sound}
 use Rattle.engine.proofs.counts.Statement.{statement}
 use Rattle.engine.proofs.counts.Tie as tie
 
-is-sound-requires : tie.Need-is-sound-requires
-is-sound-requires c κs = search needs
-
 returns : tie.Need-returns
 unfolding counted-answer
 returns c =
@@ -29,4 +26,4 @@ returns-2 c =
     (ap Counted.Numbers (c .counts-of .ensures) ∙ no-rule Counted.Refused _))
 
 pub counts-spec : {M : Type 1} → statement M
-counts-spec = tie.close (tie.spec is-sound-requires returns counts-of-requires returns-2)
+counts-spec = tie.close (tie.spec (λ c κs. search needs) returns counts-of-requires returns-2)

@@ -9,9 +9,6 @@ use Rattle.engine.proofs.Entries.{rule-refused, short-refused, result-w
 use Rattle.engine.proofs.list_corners.Statement.{statement}
 use Rattle.engine.proofs.list_corners.Tie as tie
 
-is-sound-requires : tie.Need-is-sound-requires
-is-sound-requires c κs = search needs
-
 returns : tie.Need-returns
 returns c = rule-refused (tested (c .before .is-sound .ensures) (c .if1 .taken))
 
@@ -23,12 +20,6 @@ returns-2 c =
     let d = c .before .before in
     short-refused (tested (d .before .is-sound .ensures) (d .if1 .left))
     (omega (arith, c .before .corners-of .ensures .number, c .if2 .taken))
-
-write-corners-requires : tie.Need-write-corners-requires
-write-corners-requires c κs = search needs
-
-same-length : tie.Need-same-length
-same-length c = search needs
 
 returns-3 : tie.Need-returns-3
 returns-3 c =
@@ -44,10 +35,10 @@ pub list-corners-spec : {M : Type 1} → statement M
 list-corners-spec =
     tie.close
     (tie.spec
-    is-sound-requires
+    (λ c κs. search needs)
     returns
     corners-of-requires
     returns-2
-    write-corners-requires
-    same-length
+    (λ c κs. search needs)
+    (λ c. search needs)
     returns-3)

@@ -8,9 +8,6 @@ use Rattle.engine.proofs.Rules.{tested, found-sound}
 use Rattle.engine.proofs.offer.Statement.{statement}
 use Rattle.engine.proofs.offer.Tie as tie
 
-is-sound-requires : tie.Need-is-sound-requires
-is-sound-requires c κs = search needs
-
 returns : tie.Need-returns
 unfolding arrival-answer
 returns c =
@@ -30,4 +27,4 @@ returns-2 c =
     (rule-passes (refusing (s .map)) _ _ _ (tested (d .before .is-sound .ensures) (d .if1 .left)) (c .admitted .ensures))
 
 pub offer-spec : {M : Type 1} → statement M
-offer-spec = tie.close (tie.spec is-sound-requires returns admitted-requires returns-2)
+offer-spec = tie.close (tie.spec (λ c κs. search needs) returns admitted-requires returns-2)

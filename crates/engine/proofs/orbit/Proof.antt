@@ -15,18 +15,6 @@ use Rattle.engine.proofs.orbit.Tie as tie
 abbrev beside : Outcome → DartSet → Orbit
 beside outcome darts = record { outcome = outcome; darts = darts }
 
-check-dart-requires : tie.Need-check-dart-requires
-check-dart-requires c κs = search needs
-
-enum-known-checked : tie.Need-enum-known-checked
-enum-known-checked c = search needs
-
-empty-requires : tie.Need-empty-requires
-empty-requires c κs = search needs
-
-enum-told : tie.Need-enum-told
-enum-told c = search needs
-
 orbit-of-requires : tie.Need-orbit-of-requires
 orbit-of-requires c κs =
     let d = c .before .before in
@@ -51,10 +39,10 @@ pub orbit-spec : {M : Type 1} → statement M
 orbit-spec =
     tie.close
     (tie.spec
-    check-dart-requires
-    enum-known-checked
-    empty-requires
-    enum-told
+    (λ c κs. search needs)
+    (λ c. search needs)
+    (λ c κs. search needs)
+    (λ c. search needs)
     orbit-of-requires
     returns
     returns-2)

@@ -10,17 +10,11 @@ use Rattle.engine.proofs.Rules.{tested, found-sound}
 use Rattle.engine.proofs.place.Statement.{statement}
 use Rattle.engine.proofs.place.Tie as tie
 
-is-sound-requires : tie.Need-is-sound-requires
-is-sound-requires c κs = search needs
-
 returns : tie.Need-returns
 unfolding placed-answer
 returns c =
     answered _ (λ r. refl)
     (rule-applies Placed.Refused _ _ _ (tested (c .before .is-sound .ensures) (c .if1 .taken)))
-
-in-range-requires : tie.Need-in-range-requires
-in-range-requires c κs = search needs
 
 returns-2 : tie.Need-returns-2
 unfolding placed-answer
@@ -50,4 +44,4 @@ returns-3 c =
 pub place-spec : {M : Type 1} → statement M
 place-spec =
     tie.close
-    (tie.spec is-sound-requires returns in-range-requires returns-2 placed-requires returns-3)
+    (tie.spec (λ c κs. search needs) returns (λ c κs. search needs) returns-2 placed-requires returns-3)

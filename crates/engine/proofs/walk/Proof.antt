@@ -8,15 +8,6 @@ use Rattle.engine.proofs.Entries.{refused-first, served-first}
 use Rattle.engine.proofs.walk.Statement.{statement}
 use Rattle.engine.proofs.walk.Tie as tie
 
-check-dart-requires : tie.Need-check-dart-requires
-check-dart-requires c κs = search needs
-
-enum-known-checked : tie.Need-enum-known-checked
-enum-known-checked c = search needs
-
-enum-told : tie.Need-enum-told
-enum-told c = search needs
-
 walk-of-requires : tie.Need-walk-of-requires
 walk-of-requires c κs =
     let d = c .before .before in
@@ -38,4 +29,4 @@ returns-2 c =
 pub walk-spec : {M : Type 1} → statement M
 walk-spec =
     tie.close
-    (tie.spec check-dart-requires enum-known-checked enum-told walk-of-requires returns returns-2)
+    (tie.spec (λ c κs. search needs) (λ c. search needs) (λ c. search needs) walk-of-requires returns returns-2)

@@ -8,18 +8,6 @@ use Rattle.engine.proofs.Entries.{refused-first, served-first}
 use Rattle.engine.proofs.walker_by_point.Statement.{statement}
 use Rattle.engine.proofs.walker_by_point.Tie as tie
 
-check-dart-requires : tie.Need-check-dart-requires
-check-dart-requires c κs = search needs
-
-enum-known-checked : tie.Need-enum-known-checked
-enum-known-checked c = search needs
-
-enum-told : tie.Need-enum-told
-enum-told c = search needs
-
-moved-by-point-requires : tie.Need-moved-by-point-requires
-moved-by-point-requires c κs = search needs
-
 returns : tie.Need-returns
 unfolding moved-answer
 returns c =
@@ -35,4 +23,4 @@ returns-2 c =
 pub walker-by-point-spec : {M : Type 1} → statement M
 walker-by-point-spec =
     tie.close
-    (tie.spec check-dart-requires enum-known-checked enum-told moved-by-point-requires returns returns-2)
+    (tie.spec (λ c κs. search needs) (λ c. search needs) (λ c. search needs) (λ c κs. search needs) returns returns-2)

@@ -3,21 +3,6 @@ use borrow.Author.Needs.{needs}
 use Rattle.reach.proofs.moved.Statement.{statement}
 use Rattle.reach.proofs.moved.Tie as tie
 
-enum-told : tie.Need-enum-told
-enum-told c = search needs
-
-enum-told-2 : tie.Need-enum-told-2
-enum-told-2 c = search needs
-
-moved-by-edge-requires : tie.Need-moved-by-edge-requires
-moved-by-edge-requires c κs = search needs
-
-enum-told-3 : tie.Need-enum-told-3
-enum-told-3 c = search needs
-
-moved-by-point-requires : tie.Need-moved-by-point-requires
-moved-by-point-requires c κs = search needs
-
 returns : tie.Need-returns
 returns c = rw (c .enum-told .given .1)
 
@@ -31,11 +16,11 @@ pub moved-spec : {M : Type 1} → statement M
 moved-spec =
     tie.close
     (tie.spec
-    enum-told
-    enum-told-2
-    moved-by-edge-requires
-    enum-told-3
-    moved-by-point-requires
+    (λ c. search needs)
+    (λ c. search needs)
+    (λ c κs. search needs)
+    (λ c. search needs)
+    (λ c κs. search needs)
     returns
     returns-2
     returns-3)

@@ -7,18 +7,6 @@ use borrow.Author.Needs.{needs}
 use Rattle.reach.proofs.reach_check.Statement.{statement}
 use Rattle.reach.proofs.reach_check.Tie as tie
 
-load-requires : tie.Need-load-requires
-load-requires c κs = search needs
-
-enum-known-outcome : tie.Need-enum-known-outcome
-enum-known-outcome c = search needs
-
-code-requires : tie.Need-code-requires
-code-requires c κs = search needs
-
-enum-told : tie.Need-enum-told
-enum-told c = search needs
-
 returns : tie.Need-returns
 returns c =
     let d = c .before .before in
@@ -33,4 +21,4 @@ returns-2 c =
 
 pub reach-check-spec : {M : Type 1} → statement M
 reach-check-spec =
-    tie.close (tie.spec load-requires enum-known-outcome code-requires enum-told returns returns-2)
+    tie.close (tie.spec (λ c κs. search needs) (λ c. search needs) (λ c κs. search needs) (λ c. search needs) returns returns-2)

@@ -12,18 +12,6 @@ use borrow.Author.Needs.{needs}
 use Rattle.reach.proofs.reach_corners.Statement.{statement}
 use Rattle.reach.proofs.reach_corners.Tie as tie
 
-load-requires : tie.Need-load-requires
-load-requires c κs = search needs
-
-enum-known-outcome : tie.Need-enum-known-outcome
-enum-known-outcome c = search needs
-
-code-requires : tie.Need-code-requires
-code-requires c κs = search needs
-
-enum-told : tie.Need-enum-told
-enum-told c = search needs
-
 write-corner-list-requires : tie.Need-write-corner-list-requires
 write-corner-list-requires c κs =
     let t = c .before .before in
@@ -36,12 +24,6 @@ returns c =
     both-refused-before _ [] _ _ _ _ _
     (sym (d .outcome .given .1) ∙ loads (l .load .ensures) .outcome)
     (c .code .ensures)
-
-same-length : tie.Need-same-length
-same-length c = search needs
-
-same-length-2 : tie.Need-same-length-2
-same-length-2 c = search needs
 
 returns-2 : tie.Need-returns-2
 unfolding written-answer
@@ -59,12 +41,12 @@ pub reach-corners-spec : {M : Type 1} → statement M
 reach-corners-spec =
     tie.close
     (tie.spec
-    load-requires
-    enum-known-outcome
-    code-requires
-    enum-told
+    (λ c κs. search needs)
+    (λ c. search needs)
+    (λ c κs. search needs)
+    (λ c. search needs)
     write-corner-list-requires
     returns
-    same-length
-    same-length-2
+    (λ c. search needs)
+    (λ c. search needs)
     returns-2)

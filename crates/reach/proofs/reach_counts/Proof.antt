@@ -10,27 +10,9 @@ use borrow.Author.Needs.{needs}
 use Rattle.reach.proofs.reach_counts.Statement.{statement}
 use Rattle.reach.proofs.reach_counts.Tie as tie
 
-load-requires : tie.Need-load-requires
-load-requires c κs = search needs
-
-enum-known-outcome : tie.Need-enum-known-outcome
-enum-known-outcome c = search needs
-
-code-requires : tie.Need-code-requires
-code-requires c κs = search needs
-
-enum-told : tie.Need-enum-told
-enum-told c = search needs
-
 counts-of-requires : tie.Need-counts-of-requires
 counts-of-requires c κs =
     opened-sound (loads (c .before .before .load .ensures)) (c .enum-told .given .1)
-
-slice-aggregate-write-values : tie.Need-slice-aggregate-write-values
-slice-aggregate-write-values c = search needs
-
-write-values-requires : tie.Need-write-values-requires
-write-values-requires c κs = search needs
 
 returns : tie.Need-returns
 unfolding counted-answer
@@ -38,9 +20,6 @@ returns c =
     let d = c .before .before in
     let l = d .before .before in
     opened-refused (loads (l .load .ensures)) (d .outcome .given .1) (c .code .ensures)
-
-same-length : tie.Need-same-length
-same-length c = search needs
 
 returns-2 : tie.Need-returns-2
 unfolding counted-answer
@@ -60,13 +39,13 @@ pub reach-counts-spec : {M : Type 1} → statement M
 reach-counts-spec =
     tie.close
     (tie.spec
-    load-requires
-    enum-known-outcome
-    code-requires
-    enum-told
+    (λ c κs. search needs)
+    (λ c. search needs)
+    (λ c κs. search needs)
+    (λ c. search needs)
     counts-of-requires
-    slice-aggregate-write-values
-    write-values-requires
+    (λ c. search needs)
+    (λ c κs. search needs)
     returns
-    same-length
+    (λ c. search needs)
     returns-2)

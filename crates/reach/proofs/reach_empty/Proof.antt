@@ -16,17 +16,11 @@ use borrow.Author.Needs.{needs}
 use Rattle.reach.proofs.reach_empty.Statement.{statement}
 use Rattle.reach.proofs.reach_empty.Tie as tie
 
-saved-length-requires : tie.Need-saved-length-requires
-saved-length-requires c κs = search needs
-
 returns : tie.Need-returns
 unfolding empty-map
 returns c =
     short-list _ _ (omega
     (arith, length-saved empty-map, c .before .saved-length .ensures, c .if1 .taken))
-
-empty-map-requires : tie.Need-empty-map-requires
-empty-map-requires c κs = search needs
 
 write-map-requires : tie.Need-write-map-requires
 unfolding empty-map
@@ -36,9 +30,6 @@ write-map-requires c κs =
       subst Sound (sym e) empty-sound,
       omega (arith, ap (λ (m : Map). m .count) e, d .before .saved-length .ensures, d .if1 .left),
     )
-
-same-length : tie.Need-same-length
-same-length c = search needs
 
 returns-2 : tie.Need-returns-2
 unfolding empty-map
@@ -56,9 +47,9 @@ pub reach-empty-spec : {M : Type 1} → statement M
 reach-empty-spec =
     tie.close
     (tie.spec
-    saved-length-requires
+    (λ c κs. search needs)
     returns
-    empty-map-requires
+    (λ c κs. search needs)
     write-map-requires
-    same-length
+    (λ c. search needs)
     returns-2)

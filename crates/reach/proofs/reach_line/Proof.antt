@@ -12,21 +12,6 @@ use borrow.Author.Needs.{needs}
 use Rattle.reach.proofs.reach_line.Statement.{statement}
 use Rattle.reach.proofs.reach_line.Tie as tie
 
-read-line-requires : tie.Need-read-line-requires
-read-line-requires c κs = search needs
-
-enum-known-read : tie.Need-enum-known-read
-enum-known-read c = search needs
-
-code-requires : tie.Need-code-requires
-code-requires c κs = search needs
-
-enum-known-read-2 : tie.Need-enum-known-read-2
-enum-known-read-2 c = search needs
-
-write-point-requires : tie.Need-write-point-requires
-write-point-requires c κs = search needs
-
 abbrev line-outcome : Line → Outcome
 line-outcome (Line.Named p) = Outcome.Served
 line-outcome (Line.Refused r) = Outcome.Refused r
@@ -38,9 +23,6 @@ returns c =
     let f = d .before .before in
     answer-refused signed (line-call (now (f .before .before .args .line))) line-outcome (λ r. refl)
     refl _ (f .read-line .ensures) (ap line-outcome (d .read .given .1)) (c .code .ensures)
-
-same-length : tie.Need-same-length
-same-length c = search needs
 
 returns-2 : tie.Need-returns-2
 unfolding line-answer line-read
@@ -57,11 +39,11 @@ pub reach-line-spec : {M : Type 1} → statement M
 reach-line-spec =
     tie.close
     (tie.spec
-    read-line-requires
-    enum-known-read
-    code-requires
-    enum-known-read-2
-    write-point-requires
+    (λ c κs. search needs)
+    (λ c. search needs)
+    (λ c κs. search needs)
+    (λ c. search needs)
+    (λ c κs. search needs)
     returns
-    same-length
+    (λ c. search needs)
     returns-2)

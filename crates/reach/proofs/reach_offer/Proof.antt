@@ -12,18 +12,6 @@ use borrow.Author.Needs.{needs}
 use Rattle.reach.proofs.reach_offer.Statement.{statement}
 use Rattle.reach.proofs.reach_offer.Tie as tie
 
-point-requires : tie.Need-point-requires
-point-requires c κs = search needs
-
-write-offer-requires : tie.Need-write-offer-requires
-write-offer-requires c κs = search needs
-
-same-length : tie.Need-same-length
-same-length c = search needs
-
-same-length-2 : tie.Need-same-length-2
-same-length-2 c = search needs
-
 returns : tie.Need-returns
 returns c =
     let w = c .before .before .before .before in
@@ -39,4 +27,4 @@ returns c =
 
 pub reach-offer-spec : {M : Type 1} → statement M
 reach-offer-spec =
-    tie.close (tie.spec point-requires write-offer-requires same-length same-length-2 returns)
+    tie.close (tie.spec (λ c κs. search needs) (λ c κs. search needs) (λ c. search needs) (λ c. search needs) returns)

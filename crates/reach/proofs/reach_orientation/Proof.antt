@@ -8,21 +8,6 @@ use borrow.Author.Needs.{needs}
 use Rattle.reach.proofs.reach_orientation.Statement.{statement}
 use Rattle.reach.proofs.reach_orientation.Tie as tie
 
-point-requires : tie.Need-point-requires
-point-requires c κs = search needs
-
-point-requires-2 : tie.Need-point-requires-2
-point-requires-2 c κs = search needs
-
-point-requires-3 : tie.Need-point-requires-3
-point-requires-3 c κs = search needs
-
-write-orientation-requires : tie.Need-write-orientation-requires
-write-orientation-requires c κs = search needs
-
-same-length : tie.Need-same-length
-same-length c = search needs
-
 returns : tie.Need-returns
 returns c =
     let w = c .before in
@@ -46,9 +31,9 @@ pub reach-orientation-spec : {M : Type 1} → statement M
 reach-orientation-spec =
     tie.close
     (tie.spec
-    point-requires
-    point-requires-2
-    point-requires-3
-    write-orientation-requires
-    same-length
+    (λ c κs. search needs)
+    (λ c κs. search needs)
+    (λ c κs. search needs)
+    (λ c κs. search needs)
+    (λ c. search needs)
     returns)

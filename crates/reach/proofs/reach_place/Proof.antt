@@ -7,15 +7,6 @@ use borrow.Author.Needs.{needs}
 use Rattle.reach.proofs.reach_place.Statement.{statement}
 use Rattle.reach.proofs.reach_place.Tie as tie
 
-point-requires : tie.Need-point-requires
-point-requires c κs = search needs
-
-write-placed-requires : tie.Need-write-placed-requires
-write-placed-requires c κs = search needs
-
-same-length : tie.Need-same-length
-same-length c = search needs
-
 returns : tie.Need-returns
 returns c =
     let w = c .before .before in
@@ -28,4 +19,4 @@ returns c =
     (w .write-placed .ensures)
 
 pub reach-place-spec : {M : Type 1} → statement M
-reach-place-spec = tie.close (tie.spec point-requires write-placed-requires same-length returns)
+reach-place-spec = tie.close (tie.spec (λ c κs. search needs) (λ c κs. search needs) (λ c. search needs) returns)

@@ -10,39 +10,15 @@ use borrow.Author.Needs.{needs}
 use Rattle.reach.proofs.reach_walk.Statement.{statement}
 use Rattle.reach.proofs.reach_walk.Tie as tie
 
-load-at-requires : tie.Need-load-at-requires
-load-at-requires c κs = search needs
-
-enum-known-outcome : tie.Need-enum-known-outcome
-enum-known-outcome c = search needs
-
-code-requires : tie.Need-code-requires
-code-requires c κs = search needs
-
-enum-told : tie.Need-enum-told
-enum-told c = search needs
-
 walk-of-requires : tie.Need-walk-of-requires
 walk-of-requires c κs =
     opened-sound (c .before .before .load-at .ensures) (c .enum-told .given .1) .links .fits
-
-walk-values-requires : tie.Need-walk-values-requires
-walk-values-requires c κs = search needs
-
-slice-aggregate-write-values : tie.Need-slice-aggregate-write-values
-slice-aggregate-write-values c = search needs
-
-write-values-requires : tie.Need-write-values-requires
-write-values-requires c κs = search needs
 
 returns : tie.Need-returns
 returns c =
     let d = c .before .before in
     let l = d .before .before in
     opened-refused (l .load-at .ensures) (d .outcome .given .1) (c .code .ensures)
-
-same-length : tie.Need-same-length
-same-length c = search needs
 
 returns-2 : tie.Need-returns-2
 returns-2 c =
@@ -63,14 +39,14 @@ pub reach-walk-spec : {M : Type 1} → statement M
 reach-walk-spec =
     tie.close
     (tie.spec
-    load-at-requires
-    enum-known-outcome
-    code-requires
-    enum-told
+    (λ c κs. search needs)
+    (λ c. search needs)
+    (λ c κs. search needs)
+    (λ c. search needs)
     walk-of-requires
-    walk-values-requires
-    slice-aggregate-write-values
-    write-values-requires
+    (λ c κs. search needs)
+    (λ c. search needs)
+    (λ c κs. search needs)
     returns
-    same-length
+    (λ c. search needs)
     returns-2)

@@ -13,18 +13,6 @@ use borrow.Author.Needs.{needs}
 use Rattle.reach.proofs.write_offer.Statement.{statement}
 use Rattle.reach.proofs.write_offer.Tie as tie
 
-load-requires : tie.Need-load-requires
-load-requires c κs = search needs
-
-enum-known-outcome : tie.Need-enum-known-outcome
-enum-known-outcome c = search needs
-
-code-requires : tie.Need-code-requires
-code-requires c κs = search needs
-
-enum-told : tie.Need-enum-told
-enum-told c = search needs
-
 write-admitted-requires : tie.Need-write-admitted-requires
 write-admitted-requires c κs =
     let t = c .before .before in
@@ -37,12 +25,6 @@ returns c =
     let s = l .before .before .before .before .args in
     both-refused-before _ (admission-rules (map-in (now (s .map))) (s .p)) _ _ _ _ _
     (sym (d .outcome .given .1) ∙ loads (l .load .ensures) .outcome) (c .code .ensures)
-
-same-length : tie.Need-same-length
-same-length c = search needs
-
-same-length-2 : tie.Need-same-length-2
-same-length-2 c = search needs
 
 returns-2 : tie.Need-returns-2
 returns-2 c =
@@ -62,12 +44,12 @@ pub write-offer-spec : {M : Type 1} → statement M
 write-offer-spec =
     tie.close
     (tie.spec
-    load-requires
-    enum-known-outcome
-    code-requires
-    enum-told
+    (λ c κs. search needs)
+    (λ c. search needs)
+    (λ c κs. search needs)
+    (λ c. search needs)
     write-admitted-requires
     returns
-    same-length
-    same-length-2
+    (λ c. search needs)
+    (λ c. search needs)
     returns-2)

@@ -16,18 +16,6 @@ use borrow.Author.Needs.{needs}
 use Rattle.reach.proofs.write_orbit.Statement.{statement}
 use Rattle.reach.proofs.write_orbit.Tie as tie
 
-load-at-requires : tie.Need-load-at-requires
-load-at-requires c κs = search needs
-
-enum-known-outcome : tie.Need-enum-known-outcome
-enum-known-outcome c = search needs
-
-code-requires : tie.Need-code-requires
-code-requires c κs = search needs
-
-enum-told : tie.Need-enum-told
-enum-told c = search needs
-
 orbit-of-requires : tie.Need-orbit-of-requires
 orbit-of-requires c κs =
     let o = c .before .before .load-at .ensures in
@@ -48,9 +36,6 @@ returns c =
     let l = d .before .before in
     opened-refused (l .load-at .ensures) (d .outcome .given .1) (c .code .ensures)
 
-same-length : tie.Need-same-length
-same-length c = search needs
-
 returns-2 : tie.Need-returns-2
 returns-2 c =
     let w = c .before .before in
@@ -68,12 +53,12 @@ pub write-orbit-spec : {M : Type 1} → statement M
 write-orbit-spec =
     tie.close
     (tie.spec
-    load-at-requires
-    enum-known-outcome
-    code-requires
-    enum-told
+    (λ c κs. search needs)
+    (λ c. search needs)
+    (λ c κs. search needs)
+    (λ c. search needs)
     orbit-of-requires
     write-darts-requires
     returns
-    same-length
+    (λ c. search needs)
     returns-2)

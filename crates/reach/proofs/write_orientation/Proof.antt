@@ -15,21 +15,6 @@ use borrow.Author.Needs.{needs}
 use Rattle.reach.proofs.write_orientation.Statement.{statement}
 use Rattle.reach.proofs.write_orientation.Tie as tie
 
-orientation-of-requires : tie.Need-orientation-of-requires
-orientation-of-requires c κs = search needs
-
-enum-known-oriented : tie.Need-enum-known-oriented
-enum-known-oriented c = search needs
-
-code-requires : tie.Need-code-requires
-code-requires c κs = search needs
-
-enum-known-oriented-2 : tie.Need-enum-known-oriented-2
-enum-known-oriented-2 c = search needs
-
-write-number-requires : tie.Need-write-number-requires
-write-number-requires c κs = search needs
-
 abbrev oriented-outcome : Oriented → Outcome
 oriented-outcome (Oriented.Value z) = Outcome.Served
 oriented-outcome (Oriented.Refused r) = Outcome.Refused r
@@ -42,9 +27,6 @@ returns c =
     answer-refused signed (orientation-call (s .a) (s .b) (s .c)) oriented-outcome (λ r. refl) refl _
     (f .orientation-of .ensures .answer .equal)
     (ap oriented-outcome (d .oriented .given .1)) (c .code .ensures)
-
-same-length : tie.Need-same-length
-same-length c = search needs
 
 returns-2 : tie.Need-returns-2
 unfolding oriented-answer
@@ -67,11 +49,11 @@ pub write-orientation-spec : {M : Type 1} → statement M
 write-orientation-spec =
     tie.close
     (tie.spec
-    orientation-of-requires
-    enum-known-oriented
-    code-requires
-    enum-known-oriented-2
-    write-number-requires
+    (λ c κs. search needs)
+    (λ c. search needs)
+    (λ c κs. search needs)
+    (λ c. search needs)
+    (λ c κs. search needs)
     returns
-    same-length
+    (λ c. search needs)
     returns-2)

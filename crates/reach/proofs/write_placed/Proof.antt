@@ -10,41 +10,17 @@ use borrow.Author.Needs.{needs}
 use Rattle.reach.proofs.write_placed.Statement.{statement}
 use Rattle.reach.proofs.write_placed.Tie as tie
 
-load-near-requires : tie.Need-load-near-requires
-load-near-requires c κs = search needs
-
-enum-known-outcome : tie.Need-enum-known-outcome
-enum-known-outcome c = search needs
-
-code-requires : tie.Need-code-requires
-code-requires c κs = search needs
-
-enum-told : tie.Need-enum-told
-enum-told c = search needs
-
 placed-requires : tie.Need-placed-requires
 placed-requires c κs =
     let o = c .before .before .load-near .ensures in
     let e = c .enum-told .given .1 in
     (opened-sound o e, opened-near _ o e)
 
-placed-values-requires : tie.Need-placed-values-requires
-placed-values-requires c κs = search needs
-
-slice-aggregate-write-values : tie.Need-slice-aggregate-write-values
-slice-aggregate-write-values c = search needs
-
-write-values-requires : tie.Need-write-values-requires
-write-values-requires c κs = search needs
-
 returns : tie.Need-returns
 returns c =
     let d = c .before .before in
     let l = d .before .before in
     opened-refused (l .load-near .ensures) (d .outcome .given .1) (c .code .ensures)
-
-same-length : tie.Need-same-length
-same-length c = search needs
 
 returns-2 : tie.Need-returns-2
 returns-2 c =
@@ -65,14 +41,14 @@ pub write-placed-spec : {M : Type 1} → statement M
 write-placed-spec =
     tie.close
     (tie.spec
-    load-near-requires
-    enum-known-outcome
-    code-requires
-    enum-told
+    (λ c κs. search needs)
+    (λ c. search needs)
+    (λ c κs. search needs)
+    (λ c. search needs)
     placed-requires
-    placed-values-requires
-    slice-aggregate-write-values
-    write-values-requires
+    (λ c κs. search needs)
+    (λ c. search needs)
+    (λ c κs. search needs)
     returns
-    same-length
+    (λ c. search needs)
     returns-2)

@@ -10,36 +10,12 @@ use borrow.Author.Needs.{needs}
 use Rattle.reach.proofs.write_walker.Statement.{statement}
 use Rattle.reach.proofs.write_walker.Tie as tie
 
-load-at-requires : tie.Need-load-at-requires
-load-at-requires c κs = search needs
-
-enum-known-outcome : tie.Need-enum-known-outcome
-enum-known-outcome c = search needs
-
-code-requires : tie.Need-code-requires
-code-requires c κs = search needs
-
-enum-told : tie.Need-enum-told
-enum-told c = search needs
-
-moved-requires : tie.Need-moved-requires
-moved-requires c κs = search needs
-
-slice-aggregate-write-values : tie.Need-slice-aggregate-write-values
-slice-aggregate-write-values c = search needs
-
-write-values-requires : tie.Need-write-values-requires
-write-values-requires c κs = search needs
-
 returns : tie.Need-returns
 unfolding moved-answer
 returns c =
     let d = c .before .before in
     let l = d .before .before in
     opened-refused (l .load-at .ensures) (d .outcome .given .1) (c .code .ensures)
-
-same-length : tie.Need-same-length
-same-length c = search needs
 
 returns-2 : tie.Need-returns-2
 unfolding moved-answer
@@ -59,13 +35,13 @@ pub write-walker-spec : {M : Type 1} → statement M
 write-walker-spec =
     tie.close
     (tie.spec
-    load-at-requires
-    enum-known-outcome
-    code-requires
-    enum-told
-    moved-requires
-    slice-aggregate-write-values
-    write-values-requires
+    (λ c κs. search needs)
+    (λ c. search needs)
+    (λ c κs. search needs)
+    (λ c. search needs)
+    (λ c κs. search needs)
+    (λ c. search needs)
+    (λ c κs. search needs)
     returns
-    same-length
+    (λ c. search needs)
     returns-2)

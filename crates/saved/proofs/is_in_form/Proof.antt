@@ -14,39 +14,21 @@ use Rattle.saved.proofs.is_in_form.Tie as tie
 returns : tie.Need-returns
 returns c = not-in-form _ (λ f. omega (arith, f .few, f .whole, f .length-right, f .version-right))
 
-number-at-requires : tie.Need-number-at-requires
-number-at-requires c κs = search needs
-
 returns-2 : tie.Need-returns-2
 returns-2 c =
     not-in-form _ (λ f. omega (arith, f .few, f .whole, f .length-right, f .version-right))
-
-saved-length-requires : tie.Need-saved-length-requires
-saved-length-requires c κs = search needs
 
 returns-3 : tie.Need-returns-3
 returns-3 c =
     not-in-form _ (λ f. omega (arith, f .few, f .whole, f .length-right, f .version-right))
 
-number-at-requires-2 : tie.Need-number-at-requires-2
-number-at-requires-2 c κs = search needs
-
-sub-if4 : tie.Need-sub-if4
-sub-if4 c = search needs
-
 returns-4 : tie.Need-returns-4
 returns-4 c =
     not-in-form _ (λ f. omega (arith, f .few, f .whole, f .length-right, f .version-right))
 
-number-at-requires-3 : tie.Need-number-at-requires-3
-number-at-requires-3 c κs = search needs
-
 returns-5 : tie.Need-returns-5
 returns-5 c =
     not-in-form _ (λ f. omega (arith, f .few, f .whole, f .length-right, f .version-right))
-
-helpers-in-form-requires : tie.Need-helpers-in-form-requires
-helpers-in-form-requires c κs = search needs
 
 returns-6 : tie.Need-returns-6
 returns-6 c =
@@ -61,14 +43,14 @@ is-in-form-spec =
     tie.close
     (tie.spec
     returns
-    number-at-requires
+    (λ c κs. search needs)
     returns-2
-    saved-length-requires
+    (λ c κs. search needs)
     returns-3
-    number-at-requires-2
-    sub-if4
+    (λ c κs. search needs)
+    (λ c. search needs)
     returns-4
-    number-at-requires-3
+    (λ c κs. search needs)
     returns-5
-    helpers-in-form-requires
+    (λ c κs. search needs)
     returns-6)

@@ -17,54 +17,12 @@ use borrow.Author.Needs.{needs}
 use Rattle.saved.proofs.write_map.Statement.{statement}
 use Rattle.saved.proofs.write_map.Tie as tie
 
-write-header-requires : tie.Need-write-header-requires
-write-header-requires c κs = search needs
-
-sub-write-coordinates : tie.Need-sub-write-coordinates
-sub-write-coordinates c = search needs
-
-part-write-coordinates-start : tie.Need-part-write-coordinates-start
-part-write-coordinates-start c = search needs
-
-part-write-coordinates-end : tie.Need-part-write-coordinates-end
-part-write-coordinates-end c = search needs
-
 write-coordinates-requires : tie.Need-write-coordinates-requires
 unfolding point
 write-coordinates-requires c κs =
     let s =
     c .before .before .before .before .before .before .before .before .before .before .before in
     ((omega arith, simp (length-take, length-drop) (omega arith)), points-ranged (s .pre .0))
-
-helpers-place-requires : tie.Need-helpers-place-requires
-helpers-place-requires c κs = search needs
-
-sub-write-helpers : tie.Need-sub-write-helpers
-sub-write-helpers c = search needs
-
-part-write-helpers-start : tie.Need-part-write-helpers-start
-part-write-helpers-start c = search needs
-
-part-write-helpers-end : tie.Need-part-write-helpers-end
-part-write-helpers-end c = search needs
-
-write-helpers-requires : tie.Need-write-helpers-requires
-write-helpers-requires c κs = search needs
-
-links-place-requires : tie.Need-links-place-requires
-links-place-requires c κs = search needs
-
-sub-write-links : tie.Need-sub-write-links
-sub-write-links c = search needs
-
-part-write-links-start : tie.Need-part-write-links-start
-part-write-links-start c = search needs
-
-part-write-links-end : tie.Need-part-write-links-end
-part-write-links-end c = search needs
-
-write-links-requires : tie.Need-write-links-requires
-write-links-requires c κs = search needs
 
 -- the header and the blocks of a map, up to each
 abbrev first-1 : Map → List ℕ
@@ -90,9 +48,6 @@ length-3 m =
       length-block (2 * m .count) 4 (λ i. complement (coordinate m i)),
       length-block (m .count) 1 (λ k. one-if (has-helper m k)),
     ))
-
-same-length : tie.Need-same-length
-same-length c = search needs
 
 returns : tie.Need-returns
 unfolding saved coordinate point has-helper edge-link
@@ -129,20 +84,20 @@ pub write-map-spec : {M : Type 1} → statement M
 write-map-spec =
     tie.close
     (tie.spec
-    write-header-requires
-    sub-write-coordinates
-    part-write-coordinates-start
-    part-write-coordinates-end
+    (λ c κs. search needs)
+    (λ c. search needs)
+    (λ c. search needs)
+    (λ c. search needs)
     write-coordinates-requires
-    helpers-place-requires
-    sub-write-helpers
-    part-write-helpers-start
-    part-write-helpers-end
-    write-helpers-requires
-    links-place-requires
-    sub-write-links
-    part-write-links-start
-    part-write-links-end
-    write-links-requires
-    same-length
+    (λ c κs. search needs)
+    (λ c. search needs)
+    (λ c. search needs)
+    (λ c. search needs)
+    (λ c κs. search needs)
+    (λ c κs. search needs)
+    (λ c. search needs)
+    (λ c. search needs)
+    (λ c. search needs)
+    (λ c κs. search needs)
+    (λ c. search needs)
     returns)

@@ -7,14 +7,8 @@ use Rattle.engine.proofs.Rules.{tested}
 use Rattle.engine.proofs.checks.check_dart.Statement.{statement}
 use Rattle.engine.proofs.checks.check_dart.Tie as tie
 
-is-sound-requires : tie.Need-is-sound-requires
-is-sound-requires c κs = search needs
-
 returns : tie.Need-returns
 returns c = rule-applies Outcome.Refused _ _ _ (tested (c .before .is-sound .ensures) (c .if1 .taken))
-
-is-present-requires : tie.Need-is-present-requires
-is-present-requires c κs = search needs
 
 -- where the soundness check has passed
 abbrev at-sound : tie.After-is-present → tie.Else1
@@ -36,4 +30,4 @@ returns-3 c =
 
 pub check-dart-spec : {M : Type 1} → statement M
 check-dart-spec =
-    tie.close (tie.spec is-sound-requires returns is-present-requires returns-2 returns-3)
+    tie.close (tie.spec (λ c κs. search needs) returns (λ c κs. search needs) returns-2 returns-3)

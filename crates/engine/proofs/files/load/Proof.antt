@@ -20,12 +20,6 @@ use Rattle.engine.proofs.files.load.Tie as tie
 abbrev beside : Outcome → Map → Loaded
 beside outcome map = record { outcome = outcome; map = map }
 
-is-in-form-requires : tie.Need-is-in-form-requires
-is-in-form-requires c κs = search needs
-
-empty-map-requires : tie.Need-empty-map-requires
-empty-map-requires c κs = search needs
-
 returns : tie.Need-returns
 unfolding outcome-answer
 returns c =
@@ -40,12 +34,6 @@ map-in-requires c κs =
     let s = c .before .before .before .args in
     of-true (file-in-form (now (s .file)))
     (sym (c .before .is-in-form .ensures) ∙ not-false _ (c .if1 .left))
-
-is-sound-requires : tie.Need-is-sound-requires
-is-sound-requires c κs = search needs
-
-empty-map-requires-2 : tie.Need-empty-map-requires-2
-empty-map-requires-2 c κs = search needs
 
 -- where the map of the file was checked: its check speaks of the map in the file
 abbrev at-form : tie.After-is-sound → tie.Else1
@@ -81,11 +69,11 @@ pub load-spec : {M : Type 1} → statement M
 load-spec =
     tie.close
     (tie.spec
-    is-in-form-requires
-    empty-map-requires
+    (λ c κs. search needs)
+    (λ c κs. search needs)
     returns
     map-in-requires
-    is-sound-requires
-    empty-map-requires-2
+    (λ c κs. search needs)
+    (λ c κs. search needs)
     returns-2
     returns-3)

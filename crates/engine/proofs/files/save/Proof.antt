@@ -8,9 +8,6 @@ use Rattle.engine.proofs.Entries.{rule-refused, short-refused, result-w
 use Rattle.engine.proofs.files.save.Statement.{statement}
 use Rattle.engine.proofs.files.save.Tie as tie
 
-is-sound-requires : tie.Need-is-sound-requires
-is-sound-requires c κs = search needs
-
 returns : tie.Need-returns
 returns c = rule-refused (tested (c .before .is-sound .ensures) (c .if1 .taken))
 
@@ -36,9 +33,6 @@ write-map-requires c κs =
       omega (arith, room .before .saved-length .ensures, room .if2 .left),
     )
 
-same-length : tie.Need-same-length
-same-length c = search needs
-
 returns-3 : tie.Need-returns-3
 returns-3 c =
     let w = c .before .before in
@@ -54,10 +48,10 @@ pub save-spec : {M : Type 1} → statement M
 save-spec =
     tie.close
     (tie.spec
-    is-sound-requires
+    (λ c κs. search needs)
     returns
     saved-length-requires
     returns-2
     write-map-requires
-    same-length
+    (λ c. search needs)
     returns-3)

@@ -7,12 +7,9 @@ use Rattle.model.proofs.Answers.{answered}
 use Rattle.engine.proofs.texts.read_line.Statement.{statement}
 use Rattle.engine.proofs.texts.read_line.Tie as tie
 
-read-line-requires : tie.Need-read-line-requires
-read-line-requires c κs = search needs
-
 returns : tie.Need-returns
 unfolding line-read line-answer
 returns c = answered (line-call _) (λ x. refl) (c .read-line .ensures)
 
 pub read-line-spec : {M : Type 1} → statement M
-read-line-spec = tie.close (tie.spec read-line-requires returns)
+read-line-spec = tie.close (tie.spec (λ c κs. search needs) returns)

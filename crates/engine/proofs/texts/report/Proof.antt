@@ -16,12 +16,6 @@ use Rattle.engine.proofs.texts.report.Tie as tie
 returns : tie.Need-returns
 returns c = rule-refused (lt-ltb text-limit _ (c .if1 .taken))
 
-decide-requires : tie.Need-decide-requires
-decide-requires c κs = search needs
-
-length-of-requires : tie.Need-length-of-requires
-length-of-requires c κs = search needs
-
 -- the length that was found is the report's
 found-length : (c : tie.After-length-of) →
     c .length-of .result
@@ -34,12 +28,6 @@ returns-2 c =
     let test = size .before .before in
     short-refused (le-ltb text-limit _ (test .if1 .left))
     (omega (arith, found-length size, c .if2 .taken))
-
-write-report-requires : tie.Need-write-report-requires
-write-report-requires c κs = search needs
-
-same-length : tie.Need-same-length
-same-length c = search needs
 
 returns-3 : tie.Need-returns-3
 returns-3 c =
@@ -58,9 +46,9 @@ report-spec =
     tie.close
     (tie.spec
     returns
-    decide-requires
-    length-of-requires
+    (λ c κs. search needs)
+    (λ c κs. search needs)
     returns-2
-    write-report-requires
-    same-length
+    (λ c κs. search needs)
+    (λ c. search needs)
     returns-3)

@@ -16,18 +16,6 @@ use borrow.Author.Needs.{needs}
 use Rattle.reach.proofs.opening.load_at.Statement.{statement}
 use Rattle.reach.proofs.opening.load_at.Tie as tie
 
-load-requires : tie.Need-load-requires
-load-requires c κs = search needs
-
-enum-known-outcome : tie.Need-enum-known-outcome
-enum-known-outcome c = search needs
-
-enum-told : tie.Need-enum-told
-enum-told c = search needs
-
-is-present-requires : tie.Need-is-present-requires
-is-present-requires c κs = search needs
-
 -- the dart is looked for in the map of the file
 present-tested : {s : List ℕ} {rules : List Rule} {l : Loaded} → Opened s rules l →
     l .outcome ≡ Outcome.Served →
@@ -66,10 +54,10 @@ pub load-at-spec : {M : Type 1} → statement M
 load-at-spec =
     tie.close
     (tie.spec
-    load-requires
-    enum-known-outcome
-    enum-told
-    is-present-requires
+    (λ c κs. search needs)
+    (λ c. search needs)
+    (λ c. search needs)
+    (λ c κs. search needs)
     returns
     returns-2
     returns-3)

@@ -8,18 +8,6 @@ use borrow.Author.Needs.{needs}
 use Rattle.reach.proofs.opening.load_near.Statement.{statement}
 use Rattle.reach.proofs.opening.load_near.Tie as tie
 
-load-requires : tie.Need-load-requires
-load-requires c κs = search needs
-
-enum-known-outcome : tie.Need-enum-known-outcome
-enum-known-outcome c = search needs
-
-enum-told : tie.Need-enum-told
-enum-told c = search needs
-
-in-range-requires : tie.Need-in-range-requires
-in-range-requires c κs = search needs
-
 returns : tie.Need-returns
 returns c =
     let m = c .before .before in
@@ -44,10 +32,10 @@ pub load-near-spec : {M : Type 1} → statement M
 load-near-spec =
     tie.close
     (tie.spec
-    load-requires
-    enum-known-outcome
-    enum-told
-    in-range-requires
+    (λ c κs. search needs)
+    (λ c. search needs)
+    (λ c. search needs)
+    (λ c κs. search needs)
     returns
     returns-2
     returns-3)

@@ -5,24 +5,6 @@ use borrow.Author.Needs.{needs}
 use Rattle.reach.proofs.values.arrival_values.Statement.{statement}
 use Rattle.reach.proofs.values.arrival_values.Tie as tie
 
-enum-told : tie.Need-enum-told
-enum-told c = search needs
-
-enum-told-2 : tie.Need-enum-told-2
-enum-told-2 c = search needs
-
-enum-told-3 : tie.Need-enum-told-3
-enum-told-3 c = search needs
-
-enum-known-arrival : tie.Need-enum-known-arrival
-enum-known-arrival c = search needs
-
-enum-known-arrival-2 : tie.Need-enum-known-arrival-2
-enum-known-arrival-2 c = search needs
-
-refusal-number-requires : tie.Need-refusal-number-requires
-refusal-number-requires c κs = search needs
-
 returns : tie.Need-returns
 unfolding told place-of arrival-answer
 returns c = rw (c .enum-told .given .1)
@@ -47,12 +29,12 @@ pub arrival-values-spec : {M : Type 1} → statement M
 arrival-values-spec =
     tie.close
     (tie.spec
-    enum-told
-    enum-told-2
-    enum-told-3
-    enum-known-arrival
-    enum-known-arrival-2
-    refusal-number-requires
+    (λ c. search needs)
+    (λ c. search needs)
+    (λ c. search needs)
+    (λ c. search needs)
+    (λ c. search needs)
+    (λ c κs. search needs)
     returns
     returns-2
     returns-3

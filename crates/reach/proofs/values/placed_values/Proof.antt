@@ -5,27 +5,6 @@ use borrow.Author.Needs.{needs}
 use Rattle.reach.proofs.values.placed_values.Statement.{statement}
 use Rattle.reach.proofs.values.placed_values.Tie as tie
 
-enum-told : tie.Need-enum-told
-enum-told c = search needs
-
-enum-known-placed : tie.Need-enum-known-placed
-enum-known-placed c = search needs
-
-enum-known-placed-2 : tie.Need-enum-known-placed-2
-enum-known-placed-2 c = search needs
-
-enum-told-2 : tie.Need-enum-told-2
-enum-told-2 c = search needs
-
-enum-known-placed-3 : tie.Need-enum-known-placed-3
-enum-known-placed-3 c = search needs
-
-enum-known-placed-4 : tie.Need-enum-known-placed-4
-enum-known-placed-4 c = search needs
-
-refusal-number-requires : tie.Need-refusal-number-requires
-refusal-number-requires c κs = search needs
-
 returns : tie.Need-returns
 unfolding told place-of placed-answer
 returns c = rw (c .enum-told .given .1)
@@ -54,13 +33,13 @@ pub placed-values-spec : {M : Type 1} → statement M
 placed-values-spec =
     tie.close
     (tie.spec
-    enum-told
-    enum-known-placed
-    enum-known-placed-2
-    enum-told-2
-    enum-known-placed-3
-    enum-known-placed-4
-    refusal-number-requires
+    (λ c. search needs)
+    (λ c. search needs)
+    (λ c. search needs)
+    (λ c. search needs)
+    (λ c. search needs)
+    (λ c. search needs)
+    (λ c κs. search needs)
     returns
     returns-2
     returns-3

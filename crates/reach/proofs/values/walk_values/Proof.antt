@@ -5,12 +5,6 @@ use borrow.Author.Needs.{needs}
 use Rattle.reach.proofs.values.walk_values.Statement.{statement}
 use Rattle.reach.proofs.values.walk_values.Tie as tie
 
-enum-told : tie.Need-enum-told
-enum-told c = search needs
-
-enum-told-2 : tie.Need-enum-told-2
-enum-told-2 c = search needs
-
 returns : tie.Need-returns
 unfolding told place-of walked-answer
 returns c = rw (c .enum-told .given .1)
@@ -20,4 +14,4 @@ unfolding told place-of walked-answer
 returns-2 c = rw (c .enum-told2 .given .1)
 
 pub walk-values-spec : {M : Type 1} → statement M
-walk-values-spec = tie.close (tie.spec enum-told enum-told-2 returns returns-2)
+walk-values-spec = tie.close (tie.spec (λ c. search needs) (λ c. search needs) returns returns-2)

@@ -20,14 +20,8 @@ few Refusal.BadLine = omega arith
 few Refusal.LongText = omega arith
 few Refusal.ShortList = omega arith
 
-refusal-number-requires : tie.Need-refusal-number-requires
-refusal-number-requires c κs = search needs
-
 cast-result : tie.Need-cast-result
 cast-result c = omega (arith, few (c .before .args .refusal), c .refusal-number .ensures)
 
-returns : tie.Need-returns
-returns c = search needs
-
 pub code-spec : {M : Type 1} → statement M
-code-spec = tie.close (tie.spec refusal-number-requires cast-result returns)
+code-spec = tie.close (tie.spec (λ c κs. search needs) cast-result (λ c. search needs))

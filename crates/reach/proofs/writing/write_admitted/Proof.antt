@@ -16,15 +16,6 @@ use borrow.Author.Needs.{needs}
 use Rattle.reach.proofs.writing.write_admitted.Statement.{statement}
 use Rattle.reach.proofs.writing.write_admitted.Tie as tie
 
-admitted-requires : tie.Need-admitted-requires
-admitted-requires c κs = search needs
-
-enum-known-answer : tie.Need-enum-known-answer
-enum-known-answer c = search needs
-
-code-requires : tie.Need-code-requires
-code-requires c κs = search needs
-
 write-offered-requires : tie.Need-write-offered-requires
 write-offered-requires c κs =
     let a = c .before .before .before in
@@ -50,12 +41,6 @@ returns c =
     (sym (ap arrival-outcome (d .answer .given .1)) ∙ outcome-found a)
     (c .code .ensures)
 
-same-length : tie.Need-same-length
-same-length c = search needs
-
-same-length-2 : tie.Need-same-length-2
-same-length-2 c = search needs
-
 returns-2 : tie.Need-returns-2
 unfolding admitted
 returns-2 c =
@@ -76,11 +61,11 @@ pub write-admitted-spec : {M : Type 1} → statement M
 write-admitted-spec =
     tie.close
     (tie.spec
-    admitted-requires
-    enum-known-answer
-    code-requires
+    (λ c κs. search needs)
+    (λ c. search needs)
+    (λ c κs. search needs)
     returns
     write-offered-requires
-    same-length
-    same-length-2
+    (λ c. search needs)
+    (λ c. search needs)
     returns-2)

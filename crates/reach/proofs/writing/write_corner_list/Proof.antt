@@ -13,9 +13,6 @@ use borrow.Author.Needs.{needs}
 use Rattle.reach.proofs.writing.write_corner_list.Statement.{statement}
 use Rattle.reach.proofs.writing.write_corner_list.Tie as tie
 
-corners-of-requires : tie.Need-corners-of-requires
-corners-of-requires c κs = search needs
-
 returns : tie.Need-returns
 returns c =
     let s = c .before .before .before .before .args in
@@ -27,18 +24,6 @@ returns-2 : tie.Need-returns-2
 returns-2 c =
     let s = c .before .before .before .before .before .args in
     second-short (corners (s .map)) (length (corners (s .map)) ∷ []) _ _ (c .if2 .taken)
-
-write-corners-requires : tie.Need-write-corners-requires
-write-corners-requires c κs = search needs
-
-slice-write-count : tie.Need-slice-write-count
-slice-write-count c = search needs
-
-same-length : tie.Need-same-length
-same-length c = search needs
-
-same-length-2 : tie.Need-same-length-2
-same-length-2 c = search needs
 
 returns-3 : tie.Need-returns-3
 returns-3 c =
@@ -58,11 +43,11 @@ pub write-corner-list-spec : {M : Type 1} → statement M
 write-corner-list-spec =
     tie.close
     (tie.spec
-    corners-of-requires
+    (λ c κs. search needs)
     returns
     returns-2
-    write-corners-requires
-    slice-write-count
-    same-length
-    same-length-2
+    (λ c κs. search needs)
+    (λ c. search needs)
+    (λ c. search needs)
+    (λ c. search needs)
     returns-3)

@@ -21,15 +21,6 @@ returns c =
       c .if1 .taken,
     ))
 
-write-values-requires : tie.Need-write-values-requires
-write-values-requires c κs = search needs
-
-slice-write-out : tie.Need-slice-write-out
-slice-write-out c = search needs
-
-same-length : tie.Need-same-length
-same-length c = search needs
-
 returns-2 : tie.Need-returns-2
 returns-2 c =
     let w = c .before .before in
@@ -46,4 +37,4 @@ returns-2 c =
 
 pub write-darts-spec : {M : Type 1} → statement M
 write-darts-spec =
-    tie.close (tie.spec returns write-values-requires slice-write-out same-length returns-2)
+    tie.close (tie.spec returns (λ c κs. search needs) (λ c. search needs) (λ c. search needs) returns-2)

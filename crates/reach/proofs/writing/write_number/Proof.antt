@@ -12,12 +12,6 @@ use Rattle.reach.proofs.writing.write_number.Tie as tie
 returns : tie.Need-returns
 returns c = short-list _ _ (c .if1 .taken)
 
-slice-set-from-z : tie.Need-slice-set-from-z
-slice-set-from-z c = search needs
-
-same-length : tie.Need-same-length
-same-length c = search needs
-
 returns-2 : tie.Need-returns-2
 returns-2 c =
     let s = c .before in
@@ -25,4 +19,4 @@ returns-2 c =
     rw (toZ-ofZ w64 z (s .fits .z)) (stored (z ∷ []) (now (s .args .out)) (c .if1 .left))
 
 pub write-number-spec : {M : Type 1} → statement M
-write-number-spec = tie.close (tie.spec returns slice-set-from-z same-length returns-2)
+write-number-spec = tie.close (tie.spec returns (λ c. search needs) (λ c. search needs) returns-2)

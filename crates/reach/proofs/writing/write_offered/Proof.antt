@@ -35,21 +35,6 @@ write-map-requires c κs =
     let s = d .before .before .before .before .before in
     (s .pre, omega (arith, d .before .saved-length .ensures, d .if1 .left))
 
-arrival-values-requires : tie.Need-arrival-values-requires
-arrival-values-requires c κs = search needs
-
-slice-aggregate-write-values : tie.Need-slice-aggregate-write-values
-slice-aggregate-write-values c = search needs
-
-write-values-requires : tie.Need-write-values-requires
-write-values-requires c κs = search needs
-
-same-length : tie.Need-same-length
-same-length c = search needs
-
-same-length-2 : tie.Need-same-length-2
-same-length-2 c = search needs
-
 returns-3 : tie.Need-returns-3
 returns-3 c =
     let v = c .before .before in
@@ -75,9 +60,9 @@ write-offered-spec =
     returns
     returns-2
     write-map-requires
-    arrival-values-requires
-    slice-aggregate-write-values
-    write-values-requires
-    same-length
-    same-length-2
+    (λ c κs. search needs)
+    (λ c. search needs)
+    (λ c κs. search needs)
+    (λ c. search needs)
+    (λ c. search needs)
     returns-3)

@@ -12,15 +12,6 @@ use Rattle.reach.proofs.writing.write_point.Tie as tie
 returns : tie.Need-returns
 returns c = short-list _ _ (c .if1 .taken)
 
-slice-set-from-x : tie.Need-slice-set-from-x
-slice-set-from-x c = search needs
-
-slice-set-from-y : tie.Need-slice-set-from-y
-slice-set-from-y c = search needs
-
-same-length : tie.Need-same-length
-same-length c = search needs
-
 returns-2 : tie.Need-returns-2
 returns-2 c =
     let d = c .before .before in
@@ -31,4 +22,4 @@ returns-2 c =
 
 pub write-point-spec : {M : Type 1} → statement M
 write-point-spec =
-    tie.close (tie.spec returns slice-set-from-x slice-set-from-y same-length returns-2)
+    tie.close (tie.spec returns (λ c. search needs) (λ c. search needs) (λ c. search needs) returns-2)

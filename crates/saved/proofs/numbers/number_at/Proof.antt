@@ -21,12 +21,6 @@ loop-holds c = (no-byte-read _ _, omega arith)
 mul-number : tie.Need-mul-number Inv-loop μ-loop
 mul-number c = let s = c .before .loop in omega (arith, room (s .inv .0) (omega arith))
 
-add-number : tie.Need-add-number Inv-loop μ-loop
-add-number c = omega arith
-
-shared-slice-read-number : tie.Need-shared-slice-read-number Inv-loop μ-loop
-shared-slice-read-number c = omega arith
-
 -- the element at the place is a byte
 byte : (c : tie.After-shared-slice-known Inv-loop μ-loop) →
     let a = c .before .before .before .args in
@@ -40,12 +34,6 @@ cast-number c = omega (arith, byte c)
 add-number-2 : tie.Need-add-number-2 Inv-loop μ-loop
 add-number-2 c =
     let s = c .before .before .loop in omega (arith, byte c, room (s .inv .0) (omega arith))
-
-add-i : tie.Need-add-i Inv-loop μ-loop
-add-i c = omega arith
-
-loop-less : tie.Need-loop-less Inv-loop μ-loop
-loop-less c = omega arith
 
 loop-again : tie.Need-loop-again Inv-loop μ-loop
 loop-again c =
@@ -64,11 +52,11 @@ number-at-spec =
     μ-loop
     loop-holds
     mul-number
-    add-number
-    shared-slice-read-number
+    (λ c. omega arith)
+    (λ c. omega arith)
     cast-number
     add-number-2
-    add-i
-    loop-less
+    (λ c. omega arith)
+    (λ c. omega arith)
     loop-again
     returns)

@@ -18,25 +18,16 @@ abbrev μ-loop : tie.MeasureT-loop
 loop-holds : tie.Need-loop-holds Inv-loop μ-loop
 loop-holds c = (no-byte-put _ _ _, omega arith)
 
-sub-left : tie.Need-sub-left Inv-loop μ-loop
-sub-left c = omega arith
-
 cast-lent : tie.Need-cast-lent Inv-loop μ-loop
 cast-lent c = omega (arith, mod-lt (c .before .loop .rest) {m = 256} (omega arith))
 
 slice-write-lent : tie.Need-slice-write-lent Inv-loop μ-loop
 slice-write-lent c = let p = c .before .loop .inv .0 .ahead in omega arith
 
-loop-less : tie.Need-loop-less Inv-loop μ-loop
-loop-less c = omega arith
-
 loop-again : tie.Need-loop-again Inv-loop μ-loop
 loop-again c =
     let s = c .before .loop in
     (one-byte-put (s .inv .0) (omega arith) (omega arith), simp length-set (s .inv .1))
-
-same-length : tie.Need-same-length Inv-loop μ-loop
-same-length c = omega arith
 
 returns : tie.Need-returns Inv-loop μ-loop
 returns c = all-bytes-put (c .before .loop .inv .0) (omega arith)
@@ -48,10 +39,10 @@ put-number-spec =
     Inv-loop
     μ-loop
     loop-holds
-    sub-left
+    (λ c. omega arith)
     cast-lent
     slice-write-lent
-    loop-less
+    (λ c. omega arith)
     loop-again
-    same-length
+    (λ c. omega arith)
     returns)

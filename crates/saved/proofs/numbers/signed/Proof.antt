@@ -18,12 +18,6 @@ abbrev difference : (c : tie.Start) →
     Number (256 ^ 4 + 2 ^ 32) (pos (c .args .number) -ℤ pos (2 ^ 32))
 difference c = sub (here c) (literal (pos (2 ^ 32)))
 
-cast-result : tie.Need-cast-result
-cast-result c = search needs
-
-cast-result-2 : tie.Need-cast-result-2
-cast-result-2 c = search needs
-
 sub-result : tie.Need-sub-result
 sub-result c = fits w64 tt (difference (c .before))
 
@@ -36,4 +30,4 @@ returns-2 c =
     ∙ sym (signed-high (c .before .args .number) (omega arith) (omega arith))
 
 pub signed-spec : {M : Type 1} → statement M
-signed-spec = tie.close (tie.spec cast-result cast-result-2 sub-result returns returns-2)
+signed-spec = tie.close (tie.spec (λ c. search needs) (λ c. search needs) sub-result returns returns-2)

@@ -8,24 +8,6 @@ use borrow.Author.Needs.{needs}
 use Rattle.saved.proofs.reading.coordinate_in.Statement.{statement}
 use Rattle.saved.proofs.reading.coordinate_in.Tie as tie
 
-mul-number-at : tie.Need-mul-number-at
-mul-number-at c = search needs
-
-add-number-at : tie.Need-add-number-at
-add-number-at c = search needs
-
-mul-number-at-2 : tie.Need-mul-number-at-2
-mul-number-at-2 c = search needs
-
-add-number-at-2 : tie.Need-add-number-at-2
-add-number-at-2 c = search needs
-
-number-at-requires : tie.Need-number-at-requires
-number-at-requires c κs = search needs
-
-signed-requires : tie.Need-signed-requires
-signed-requires c κs = search needs
-
 returns : tie.Need-returns
 returns c =
     let a = c .before .before .before .before .args in
@@ -40,11 +22,11 @@ pub coordinate-in-spec : {M : Type 1} → statement M
 coordinate-in-spec =
     tie.close
     (tie.spec
-    mul-number-at
-    add-number-at
-    mul-number-at-2
-    add-number-at-2
-    number-at-requires
-    signed-requires
+    (λ c. search needs)
+    (λ c. search needs)
+    (λ c. search needs)
+    (λ c. search needs)
+    (λ c κs. search needs)
+    (λ c κs. search needs)
     returns
     returns-2)

@@ -26,21 +26,6 @@ abbrev μ-loop : tie.MeasureT-loop
 loop-holds : tie.Need-loop-holds Inv-loop μ-loop
 loop-holds c = none-filled (length-replicate {A = ℤ} point-limit (pos 0))
 
-coordinate-in-requires : tie.Need-coordinate-in-requires Inv-loop μ-loop
-coordinate-in-requires c κs = search needs
-
-mul-coordinates : tie.Need-mul-coordinates Inv-loop μ-loop
-mul-coordinates c = omega arith
-
-array-set-from-coordinates : tie.Need-array-set-from-coordinates Inv-loop μ-loop
-array-set-from-coordinates c = omega arith
-
-add-k : tie.Need-add-k Inv-loop μ-loop
-add-k c = omega arith
-
-loop-less : tie.Need-loop-less Inv-loop μ-loop
-loop-less c = omega arith
-
 loop-again : tie.Need-loop-again Inv-loop μ-loop
 loop-again c =
     let s = c .before .before .loop in
@@ -58,10 +43,10 @@ coordinates-in-spec =
     Inv-loop
     μ-loop
     loop-holds
-    coordinate-in-requires
-    mul-coordinates
-    array-set-from-coordinates
-    add-k
-    loop-less
+    (λ c κs. search needs)
+    (λ c. omega arith)
+    (λ c. omega arith)
+    (λ c. omega arith)
+    (λ c. omega arith)
     loop-again
     returns)

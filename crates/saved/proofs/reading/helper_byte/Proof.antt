@@ -8,15 +8,6 @@ use borrow.Author.Needs.{needs}
 use Rattle.saved.proofs.reading.helper_byte.Statement.{statement}
 use Rattle.saved.proofs.reading.helper_byte.Tie as tie
 
-helpers-place-requires : tie.Need-helpers-place-requires
-helpers-place-requires c κs = search needs
-
-add-number-at : tie.Need-add-number-at
-add-number-at c = search needs
-
-number-at-requires : tie.Need-number-at-requires
-number-at-requires c κs = search needs
-
 returns : tie.Need-returns
 returns c =
     let a = c .before .before .before .args in
@@ -25,4 +16,4 @@ returns c =
 
 pub helper-byte-spec : {M : Type 1} → statement M
 helper-byte-spec =
-    tie.close (tie.spec helpers-place-requires add-number-at number-at-requires returns)
+    tie.close (tie.spec (λ c κs. search needs) (λ c. search needs) (λ c κs. search needs) returns)

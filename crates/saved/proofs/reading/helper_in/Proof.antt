@@ -7,9 +7,6 @@ use borrow.Author.Needs.{needs}
 use Rattle.saved.proofs.reading.helper_in.Statement.{statement}
 use Rattle.saved.proofs.reading.helper_in.Tie as tie
 
-helper-byte-requires : tie.Need-helper-byte-requires
-helper-byte-requires c κs = search needs
-
 returns : tie.Need-returns
 returns c =
     let a = c .before .before .before .args in
@@ -20,4 +17,4 @@ returns-2 : tie.Need-returns-2
 returns-2 c = let a = c .before .before .args in rw (le-ltb (a .k) (a .count) (c .if1 .left))
 
 pub helper-in-spec : {M : Type 1} → statement M
-helper-in-spec = tie.close (tie.spec helper-byte-requires returns returns-2)
+helper-in-spec = tie.close (tie.spec (λ c κs. search needs) returns returns-2)

@@ -23,18 +23,6 @@ abbrev μ-loop : tie.MeasureT-loop
 loop-holds : tie.Need-loop-holds Inv-loop μ-loop
 loop-holds c = none-filled (length-replicate {A = Bool} point-limit false)
 
-helper-in-requires : tie.Need-helper-in-requires Inv-loop μ-loop
-helper-in-requires c κs = search needs
-
-array-write-helpers : tie.Need-array-write-helpers Inv-loop μ-loop
-array-write-helpers c = omega arith
-
-add-k : tie.Need-add-k Inv-loop μ-loop
-add-k c = omega arith
-
-loop-less : tie.Need-loop-less Inv-loop μ-loop
-loop-less c = omega arith
-
 loop-again : tie.Need-loop-again Inv-loop μ-loop
 loop-again c =
     let s = c .before .before .loop in
@@ -50,9 +38,9 @@ helpers-in-spec =
     Inv-loop
     μ-loop
     loop-holds
-    helper-in-requires
-    array-write-helpers
-    add-k
-    loop-less
+    (λ c κs. search needs)
+    (λ c. omega arith)
+    (λ c. omega arith)
+    (λ c. omega arith)
     loop-again
     returns)

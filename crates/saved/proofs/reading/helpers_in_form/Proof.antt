@@ -25,9 +25,6 @@ abbrev μ-loop : tie.MeasureT-loop
 loop-holds : tie.Need-loop-holds Inv-loop μ-loop
 loop-holds c = none-passed _ 0
 
-helper-byte-requires : tie.Need-helper-byte-requires Inv-loop μ-loop
-helper-byte-requires c κs = search needs
-
 module _ (c : tie.After-helper-byte Inv-loop μ-loop) where
   abbrev head : tie.At-loop Inv-loop μ-loop
   head = c .before .before
@@ -46,12 +43,6 @@ returns c =
     one-failed (step (c .before)) (below _ _) (omega arith)
     (ap not (lt-leb (c .before .helper-byte .result) 1 (c .if1 .taken)))
 
-add-k : tie.Need-add-k Inv-loop μ-loop
-add-k c = omega arith
-
-loop-less : tie.Need-loop-less Inv-loop μ-loop
-loop-less c = omega arith
-
 loop-again : tie.Need-loop-again Inv-loop μ-loop
 loop-again c =
     one-passed (step (c .before))
@@ -67,9 +58,9 @@ helpers-in-form-spec =
     Inv-loop
     μ-loop
     loop-holds
-    helper-byte-requires
+    (λ c κs. search needs)
     returns
-    add-k
-    loop-less
+    (λ c. omega arith)
+    (λ c. omega arith)
     loop-again
     returns-2)

@@ -7,21 +7,6 @@ use borrow.Author.Needs.{needs}
 use Rattle.saved.proofs.reading.link_in.Statement.{statement}
 use Rattle.saved.proofs.reading.link_in.Tie as tie
 
-mul-if1 : tie.Need-mul-if1
-mul-if1 c = search needs
-
-links-place-requires : tie.Need-links-place-requires
-links-place-requires c κs = search needs
-
-mul-number-at : tie.Need-mul-number-at
-mul-number-at c = search needs
-
-add-number-at : tie.Need-add-number-at
-add-number-at c = search needs
-
-number-at-requires : tie.Need-number-at-requires
-number-at-requires c κs = search needs
-
 returns : tie.Need-returns
 returns c =
     let a = c .before .before .before .before .args in
@@ -37,10 +22,10 @@ pub link-in-spec : {M : Type 1} → statement M
 link-in-spec =
     tie.close
     (tie.spec
-    mul-if1
-    links-place-requires
-    mul-number-at
-    add-number-at
-    number-at-requires
+    (λ c. search needs)
+    (λ c κs. search needs)
+    (λ c. search needs)
+    (λ c. search needs)
+    (λ c κs. search needs)
     returns
     returns-2)

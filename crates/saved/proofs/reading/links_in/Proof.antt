@@ -21,21 +21,6 @@ abbrev μ-loop : tie.MeasureT-loop
 loop-holds : tie.Need-loop-holds Inv-loop μ-loop
 loop-holds c = none-filled (length-replicate {A = ℕ} dart-limit 0)
 
-link-in-requires : tie.Need-link-in-requires Inv-loop μ-loop
-link-in-requires c κs = search needs
-
-mul-links : tie.Need-mul-links Inv-loop μ-loop
-mul-links c = omega arith
-
-array-write-links : tie.Need-array-write-links Inv-loop μ-loop
-array-write-links c = omega arith
-
-add-d : tie.Need-add-d Inv-loop μ-loop
-add-d c = omega arith
-
-loop-less : tie.Need-loop-less Inv-loop μ-loop
-loop-less c = omega arith
-
 loop-again : tie.Need-loop-again Inv-loop μ-loop
 loop-again c =
     let s = c .before .before .loop in
@@ -51,10 +36,10 @@ links-in-spec =
     Inv-loop
     μ-loop
     loop-holds
-    link-in-requires
-    mul-links
-    array-write-links
-    add-d
-    loop-less
+    (λ c κs. search needs)
+    (λ c. omega arith)
+    (λ c. omega arith)
+    (λ c. omega arith)
+    (λ c. omega arith)
     loop-again
     returns)

@@ -38,15 +38,9 @@ y-found c =
     toZ-ofZ w64 (c .coordinate2 .result) (record { sfits = c .coordinate2 .ok }) ∙ c .coordinate2
     .ensures
 
-coordinate-requires : tie.Need-coordinate-requires
-coordinate-requires c κs = search needs
-
 complement-requires : tie.Need-complement-requires
 complement-requires c κs =
     subst (Bounded coordinate-limit) (sym (x-found c)) (x-bounded (c .before .before))
-
-coordinate-requires-2 : tie.Need-coordinate-requires-2
-coordinate-requires-2 c κs = search needs
 
 complement-requires-2 : tie.Need-complement-requires-2
 complement-requires-2 c κs =
@@ -68,9 +62,9 @@ pub coordinate-field-spec : {M : Type 1} → statement M
 coordinate-field-spec =
     tie.close
     (tie.spec
-    coordinate-requires
+    (λ c κs. search needs)
     complement-requires
-    coordinate-requires-2
+    (λ c κs. search needs)
     complement-requires-2
     returns
     returns-2)

@@ -6,9 +6,6 @@ use Rattle.finite.specs.Bounded.{one-if}
 use Rattle.saved.proofs.writing.helper_field.Statement.{statement}
 use Rattle.saved.proofs.writing.helper_field.Tie as tie
 
-has-helper-requires : tie.Need-has-helper-requires
-has-helper-requires c κs = search needs
-
 returns : tie.Need-returns
 unfolding one-if
 returns c = ap one-if (sym (c .if1 .taken) ∙ c .before .has-helper .ensures)
@@ -18,4 +15,4 @@ unfolding one-if
 returns-2 c = ap one-if (sym (c .if1 .left) ∙ c .before .has-helper .ensures)
 
 pub helper-field-spec : {M : Type 1} → statement M
-helper-field-spec = tie.close (tie.spec has-helper-requires returns returns-2)
+helper-field-spec = tie.close (tie.spec (λ c κs. search needs) returns returns-2)

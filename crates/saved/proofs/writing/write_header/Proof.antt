@@ -12,54 +12,6 @@ use borrow.Author.Needs.{needs}
 use Rattle.saved.proofs.writing.write_header.Statement.{statement}
 use Rattle.saved.proofs.writing.write_header.Tie as tie
 
-saved-length-requires : tie.Need-saved-length-requires
-saved-length-requires c κs = search needs
-
-sub-following : tie.Need-sub-following
-sub-following c = search needs
-
-put-number-requires : tie.Need-put-number-requires
-put-number-requires c κs = search needs
-
-sub-put-number : tie.Need-sub-put-number
-sub-put-number c = search needs
-
-part-put-number-start : tie.Need-part-put-number-start
-part-put-number-start c = search needs
-
-part-put-number-end : tie.Need-part-put-number-end
-part-put-number-end c = search needs
-
-put-number-requires-2 : tie.Need-put-number-requires-2
-put-number-requires-2 c κs = search needs
-
-sub-put-number-2 : tie.Need-sub-put-number-2
-sub-put-number-2 c = search needs
-
-part-put-number-start-2 : tie.Need-part-put-number-start-2
-part-put-number-start-2 c = search needs
-
-part-put-number-end-2 : tie.Need-part-put-number-end-2
-part-put-number-end-2 c = search needs
-
-put-number-requires-3 : tie.Need-put-number-requires-3
-put-number-requires-3 c κs = search needs
-
-sub-put-number-3 : tie.Need-sub-put-number-3
-sub-put-number-3 c = search needs
-
-part-put-number-start-3 : tie.Need-part-put-number-start-3
-part-put-number-start-3 c = search needs
-
-part-put-number-end-3 : tie.Need-part-put-number-end-3
-part-put-number-end-3 c = search needs
-
-put-number-requires-4 : tie.Need-put-number-requires-4
-put-number-requires-4 c κs = search needs
-
-same-length : tie.Need-same-length
-same-length c = search needs
-
 -- the first numbers of the header
 abbrev first-1 : ℕ → List ℕ
 first-1 n = big-endian 4 (following n)
@@ -97,20 +49,20 @@ pub write-header-spec : {M : Type 1} → statement M
 write-header-spec =
     tie.close
     (tie.spec
-    saved-length-requires
-    sub-following
-    put-number-requires
-    sub-put-number
-    part-put-number-start
-    part-put-number-end
-    put-number-requires-2
-    sub-put-number-2
-    part-put-number-start-2
-    part-put-number-end-2
-    put-number-requires-3
-    sub-put-number-3
-    part-put-number-start-3
-    part-put-number-end-3
-    put-number-requires-4
-    same-length
+    (λ c κs. search needs)
+    (λ c. search needs)
+    (λ c κs. search needs)
+    (λ c. search needs)
+    (λ c. search needs)
+    (λ c. search needs)
+    (λ c κs. search needs)
+    (λ c. search needs)
+    (λ c. search needs)
+    (λ c. search needs)
+    (λ c κs. search needs)
+    (λ c. search needs)
+    (λ c. search needs)
+    (λ c. search needs)
+    (λ c κs. search needs)
+    (λ c. search needs)
     returns)

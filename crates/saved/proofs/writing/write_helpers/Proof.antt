@@ -17,36 +17,12 @@ abbrev μ-loop : tie.MeasureT-loop
 loop-holds : tie.Need-loop-holds Inv-loop μ-loop
 loop-holds c = no-field-put
 
-helper-field-requires : tie.Need-helper-field-requires Inv-loop μ-loop
-helper-field-requires c κs = search needs
-
-sub-put-number : tie.Need-sub-put-number Inv-loop μ-loop
-sub-put-number c = omega arith
-
-part-put-number-start : tie.Need-part-put-number-start Inv-loop μ-loop
-part-put-number-start c = omega arith
-
-part-put-number-end : tie.Need-part-put-number-end Inv-loop μ-loop
-part-put-number-end c = omega arith
-
-put-number-requires : tie.Need-put-number-requires Inv-loop μ-loop
-put-number-requires c κs = search needs
-
-add-k : tie.Need-add-k Inv-loop μ-loop
-add-k c = omega arith
-
-loop-less : tie.Need-loop-less Inv-loop μ-loop
-loop-less c = omega arith
-
 loop-again : tie.Need-loop-again Inv-loop μ-loop
 loop-again c =
     let s = c .before .before .before .before .before .before .loop in
     let p = c .before .before in
     one-field-put (s .inv) (omega arith) (omega arith) (omega arith)
     (p .before .before .helper-field .ensures) (p .put-number .ensures)
-
-same-length : tie.Need-same-length Inv-loop μ-loop
-same-length c = omega arith
 
 returns : tie.Need-returns Inv-loop μ-loop
 returns c = all-fields-put (c .before .loop .inv) (omega arith)
@@ -58,13 +34,13 @@ write-helpers-spec =
     Inv-loop
     μ-loop
     loop-holds
-    helper-field-requires
-    sub-put-number
-    part-put-number-start
-    part-put-number-end
-    put-number-requires
-    add-k
-    loop-less
+    (λ c κs. search needs)
+    (λ c. omega arith)
+    (λ c. omega arith)
+    (λ c. omega arith)
+    (λ c κs. search needs)
+    (λ c. omega arith)
+    (λ c. omega arith)
     loop-again
-    same-length
+    (λ c. omega arith)
     returns)

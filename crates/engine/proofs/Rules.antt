@@ -5,7 +5,7 @@ use mathlib.Core.Bool.{Bool, false, not}
 use Prim.Native.Nat.{ℕ}
 use borrow.Author.Tests.{not-false}
 use lib.Dec.{T}
-use Rattle.finite.specs.Tests.{of-true}
+use Rattle.finite.specs.Tests.{of-true, not-not}
 use Rattle.model.specs.declared.Map.{Map}
 use Rattle.model.specs.declared.Outcome.{Outcome}
 use Rattle.model.specs.Maps.{is-present}
@@ -23,11 +23,6 @@ tested e n = ap not (sym e) ∙ n
 -- a map that passed the check is sound
 pub found-sound : {m : Map} {r : Bool} → r ≡ sound m → not r ≡ false → Sound m
 found-sound {m} {r} e n = sound-holds m (of-true (sound m) (sym e ∙ not-false r n))
-
--- a rule that does not apply, and what it asks
-pub not-not : (b : Bool) → ¬ T (not b) → T b
-not-not Bool.true n = tt
-not-not Bool.false n = n tt
 
 -- where a map and a dart passed their check
 module _ (m : Map) (d : ℕ) (served : Outcome.Served ≡ outcome-by (dart-rules m d)) where

@@ -5,7 +5,7 @@
 use mathlib.Core.Path.{_≡_, refl, sym, ap, subst, _∙_}
 use mathlib.Core.Logic.{_⊎_, inl, inr, ⊎-elim}
 use mathlib.Core.Bool.{Bool, true, false, not, _&&_, _||_}
-use mathlib.Core.List.{List, [], _∷_, _++_}
+use mathlib.Core.List.{List, [], _∷_, _++_, flatten, append-assoc, append-nil}
 use Prim.Native.Nat.{ℕ, zero, suc, _+_, _≤_, _<_, zero-le, suc-le-suc}
 use native.Mathlib.Nat.{not-suc-le-zero, le-of-suc-le-suc, le-refl, add-zero, zero-add, add-suc, suc-add}
 use native.Mathlib.Omega.{arith}
@@ -148,6 +148,17 @@ onto-append (suc n) f s t = onto-append n f (f n ∷ s) t
 pub table-more {ℓ} : {A : Type ℓ} (n : ℕ) (f : ℕ → A) → table (suc n) f ≡ table n f ++ f n ∷ []
 unfolding table
 table-more n f = onto-append n f [] (f n ∷ [])
+
+-- lists put together one after another, and one more
+flatten-append : (r s : List (List ℕ)) → flatten (r ++ s) ≡ flatten r ++ flatten s
+unfolding flatten
+flatten-append [] s = refl
+flatten-append (l ∷ r) s = rw (flatten-append r s, append-assoc)
+
+pub flatten-more : (n : ℕ) (f : ℕ → List ℕ) → flatten (table (suc n) f) ≡ flatten (table n f) ++ f n
+unfolding flatten
+flatten-more n f =
+    ap flatten (table-more n f) ∙ flatten-append (table n f) (f n ∷ []) ∙ rw append-nil
 
 onto-same {ℓ} : {A : Type ℓ} (n : ℕ) (f g : ℕ → A) (s : List A) → ((k : ℕ) → k < n → f k ≡ g k) → table-onto n f s ≡ table-onto n g s
 unfolding table-onto

@@ -22,7 +22,7 @@ pub count-same : (n : ℕ) (p q : ℕ → Bool) → ((k : ℕ) → k < n → p k
 unfolding count
 count-same n p q e = sum-same n (λ k. one-if (p k)) (λ k. one-if (q k)) (λ k h. ap one-if (e k h))
 
-one-if-small : (b : Bool) → one-if b ≤ 1
+pub one-if-small : (b : Bool) → one-if b ≤ 1
 unfolding one-if
 one-if-small true = omega arith
 one-if-small false = omega arith
@@ -32,15 +32,20 @@ unfolding count
 count-small zero p = zero-le
 count-small (suc n) p = omega (arith, count-small n p, one-if-small (p n))
 
-one-if-passes : (b : Bool) → T b → one-if b ≡ 1
+pub one-if-passes : (b : Bool) → T b → one-if b ≡ 1
 unfolding one-if
 one-if-passes true t = refl
 one-if-passes false t = absurd t
 
-one-if-fails : (b : Bool) → T (not b) → one-if b ≡ 0
+pub one-if-fails : (b : Bool) → T (not b) → one-if b ≡ 0
 unfolding one-if
 one-if-fails true t = absurd t
 one-if-fails false t = refl
+
+pub one-if-is : (b : Bool) → eqb (one-if b) 1 ≡ b
+unfolding one-if
+one-if-is true = refl
+one-if-is false = refl
 
 -- two tests that agree below n but at r, where just the first passes
 pub count-one-more : (n r : ℕ) (p q : ℕ → Bool) → r < n → T (p r) → T (not (q r)) →

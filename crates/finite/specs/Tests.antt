@@ -63,6 +63,10 @@ is-false false f = refl
 pub of-true : (a : Bool) → a ≡ true → T a
 of-true a e = subst T (sym e) tt
 
+pub not-not : (a : Bool) → ¬ T (not a) → T a
+not-not true n = tt
+not-not false n = n tt
+
 -- two tests that imply each other are equal
 pub same-test : (a b : Bool) → (T a → T b) → (T b → T a) → a ≡ b
 same-test true true f g = refl

@@ -1,17 +1,32 @@
--- The laws of calls, in the order of this page: the first rule that applies decides; rules that are
--- checked by a function that answers an outcome; what is made of an answer is made of each refusal and of the value, so an entry whose answer is that of the call means what
--- it promises to mean. Assumes nothing.
+-- The laws of calls, in the order of this page: the largest number; the first rule that applies decides;
+-- rules that are checked by a function that answers an outcome; what is made of an answer is made of each
+-- refusal and of the value, so an entry whose answer is that of the call means what it promises to mean.
+-- Assumes nothing.
 use mathlib.Core.Path.{_≡_, refl, ap, subst, _∙_}
 use mathlib.Core.Bool.{Bool, true, false, cond}
 use mathlib.Core.List.{List, [], _∷_}
-use Prim.Native.Nat.{ℕ}
+use Prim.Native.Nat.{ℕ, _≤_}
 use native.Mathlib.Omega.{arith}
 use lib.Dec.{T}
 use Rattle.finite.specs.Tests.{of-true}
 use Rattle.model.specs.declared.Refusal.{Refusal}
 use Rattle.model.specs.declared.Outcome.{Outcome}
-use Rattle.model.specs.Refusals.{Rule, unless, Refuses, at-once, later, NoneApplies, none, nor}
+use Rattle.model.specs.Refusals.{number, Rule, unless, Refuses, at-once, later, NoneApplies, none, nor}
 use Rattle.model.specs.Answers.{refused, Call, answer-of, outcome-by, Answered}
+
+-- no number is above 10
+pub number-most : (r : Refusal) → number r ≤ 10
+unfolding number
+number-most Refusal.NotSound = omega arith
+number-most Refusal.Full = omega arith
+number-most Refusal.OutOfRange = omega arith
+number-most Refusal.Repeated = omega arith
+number-most Refusal.InLine = omega arith
+number-most Refusal.NoDart = omega arith
+number-most Refusal.BadFile = omega arith
+number-most Refusal.BadLine = omega arith
+number-most Refusal.LongText = omega arith
+number-most Refusal.ShortList = omega arith
 
 -- ---- one rule after another
 

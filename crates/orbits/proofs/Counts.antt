@@ -11,11 +11,11 @@ use native.Mathlib.Nat.{not-suc-le-zero}
 use native.Mathlib.Numerals.{add-one}
 use native.Mathlib.Omega.{arith}
 use mir.Val.{boolByte}
-use lib.Dec.{T, T-not}
+use lib.Dec.{T, T-not, not-T}
 use lib.ListN.{getD, replicate}
 use Rattle.finite.specs.Tests.{and-left, and-right, and-both, of-true, decide, same-test}
 use Rattle.finite.specs.Bounded.{one-if, sum, count, lt-or-ge}
-use Rattle.finite.specs.Counting.{count-small}
+use Rattle.finite.specs.Counting.{count-small, one-if-passes, one-if-fails}
 use Rattle.orbits.specs.Reach.{Reach, by-one, by-two}
 use Rattle.finite.specs.Loops.{Tests}
 use Rattle.orbits.specs.Classes.{is-least, classes, is-fixed, is-closed, closed-walks}
@@ -94,16 +94,6 @@ unfolding one-if
 one-if-byte true = refl
 one-if-byte false = refl
 
-one-if-true : (b : Bool) → T b → one-if b ≡ 1
-unfolding one-if
-one-if-true true t = refl
-one-if-true false t = absurd t
-
-one-if-false : (b : Bool) → (T b → ⊥) → one-if b ≡ 0
-unfolding one-if
-one-if-false true t = absurd (t tt)
-one-if-false false t = refl
-
 -- there are no more parts than darts passed
 pub counting-small : {f g : List ℕ} {n : ℕ} {present : ℕ → Bool} {order : List ℕ} {seen : List Bool}
     {end parts closed a : ℕ} → Counting f g n present order seen end parts closed a → (parts ≤ a) × (closed ≤ a)
@@ -162,7 +152,8 @@ module _ {f g : List ℕ} {n : ℕ} {present : ℕ → Bool} (p : Permuted n pre
             omega (
               arith,
               count-next a (first f g n s),
-              one-if-false (first f g n s a) (λ u. old-not-first (in-queue (sub a (and-left (s a) _ u))) s sub u),
+              one-if-fails (first f g n s a)
+                  (not-T (first f g n s a) (λ u. old-not-first (in-queue (sub a (and-left (s a) _ u))) s sub u)),
             )
 
     -- a dart that is not in the queue is the first of its part
@@ -258,7 +249,7 @@ module _ {f g : List ℕ} {n : ℕ} {present : ℕ → Bool} (p : Permuted n pre
                     arith,
                     c .parts-counted,
                     count-next a (first f g n present),
-                    one-if-true (first f g n present a) (and-both (present a) _ a-present a-least),
+                    one-if-passes (first f g n present a) (and-both (present a) _ a-present a-least),
                   );
               closed-counted =
                   omega (

@@ -17,7 +17,7 @@ use lib.Seq.{ext-getD, getD-set-same, getD-set-other}
 use borrow.Author.Tests.{lt-ltb, le-ltb, eq-eqb, ne-eqb, eqb-false}
 use Rattle.finite.specs.Tests.{decide, is-true, is-false, of-true, same-or-not}
 use Rattle.finite.specs.Bounded.{one-if, sum, count, table-onto, table, length-table, getD-table, lt-or-ge}
-use Rattle.finite.specs.Counting.{count-same, count-one-more, count-small}
+use Rattle.finite.specs.Counting.{count-same, count-one-more, count-small, one-if-small, one-if-is}
 use Rattle.orbits.specs.Sets.{dart-limit, bits, set-of, no-darts, has, with-bit, with-dart}
 use Rattle.orbits.specs.declared.DartSet.{DartSet}
 
@@ -105,11 +105,6 @@ bits-same (suc n) p q e =
     ap₂ (λ (b c : ℕ). b + 2 * c) (ap one-if (e 0 (omega arith)))
     (bits-same n (λ k. p (suc k)) (λ k. q (suc k)) (λ k h. e (suc k) (omega arith)))
 
-one-if-small : (b : Bool) → one-if b ≤ 1
-unfolding one-if
-one-if-small true = omega arith
-one-if-small false = omega arith
-
 -- bit j is set just where the test passes at j
 bits-bit : (n : ℕ) (p : ℕ → Bool) (j : ℕ) → j < n → bits n p / 2 ^ j % 2 ≡ one-if (p j)
 unfolding bits
@@ -188,17 +183,13 @@ no-darts-set = refl
 
 -- the set of a test has just the darts that pass
 pub has-set-of : (p : ℕ → Bool) (d : ℕ) → d < dart-limit → has (set-of p) d ≡ p d
-unfolding has one-if
+unfolding has
 has-set-of p d h =
     rw (lt-ltb d dart-limit h, set-of-word p w (omega arith), bits-bit 64 (in-word p w) (d % 64) (omega arith))
     (one-if-is (in-word p w (d % 64)) ∙ ap p (omega arith))
   where
     w : ℕ
     w = d / 64
-
-    one-if-is : (b : Bool) → eqb (one-if b) 1 ≡ b
-    one-if-is true = refl
-    one-if-is false = refl
 
 -- and with one dart more it is the set of the wider test
 module _ (p : ℕ → Bool) (d : ℕ) where

@@ -23,7 +23,7 @@ use Rattle.model.specs.Saved.{load-call, map-in}
 use Rattle.model.proofs.Sound.{sound-holds}
 use Rattle.model.proofs.Answers.{rule-applies, rule-passes, no-rule, unless-made, served-none}
 use Rattle.model.proofs.Answers.{outcome-refuses, outcome-serves}
-use Rattle.engine.proofs.Rules.{not-not}
+use Rattle.finite.specs.Tests.{not-not}
 use Rattle.reach.specs.Served.{Reply, only, Served}
 use Rattle.reach.specs.Opened.{Opened, of-file}
 use Rattle.reach.proofs.Serving.{unless-append, refused-before, served-after, served-as}

@@ -3,14 +3,14 @@
 -- line whose point is accepted; the end of the text. Assumes nothing.
 use mathlib.Core.Path.{_≡_, refl, sym, ap, _∙_}
 use mathlib.Core.Bool.{true, false}
-use mathlib.Core.List.{List, [], _∷_, _++_, flatten, append-assoc, append-nil}
+use mathlib.Core.List.{List, _++_, flatten, append-assoc}
 use Prim.Native.Nat.{ℕ, suc, _+_, _≤_, _<_}
 use native.Mathlib.Numerals.{add-one}
 use native.Mathlib.Omega.{arith}
 use borrow.Author.Tests.{leb-false}
 use lib.ListN.{length, set, drop, length-set}
 use lib.Seq.{getD-set-same, getD-set-other}
-use Rattle.finite.specs.Bounded.{table, table-more, table-same}
+use Rattle.finite.specs.Bounded.{table, table-same, flatten-more}
 use Rattle.model.specs.declared.Refusal.{Refusal}
 use Rattle.model.specs.declared.Arrival.{Arrival}
 use Rattle.model.specs.declared.Point.{Point}
@@ -36,16 +36,6 @@ use Rattle.reports.specs.Lines.{answer-at, answer-lines}
 use Rattle.reports.specs.Deciding.{Reports, Stopped, Surveys}
 use Rattle.reports.proofs.Packed.{unpacked-packed}
 use Rattle.reports.proofs.Verdicts.{line-refused, line-accepted, arrive-sound, arrive-packable}
-
-pub flatten-append : (r s : List (List ℕ)) → flatten (r ++ s) ≡ flatten r ++ flatten s
-unfolding flatten
-flatten-append [] s = refl
-flatten-append (l ∷ r) s = rw (flatten-append r s, append-assoc)
-
-pub flatten-more : (n : ℕ) (f : ℕ → List ℕ) → flatten (table (suc n) f) ≡ flatten (table n f) ++ f n
-unfolding flatten
-flatten-more n f =
-    ap flatten (table-more n f) ∙ flatten-append (table n f) (f n ∷ []) ∙ rw append-nil
 
 -- ---- the lines of the answers
 

@@ -10,19 +10,6 @@ use Rattle.model.specs.Refusals.{number}
 use Rattle.model.specs.Maps.{point-limit}
 use Rattle.reports.specs.Packing.{SmallValues, Packable, first, second, inside, outside, refused, packed, refusal-of, outside-of, unpacked}
 
-pub number-most : (r : Refusal) → number r ≤ 10
-unfolding number
-number-most Refusal.NotSound = omega arith
-number-most Refusal.Full = omega arith
-number-most Refusal.OutOfRange = omega arith
-number-most Refusal.Repeated = omega arith
-number-most Refusal.InLine = omega arith
-number-most Refusal.NoDart = omega arith
-number-most Refusal.BadFile = omega arith
-number-most Refusal.BadLine = omega arith
-number-most Refusal.LongText = omega arith
-number-most Refusal.ShortList = omega arith
-
 refusal-back : (r : Refusal) → unpacked (number r) ≡ Arrival.Refused r
 unfolding unpacked refusal-of number
 refusal-back Refusal.NotSound = refl

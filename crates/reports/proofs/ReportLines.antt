@@ -26,7 +26,7 @@ use Rattle.reports.specs.declared.printing.Ends.{Ends}
 use Rattle.reports.specs.Packing.{unpacked}
 use Rattle.reports.specs.Lines.{header, answer-at, answer-lines, counts-values, report-line, lines-from, line-count}
 use Rattle.reports.specs.Printing.{Printable, PutLines}
-use Rattle.reports.proofs.Decisions.{flatten-more}
+use Rattle.finite.specs.Bounded.{flatten-more}
 
 -- as many bytes as a printed line takes at most
 abbrev pub line-most : ℕ

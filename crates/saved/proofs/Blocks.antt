@@ -3,32 +3,24 @@
 -- list that is written over the front of another, piece after piece. Each law is over the number of
 -- fields, their width and the place.
 -- Document 01, "Saved form". Assumes nothing.
-use mathlib.Core.Path.{_≡_, refl, sym, ap, ap₂, subst, _∙_}
+use mathlib.Core.Path.{_≡_, sym, ap, ap₂, subst, _∙_}
 use mathlib.Core.Logic.{⊎-elim}
-use mathlib.Core.List.{List, [], _∷_, _++_, flatten, append-assoc, append-nil}
+use mathlib.Core.List.{List, [], _++_, flatten, append-assoc, append-nil}
 use Prim.Native.Nat.{ℕ, zero, suc, _+_, _-_, _*_, _^_, _≤_, _<_}
 use native.Mathlib.Nat.{add-zero, zero-add, mul-zero, mul-suc}
 use native.Mathlib.Omega.{arith}
 use borrow.Rule.Slice.PartMut.{midOf, putMid}
 use lib.ListN.{length, take, drop, length-append, length-drop, drop-of-length-le}
 use lib.Seq.{take-add, take-all, drop-drop, take-append-seam, drop-append-seam}
-use Rattle.finite.specs.Bounded.{table, table-onto, table-more, table-same, below-suc}
+use Rattle.finite.specs.Bounded.{table, table-onto, table-same, flatten-more, below-suc}
 use Rattle.model.specs.Saved.{Bytes, big-endian, number-at, block, field}
 use Rattle.saved.specs.Writing.{over}
 use Rattle.saved.proofs.Digits.{length-big-endian, number-past, number-before, number-back}
 use Rattle.saved.proofs.Digits.{bytes-back}
 
-flatten-append : (r s : List (List ℕ)) → flatten (r ++ s) ≡ flatten r ++ flatten s
-unfolding flatten
-flatten-append [] s = refl
-flatten-append (l ∷ r) s = rw (flatten-append r s, append-assoc)
-
 pub block-more : (k w : ℕ) (f : ℕ → ℕ) → block (suc k) w f ≡ block k w f ++ big-endian w (f k)
 unfolding block flatten
-block-more k w f =
-    ap flatten (table-more k (λ i. big-endian w (f i)))
-    ∙ flatten-append (table k (λ i. big-endian w (f i))) (big-endian w (f k) ∷ [])
-    ∙ ap (λ (t : List ℕ). block k w f ++ t) (append-nil (big-endian w (f k)))
+block-more k w f = flatten-more k (λ i. big-endian w (f i))
 
 pub block-same : (k w : ℕ) (f g : ℕ → ℕ) → ((i : ℕ) → i < k → f i ≡ g i) → block k w f ≡ block k w g
 unfolding block

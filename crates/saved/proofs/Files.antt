@@ -16,6 +16,7 @@ use lib.ListN.{length, getD, take, drop}
 use lib.Seq.{take-add, take-length}
 use Rattle.finite.specs.Tests.{decide, is-true, is-false, same-or-not}
 use Rattle.finite.specs.Bounded.{one-if, lt-or-ge}
+use Rattle.finite.specs.Counting.{one-if-small, one-if-is}
 use Rattle.finite.specs.Lists.{getD-any}
 use Rattle.orbits.specs.Sets.{dart-limit}
 use Rattle.model.specs.declared.Map.{Map}
@@ -82,16 +83,6 @@ module _ {m : Map} (s : Sound m) where
 
 -- ---- the file of a sound map is in form, and its map is the map
 
-one-if-byte : (b : Bool) → one-if b ≤ 1
-unfolding one-if
-one-if-byte true = omega arith
-one-if-byte false = omega arith
-
-is-one : (b : Bool) → eqb (one-if b) 1 ≡ b
-unfolding one-if
-is-one true = refl
-is-one false = refl
-
 x-coordinate : (m : Map) (k : ℕ) → coordinate m (2 * k + 0) ≡ getD (m .xs) k (pos 0)
 unfolding coordinate point
 x-coordinate m k =
@@ -112,7 +103,7 @@ module _ {m : Map} (s : Sound m) where
       helper-in-file (saved m) (count-in-file (saved m)) k ≡ one-if (has-helper m k)
   helper-back k l =
       ap (λ (n : ℕ). field (saved m) (helpers-place n) 1 k) count-back
-      ∙ helper-read m k l (omega (arith, one-if-byte (has-helper m k)))
+      ∙ helper-read m k l (omega (arith, one-if-small (has-helper m k)))
 
   link-back : (d : ℕ) → d < own (m .count) →
       link-in-file (saved m) (count-in-file (saved m)) d ≡ edge-link m d
@@ -137,7 +128,7 @@ module _ {m : Map} (s : Sound m) where
         length-right = omega (arith, length-read m f);
         version-right = version-read m;
         helpers-right =
-            λ k h. omega (arith, helper-back k (omega arith), one-if-byte (has-helper m k));
+            λ k h. omega (arith, helper-back k (omega arith), one-if-small (has-helper m k));
       })
 
   -- past the points stands 0
@@ -169,7 +160,7 @@ module _ {m : Map} (s : Sound m) where
       until-table false (m .helpers) (s .links .helpers-whole) (count-in-file (saved m))
       (λ k. eqb (helper-in-file (saved m) (count-in-file (saved m)) k) 1)
       (λ k. false)
-      (λ k i l. ap (λ (b : ℕ). eqb b 1) (helper-back k (omega arith)) ∙ is-one (has-helper m k))
+      (λ k i l. ap (λ (b : ℕ). eqb b 1) (helper-back k (omega arith)) ∙ one-if-is (has-helper m k))
       (λ k i l. sym (is-false (has-helper m k) (λ h. omega (arith, s .links .owned k h))))
 
   links-back : links-in-file (saved m) (count-in-file (saved m)) ≡ m .edge
@@ -201,9 +192,9 @@ module _ {m : Map} (s : Sound m) where
 joined : (s : List ℕ) (a b c : ℕ) → a + b ≡ c → take a s ++ take b (drop a s) ≡ take c s
 joined s a b c e = sym (take-add a b s) ∙ ap (λ (j : ℕ). take j s) e
 
-one-if-is : (b : ℕ) → b ≤ 1 → one-if (eqb b 1) ≡ b
+bit-is : (b : ℕ) → b ≤ 1 → one-if (eqb b 1) ≡ b
 unfolding one-if
-one-if-is b l =
+bit-is b l =
     ⊎-elim (λ (e : b ≡ 1). rw (eq-eqb b 1 e) (sym e)) (λ e. rw (ne-eqb b 1 e) (omega arith))
     (same-or-not b 1)
 
@@ -242,7 +233,7 @@ module _ {s : List ℕ} (b : Bytes s) (f : Form s) where
       ap one-if
       (until-at point-limit (count-in-file s) (λ j. eqb (helper-in-file s (count-in-file s) j) 1)
       (λ j. false) k false (f .few) l)
-      ∙ one-if-is (helper-in-file s (count-in-file s) k) (f .helpers-right k l)
+      ∙ bit-is (helper-in-file s (count-in-file s) k) (f .helpers-right k l)
 
   link-written : (d : ℕ) → d < 2 * count-in-file s →
       edge-link (map-in s) d ≡ link-in-file s (count-in-file s) d

@@ -2,8 +2,9 @@
 use borrow.Author.Needs.{needs}
 use mathlib.Core.Path.{sym, ap, _∙_}
 use native.Mathlib.Omega.{arith}
+use Rattle.model.proofs.Answers.{number-most}
 use Rattle.reports.specs.Packing.{SmallValues, packed}
-use Rattle.reports.proofs.Packed.{number-most, small-values}
+use Rattle.reports.proofs.Packed.{small-values}
 use Rattle.reports.proofs.packing.packed.Statement.{statement}
 use Rattle.reports.proofs.packing.packed.Tie as tie
 

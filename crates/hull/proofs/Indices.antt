@@ -77,6 +77,14 @@ pub ranged : {m : Map} {p : Point} → OutlineFor m p → Ranged (m .xs) (m .ys)
 unfolding point
 ranged o = record { places = place-ranged (o .is-sound); offered = o .offered }
 
+-- the offered point and one of the points
+pub two-ranged : {xs ys : List ℤ} {p a : Point} → Ranged xs ys p → (k : ℕ) → a ≡ point-at xs ys k →
+    T (in-range p && in-range a)
+two-ranged {a} r k e =
+    let ta : T (in-range a) = rw e (r .places k) in
+    let tp = r .offered in
+    search and-both
+
 -- two of the points and the offered one
 pub three-ranged : {xs ys : List ℤ} {p a b : Point} → Ranged xs ys p → (i j : ℕ) →
     a ≡ point-at xs ys i → b ≡ point-at xs ys j → T (in-range a && in-range b && in-range p)

@@ -1,6 +1,6 @@
 -- What the inner functions of this crate ask and answer. Assumes nothing.
 use mathlib.Core.Path.{_≡_}
-use mathlib.Core.Bool.{Bool}
+use mathlib.Core.Bool.{Bool, false}
 use mathlib.Core.List.{List}
 use Prim.Native.Nat.{ℕ, _≤_, _<_}
 use lib.Dec.{T}
@@ -10,7 +10,7 @@ use Rattle.finite.specs.Bounded.{any}
 use Rattle.orbits.specs.Sets.{dart-limit}
 use Rattle.model.specs.declared.Point.{Point}
 use Rattle.model.specs.declared.Map.{Map}
-use Rattle.model.specs.Plane.{in-range, in-line, sees-edge}
+use Rattle.model.specs.Plane.{in-range, same-point, in-line, sees-edge}
 use Rattle.model.specs.Maps.{point-limit, edge-link}
 use Rattle.model.specs.Sound.{Sound}
 use Rattle.model.specs.Maps.{point-at}
@@ -19,6 +19,11 @@ use Rattle.model.specs.Maps.{point-at}
 pub record Ranged (xs ys : List ℤ) (p : Point) : Type 0 where
   pub places : (k : ℕ) → T (in-range (point-at xs ys k))
   pub offered : T (in-range p)
+
+-- the same, and a number of first points that are all other points
+pub record NewAmong (xs ys : List ℤ) (count : ℕ) (p : Point) : Type 0 where
+  pub ranged : Ranged xs ys p
+  pub new : any count (λ k. same-point (point-at xs ys k) p) ≡ false
 
 -- the edge from point a to point b is visible from p
 abbrev pub visible-at : List ℤ → List ℤ → ℕ → ℕ → Point → Bool

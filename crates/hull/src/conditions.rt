@@ -2,21 +2,54 @@
 
 use maps::reading::point_at;
 use model::Point;
+use plane::COORDINATE_LIMIT;
 use plane::are_in_line;
 ghost use mathlib.Core.Path.{_≡_};
-ghost use Rattle.hull.specs.Requires.{Ranged, in-line-among, in-line-with};
+ghost use mathlib.Core.Bool.{_&&_};
+ghost use lib.Dec.{T};
+ghost use lib.ListN.{length};
+ghost use Rattle.model.specs.Plane.{in-range};
+ghost use Rattle.hull.specs.Requires.{NewAmong, Ranged, in-line-among, in-line-with};
+ghost use Rattle.hull.specs.Slopes.{slope, slope-count};
 
-// Whether p is in line with two of the first points.
+// How many slopes are told apart: a prime number, so whole-number slopes seldom meet.
+const SLOPE_COUNT: usize = 16381;
+
+// Whether p, which is none of the first points, is in line with two of them. Two points in line with
+// p have one slope from p, so a point is compared with those before it only if its slope was seen.
 pub fn is_in_line_among<'a>(xs: &'a [i64], ys: &'a [i64], count: usize, p: Point) -> bool
-    requires { ⌜ Ranged (now xs) (now ys) p ⌝ }
+    requires { ⌜ NewAmong (now xs) (now ys) count p ⌝ }
     ensures { λ r. ⌜ r ≡ in-line-among (now (xs .entry)) (now (ys .entry)) count p ⌝ }
 {
+    let mut seen = no_slopes();
     for j in 0..count {
-        if is_in_line_with(xs, ys, j, p) {
+        let s = slope(p, point_at(xs, ys, j));
+        if seen[s] && is_in_line_with(xs, ys, j, p) {
             return true;
         }
+        seen[s] = true;
     }
     false
+}
+
+// No slope is seen.
+fn no_slopes() -> [bool; SLOPE_COUNT]
+    ensures { λ r. ⌜ slope-count ≡ length r ⌝ }
+{
+    [false; SLOPE_COUNT]
+}
+
+// The slope of the line from p to a, for points that are in range. It decides nothing by itself.
+fn slope(p: Point, a: Point) -> usize
+    requires { ⌜ T (in-range p && in-range a) ⌝ }
+    ensures { λ r. ⌜ r ≡ slope p a ⌝ }
+{
+    let across = a.x - p.x;
+    let up = a.y - p.y;
+    if across == 0 {
+        return 0;
+    }
+    (COORDINATE_LIMIT * (up + 2 * COORDINATE_LIMIT * across) / across) as usize % SLOPE_COUNT
 }
 
 // Whether p is in line with point j and a point before it.

@@ -59,8 +59,12 @@ is-in-line-among-requires c κs =
     let e = c .before .before in
     let s = e .before .before .before in
     record {
-      places = s .pre .places;
-      offered = of-true _ (sym (e .before .in-range .ensures) ∙ not-false _ (e .if2 .left));
+      ranged =
+          record {
+            places = s .pre .places;
+            offered = of-true _ (sym (e .before .in-range .ensures) ∙ not-false _ (e .if2 .left));
+          };
+      new = fresh c;
     }
 
 returns-4 : tie.Need-returns-4

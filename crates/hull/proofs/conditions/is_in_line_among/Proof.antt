@@ -1,15 +1,21 @@
--- `hull::conditions::is_in_line_among` meets its contract: it looks through the points, and for
--- each through those before it. Assumes nothing.
+-- `hull::conditions::is_in_line_among` meets its contract: it looks through the points, and where
+-- the slope of one was seen, through those before it. Assumes nothing.
 use borrow.Author.Needs.{needs}
-use mathlib.Core.Path.{ap}
+use mathlib.Core.Path.{_≡_, refl, sym, ap, _∙_}
+use mathlib.Core.Logic.{⊎-elim}
 use mathlib.Core.Bool.{Bool, not}
 use mathlib.Core.List.{List}
-use Prim.Native.Nat.{ℕ, _-_}
+use Prim.Native.Nat.{ℕ, _-_, _<_}
 use denote.Ref.{now}
 use lib.IntN.{ℤ}
 use Rattle.model.specs.declared.Point.{Point}
+use Rattle.model.specs.Maps.{point-at}
 use Rattle.hull.specs.Requires.{in-line-with}
-use Rattle.finite.specs.Loops.{Passed, Iteration, none-passed, one-passed, one-failed, all-passed, none-below, some-found, none-found, not-twice}
+use Rattle.hull.specs.Slopes.{slope-count, slope}
+use Rattle.finite.specs.Loops.{Passed, Iteration, none-passed, one-passed, one-failed, all-passed}
+use Rattle.finite.specs.Loops.{none-below, some-found, none-found, not-twice}
+use Rattle.hull.proofs.Indices.{two-ranged}
+use Rattle.hull.proofs.Slopes.{SlopesSeen, slope-below, none-seen, one-seen, unseen}
 use Rattle.hull.proofs.conditions.is_in_line_among.Statement.{statement}
 use Rattle.hull.proofs.conditions.is_in_line_among.Tie as tie
 
@@ -17,33 +23,66 @@ abbrev here : List ℤ → List ℤ → Point → ℕ → Bool
 here xs ys p j = in-line-with xs ys j p
 
 abbrev Inv-loop : tie.InvT-loop
-Inv-loop xs ys count p j₀ j = Passed (λ k. not (here xs ys p k)) 0 j
+Inv-loop xs ys count p seen₀ j₀ seen j =
+    Passed (λ k. not (here xs ys p k)) 0 j × SlopesSeen xs ys p j seen
 
 abbrev μ-loop : tie.MeasureT-loop
-μ-loop xs ys count p j₀ j = count - j
+μ-loop xs ys count p seen₀ j₀ seen j = count - j
 
--- where an iteration begins, and what it tests
-abbrev in-loop : tie.After-is-in-line-with Inv-loop μ-loop → tie.In-loop Inv-loop μ-loop
-in-loop c = c .before
+-- where an iteration begins, and where the function starts
+abbrev in-loop : tie.After-slope Inv-loop μ-loop → tie.In-loop Inv-loop μ-loop
+in-loop c = c .before .before
 
-iteration : (c : tie.After-is-in-line-with Inv-loop μ-loop) →
-    let s = in-loop c .before .before .args in
-    Iteration (λ k. not (here (now (s .xs)) (now (s .ys)) (s .p) k)) 0 (in-loop c .before .loop .j)
-    (not (c .is-in-line-with .result))
-iteration c =
-    record { passed = in-loop c .before .loop .inv; found = ap not (c .is-in-line-with .ensures) }
+abbrev at-start : tie.In-loop Inv-loop μ-loop → tie.Start Inv-loop μ-loop
+at-start c = c .before .before .before
+
+-- an iteration, in which r is found for its test
+iteration : (c : tie.In-loop Inv-loop μ-loop) (r : Bool) →
+    let s = at-start c .args in
+    r ≡ in-line-with (now (s .xs)) (now (s .ys)) (c .before .loop .j) (s .p) →
+    Iteration (λ k. not (here (now (s .xs)) (now (s .ys)) (s .p) k)) 0 (c .before .loop .j) (not r)
+iteration c r e = record { passed = c .before .loop .inv .0; found = ap not e }
+
+no-slopes-requires : tie.Need-no-slopes-requires Inv-loop μ-loop
+no-slopes-requires c κs = search needs
 
 loop-holds : tie.Need-loop-holds Inv-loop μ-loop
-loop-holds c = none-passed _ 0
+loop-holds c = (none-passed _ 0, none-seen (sym (c .no-slopes .ensures)))
+
+point-at-requires : tie.Need-point-at-requires Inv-loop μ-loop
+point-at-requires c κs = search needs
+
+slope-requires : tie.Need-slope-requires Inv-loop μ-loop
+slope-requires c κs =
+    two-ranged (at-start (c .before) .pre .ranged) (c .before .before .loop .j) (c .point-at .ensures)
+
+-- the slope of point j
+slope-is : (c : tie.After-slope Inv-loop μ-loop) →
+    let l = in-loop c in
+    let s = at-start l .args in
+    c .slope .result ≡ slope (s .p) (point-at (now (s .xs)) (now (s .ys)) (l .before .loop .j))
+slope-is c = c .slope .ensures ∙ ap (slope _) (c .before .point-at .ensures)
+
+-- .. is a place of the table
+in-table : (c : tie.After-slope Inv-loop μ-loop) → c .slope .result < slope-count
+in-table c = rw (c .slope .ensures) (slope-below _ _)
+
+array-read-if1 : tie.Need-array-read-if1 Inv-loop μ-loop
+array-read-if1 c = in-table c
 
 is-in-line-with-requires : tie.Need-is-in-line-with-requires Inv-loop μ-loop
-is-in-line-with-requires c κs = search needs
+is-in-line-with-requires c κs = at-start (in-loop (c .before)) .pre .ranged
 
 returns : tie.Need-returns Inv-loop μ-loop
 returns c =
+    let call = c .before in
+    let loop = in-loop (call .before .before) in
     some-found
-    (one-failed (iteration (c .before)) (none-below _ _) (in-loop (c .before) .loop-test .taken)
-    (not-twice (c .if1 .taken)))
+    (one-failed (iteration loop _ (call .is-in-line-with .ensures)) (none-below _ _) (loop .loop-test .taken)
+    (not-twice (c .if2 .taken)))
+
+array-write-seen : tie.Need-array-write-seen Inv-loop μ-loop
+array-write-seen c = in-table (c .before)
 
 add-j : tie.Need-add-j Inv-loop μ-loop
 add-j c = search needs
@@ -52,10 +91,18 @@ loop-less : tie.Need-loop-less Inv-loop μ-loop
 loop-less c = search needs
 
 loop-again : tie.Need-loop-again Inv-loop μ-loop
-loop-again c = one-passed (iteration (c .before)) (not-twice (c .if1 .left))
+loop-again c =
+    let loop = in-loop (c .before) in
+    let inv = loop .before .loop .inv in
+    let none =
+    ⊎-elim (λ asked. sym (asked .1 .ensures) ∙ asked .2 .left)
+    (λ new.
+    unseen _ (inv .1) (slope-is (c .before)) (at-start loop .pre) (loop .loop-test .taken) (new .left))
+    (c .if1 .came) in
+    (one-passed (iteration loop _ refl) (not-twice none), one-seen _ (inv .1) (slope-is (c .before)))
 
 returns-2 : tie.Need-returns-2 Inv-loop μ-loop
-returns-2 c = none-found (all-passed (none-below _ _) (c .before .loop .inv) (c .loop-test .left))
+returns-2 c = none-found (all-passed (none-below _ _) (c .before .loop .inv .0) (c .loop-test .left))
 
 pub is-in-line-among-spec : {M : Type 1} → statement M
 is-in-line-among-spec =
@@ -63,9 +110,14 @@ is-in-line-among-spec =
     (tie.spec
     Inv-loop
     μ-loop
+    no-slopes-requires
     loop-holds
+    point-at-requires
+    slope-requires
+    array-read-if1
     is-in-line-with-requires
     returns
+    array-write-seen
     add-j
     loop-less
     loop-again

@@ -1,0 +1,20 @@
+-- The slope of a line, by which lines through one point are told apart: points in line with p have
+-- one slope from p, and points of one slope from p are seldom not in line with it. In the order of
+-- this page: how many slopes there are; what is divided; the slope. Assumes nothing.
+use Prim.Native.Nat.{ℕ, _*_, _/_, _%_}
+use lib.IntN.{ℤ, pos, _+ℤ_, _-ℤ_, _*ℤ_, natAbs}
+use Rattle.model.specs.declared.Point.{Point}
+use Rattle.model.specs.Plane.{coordinate-limit}
+
+-- how many slopes are told apart
+abbrev pub slope-count : ℕ
+slope-count = 16_381
+
+-- what is divided by the way across. A slope is at most twice the limit, up or down: with so much
+-- added it is not negative. It is taken in parts of which `coordinate-limit` make 1.
+abbrev pub scaled : ℤ → ℤ → ℤ
+scaled across up = pos coordinate-limit *ℤ (up +ℤ pos (2 * coordinate-limit) *ℤ across)
+
+-- the slope of the line from p to a: up by across, and 0 where the line is vertical
+unfoldable pub slope : Point → Point → ℕ
+slope p a = natAbs (scaled (a .x -ℤ p .x) (a .y -ℤ p .y)) / natAbs (a .x -ℤ p .x) % slope-count

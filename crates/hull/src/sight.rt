@@ -73,15 +73,17 @@ fn is_visible<'a>(xs: &'a [i64], ys: &'a [i64], a: usize, b: usize, p: Point) ->
 }
 
 // The corner sought if it is found; else corner a, where a test that failed before it passes after it.
+// The answer is made of its fields: a struct that is handed on is copied with its padding, slowly.
 fn sought_at(sought: Sought, before: bool, after: bool, a: usize) -> Sought
     ensures { λ r. ⌜ r ≡ sought-at sought before after a ⌝ }
 {
+    let corner = sought.corner;
     let found = sought.found;
     if found {
-        return sought;
+        return Sought { corner, found };
     }
     if before {
-        return sought;
+        return Sought { corner, found };
     }
     if after {
         Sought {
@@ -89,7 +91,7 @@ fn sought_at(sought: Sought, before: bool, after: bool, a: usize) -> Sought
             found: true,
         }
     } else {
-        sought
+        Sought { corner, found }
     }
 }
 

@@ -109,8 +109,8 @@ first-below n test (a ∷ t) h below = go (test a) (first-below n test t h (λ x
 
 -- an accepted point may be put between its left and its right corner
 pub spliceable : {m : Map} {p : Point} → RoomFor m p → 2 ≤ m .count →
-    Spliceable m (left-corner m p) (right-corner m p)
-unfolding left-corner right-corner
+    Spliceable (m .edge) (m .count) (left-corner m p) (right-corner m p)
+unfolding left-corner right-corner edge-link
 spliceable {m} {p} o two =
     let below = outline-circuit (o .is-sound) two .below in
     let corner : (test : ℕ → Bool) → first-in test 0 (outline m) < point-limit =

@@ -26,6 +26,13 @@ use Rattle.hull.specs.declared.sight.Sought.{Sought}
 use Rattle.hull.specs.Requires.{OutlineFor, visible-at}
 use Rattle.hull.specs.Sight.{sought-at, seen}
 
+-- the helpers of a map do not matter
+pub seen-by-arrays : (m : Map) (p : Point) →
+    record { left = left-corner m p; right = right-corner m p; visible = visible-edges m p }
+    ≡ seen (m .xs) (m .ys) (m .edge) (m .count) (m .reference) p
+unfolding left-corner right-corner visible-edges sees outline corners-from next-corner previous-corner edge-link point
+seen-by-arrays m p = refl
+
 -- ---- a corner that is sought
 
 -- the corner sought if it is found, else the first ahead that passes
@@ -168,7 +175,8 @@ module _ (m : Map) (p : Point) where
     -- none is ahead, and all is found
     pub at-end : {entering : Bool} {left right : Sought} {visible a ahead : ℕ} →
         SightAhead entering left right visible a ahead → ahead ≤ 0 →
-        record { left = left .corner; right = right .corner; visible = visible } ≡ seen m p
+        record { left = left .corner; right = right .corner; visible = visible }
+        ≡ seen (m .xs) (m .ys) (m .edge) (m .count) (m .reference) p
     unfolding ring count-in
     at-end {entering} {left} {right} {visible} {a} {ahead} u h =
         let none : ahead ≡ 0 = omega arith in
@@ -176,4 +184,4 @@ module _ (m : Map) (p : Point) where
         let l = sym (settled-end left is-left) ∙ w .left-is in
         let r = sym (settled-end right is-right) ∙ w .right-is in
         let v : visible ≡ visible-edges m p = omega (arith, w .visible-is) in
-        λ i. record { left = l i; right = r i; visible = v i }
+        (λ i. record { left = l i; right = r i; visible = v i }) ∙ seen-by-arrays m p

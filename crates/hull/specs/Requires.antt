@@ -8,10 +8,11 @@ use lib.IntN.{ℤ}
 use lib.ListN.{length, getD}
 use Rattle.finite.specs.Bounded.{any}
 use Rattle.orbits.specs.Sets.{dart-limit}
+use Rattle.orbits.specs.Links.{link-of}
 use Rattle.model.specs.declared.Point.{Point}
 use Rattle.model.specs.declared.Map.{Map}
 use Rattle.model.specs.Plane.{in-range, same-point, in-line, sees-edge}
-use Rattle.model.specs.Maps.{point-limit, edge-link}
+use Rattle.model.specs.Maps.{point-limit}
 use Rattle.model.specs.Sound.{Sound}
 use Rattle.model.specs.Maps.{point-at}
 
@@ -43,13 +44,13 @@ pub record Cuttable (edge : List ℕ) (d : ℕ) : Type 0 where
   pub below : d < dart-limit
   pub partner-below : getD edge d d < dart-limit
 
--- a map with room for one more point, two of its points, and edge links that are darts
-pub record Spliceable (m : Map) (left right : ℕ) : Type 0 where
-  pub room : m .count < point-limit
+-- edge links that lead to darts, a point that is to be a corner, and the two corners beside it
+pub record Spliceable (edge : List ℕ) (k left right : ℕ) : Type 0 where
+  pub room : k < point-limit
   pub left-below : left < point-limit
   pub right-below : right < point-limit
-  pub whole : length (m .edge) ≡ dart-limit
-  pub links-below : (d : ℕ) → d < dart-limit → edge-link m d < dart-limit
+  pub whole : length edge ≡ dart-limit
+  pub links-below : (d : ℕ) → d < dart-limit → link-of edge d < dart-limit
 
 -- a sound map that has an outline, and a point in range
 pub record OutlineFor (m : Map) (p : Point) : Type 0 where
@@ -62,3 +63,22 @@ pub record RoomFor (m : Map) (p : Point) : Type 0 where
   pub is-sound : Sound m
   pub room : m .count < point-limit
   pub offered : T (in-range p)
+
+-- ---- a map as its arrays
+
+-- the map of these arrays and numbers
+abbrev pub map-of : List ℤ → List ℤ → List Bool → List ℕ → ℕ → ℕ → Map
+map-of xs ys helpers edge count reference =
+    record {
+      xs = xs;
+      ys = ys;
+      helpers = helpers;
+      edge = edge;
+      count = count;
+      reference = reference;
+    }
+
+-- what is asked of a map, where code is lent its coordinates and its edge links alone
+pub record OutlineIn (xs ys : List ℤ) (edge : List ℕ) (count reference : ℕ) (p : Point) : Type 0 where
+  pub helpers : List Bool
+  pub outline : OutlineFor (map-of xs ys helpers edge count reference) p

@@ -1,13 +1,16 @@
-// The map after each arrival: how links are cut and made, and the three ways in which a map grows.
+// The arrays of a map after an arrival: how a point is put, how links are cut and made, and how the
+// first two points and every later corner are linked.
 
-use model::Map;
+use model::POINT_LIMIT;
 use model::Point;
 use orbits::DART_LIMIT;
 ghost use mathlib.Core.Path.{_≡_};
+ghost use mathlib.Core.Bool.{true};
 ghost use Prim.Native.Nat.{_<_};
+ghost use lib.ListN.{set};
 ghost use Rattle.orbits.specs.Sets.{dart-limit};
-ghost use Rattle.model.specs.Maps.{point-limit};
-ghost use Rattle.model.specs.Arrival.{alone, cut, join, pair, spliced};
+ghost use Rattle.model.specs.Maps.{helper, own, point-limit};
+ghost use Rattle.model.specs.Arrival.{cut, join};
 ghost use Rattle.hull.specs.Requires.{Cuttable, Spliceable};
 
 // The partner of dart d is fixed.
@@ -28,49 +31,47 @@ fn join(edge: &mut [usize; DART_LIMIT], a: usize, b: usize)
     edge[b] = a;
 }
 
-// The map with p as its next point, whose one dart both links fix.
-pub fn alone(map: Map, p: Point) -> Map
-    requires { ⌜ map .count < point-limit ⌝ }
-    ensures { λ r. ⌜ r ≡ alone map p ⌝ }
+// Point k is p.
+pub fn put_point(xs: &mut [i64; POINT_LIMIT], ys: &mut [i64; POINT_LIMIT], k: usize, p: Point)
+    requires { ⌜ k < point-limit ⌝ }
+    ensures { λ _. ⌜ (now (xs .exit) ≡ set (now (xs .entry)) k (p .x))
+        × (now (ys .exit) ≡ set (now (ys .entry)) k (p .y)) ⌝ }
 {
-    let k = map.count;
     let x = p.x;
     let y = p.y;
-    let mut grown = map;
-    grown.xs[k] = x;
-    grown.ys[k] = y;
-    grown.count = k + 1;
-    grown
+    xs[k] = x;
+    ys[k] = y;
 }
 
-// The map of one point with p as the second: an edge each way between them.
-pub fn pair(map: Map, p: Point) -> Map
-    requires { ⌜ map .count < point-limit ⌝ }
-    ensures { λ r. ⌜ r ≡ pair map p ⌝ }
+// Points 0 and 1 have helpers, and an edge leads each way between them.
+pub fn pair(helpers: &mut [bool; POINT_LIMIT], edge: &mut [usize; DART_LIMIT])
+    ensures { λ _. ⌜ (now (helpers .exit) ≡ set (set (now (helpers .entry)) 0 true) 1 true)
+        × (now (edge .exit) ≡ join 2 1 (join 0 3 (now (edge .entry)))) ⌝ }
 {
-    let mut grown = alone(map, p);
-    grown.helpers[0] = true;
-    grown.helpers[1] = true;
-    join(&mut grown.edge, 0, 3);
-    join(&mut grown.edge, 2, 1);
-    grown.reference = 2;
-    grown
+    helpers[0] = true;
+    helpers[1] = true;
+    join(edge, 0, 3);
+    join(edge, 2, 1);
 }
 
-// The map with p as a corner between the corners `left` and `right`.
-pub fn spliced(map: Map, p: Point, left: usize, right: usize) -> Map
-    requires { ⌜ Spliceable map left right ⌝ }
-    ensures { λ r. ⌜ r ≡ spliced map p left right ⌝ }
+// Point k is a corner between the corners `left` and `right`.
+pub fn splice(
+    helpers: &mut [bool; POINT_LIMIT],
+    edge: &mut [usize; DART_LIMIT],
+    k: usize,
+    left: usize,
+    right: usize,
+)
+    requires { ⌜ Spliceable (now edge) k left right ⌝ }
+    ensures { λ _. ⌜ (now (helpers .exit) ≡ set (now (helpers .entry)) k true)
+        × (now (edge .exit) ≡ join (own k) (helper right)
+        (join (own left) (helper k) (cut (helper right) (cut (own left) (now (edge .entry)))))) ⌝ }
 {
-    let k = map.count;
     let l = 2 * left;
     let r = 2 * right + 1;
-    let mut grown = alone(map, p);
-    grown.helpers[k] = true;
-    cut(&mut grown.edge, l);
-    cut(&mut grown.edge, r);
-    join(&mut grown.edge, l, 2 * k + 1);
-    join(&mut grown.edge, 2 * k, r);
-    grown.reference = 2 * k;
-    grown
+    helpers[k] = true;
+    cut(edge, l);
+    cut(edge, r);
+    join(edge, l, 2 * k + 1);
+    join(edge, 2 * k, r);
 }

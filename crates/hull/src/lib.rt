@@ -9,21 +9,29 @@ pub mod query;
 mod sight;
 
 use crate::admission::admission;
-use crate::change::alone;
 use crate::change::pair;
-use crate::change::spliced;
+use crate::change::put_point;
+use crate::change::splice;
 use crate::sight::seen_from;
 use model::Arrival;
 use model::Map;
 use model::Offered;
 use model::Outcome;
+use model::POINT_LIMIT;
 use model::Point;
 use model::Refusal;
+use orbits::DART_LIMIT;
 ghost use mathlib.Core.Path.{_≡_};
-ghost use Prim.Native.Nat.{_≤_};
+ghost use Prim.Native.Nat.{_+_, _≤_};
 ghost use Rattle.model.specs.Sound.{Sound};
-ghost use Rattle.model.specs.Arrival.{admitted, arrive, later-point, refusing};
-ghost use Rattle.hull.specs.Requires.{RoomFor};
+ghost use Rattle.model.specs.Arrival.{admitted, arrive, arrived, later-point, refusing};
+ghost use Rattle.hull.specs.Requires.{RoomFor, map-of};
+
+// What an arrival leaves beside a map's arrays: how the point arrived, and the reference.
+pub struct Grown {
+    pub arrival: Arrival,
+    pub reference: usize,
+}
 
 // A point offered to a sound map: the map after it and what became of the point. Where the point is
 // refused, the map is as it was.
@@ -50,48 +58,110 @@ fn refused(map: Map, refusal: Refusal) -> Offered
 }
 
 // The arrival of a point that is not refused.
-pub fn arrive(map: Map, p: Point) -> Offered
+fn arrive(map: Map, p: Point) -> Offered
     requires { ⌜ RoomFor map p ⌝ }
     ensures { λ r. ⌜ r ≡ arrive map p ⌝ }
 {
+    let mut xs = map.xs;
+    let mut ys = map.ys;
+    let mut helpers = map.helpers;
+    let mut edge = map.edge;
     let count = map.count;
+    let reference = map.reference;
+    let grown = grow(
+        &mut xs,
+        &mut ys,
+        &mut helpers,
+        &mut edge,
+        count,
+        reference,
+        p,
+    );
+    let arrival = grown.arrival;
+    Offered {
+        map: Map {
+            xs,
+            ys,
+            helpers,
+            edge,
+            count: count + 1,
+            reference: grown.reference,
+        },
+        arrival,
+    }
+}
+
+// The arrival of a point that is not refused, written into the arrays of a map: no map is copied.
+pub fn grow(
+    xs: &mut [i64; POINT_LIMIT],
+    ys: &mut [i64; POINT_LIMIT],
+    helpers: &mut [bool; POINT_LIMIT],
+    edge: &mut [usize; DART_LIMIT],
+    count: usize,
+    reference: usize,
+    p: Point,
+) -> Grown
+    requires { ⌜ RoomFor (map-of (now xs) (now ys) (now helpers) (now edge) count reference) p ⌝ }
+    ensures { λ r. ⌜ arrived (r .arrival)
+        (map-of (now (xs .exit)) (now (ys .exit)) (now (helpers .exit)) (now (edge .exit))
+        (count + 1) (r .reference))
+        ≡ arrive (map-of (now (xs .entry)) (now (ys .entry)) (now (helpers .entry))
+        (now (edge .entry)) count reference) p ⌝ }
+{
     if count == 0 {
-        return Offered {
-            map: alone(map, p),
+        put_point(xs, ys, count, p);
+        return Grown {
             arrival: Arrival::First,
+            reference,
         };
     }
     if count == 1 {
-        return Offered {
-            map: pair(map, p),
+        put_point(xs, ys, count, p);
+        pair(helpers, edge);
+        return Grown {
             arrival: Arrival::Second,
+            reference: 2,
         };
     }
-    later_point(map, p)
+    grow_later(xs, ys, helpers, edge, count, reference, p)
 }
 
 // The arrival in a map that has an outline: inside if no edge of it is visible, otherwise outside.
-fn later_point(map: Map, p: Point) -> Offered
-    requires { ⌜ RoomFor map p ⌝ }
-    requires { ⌜ 2 ≤ map .count ⌝ }
-    ensures { λ r. ⌜ r ≡ later-point map p ⌝ }
+fn grow_later(
+    xs: &mut [i64; POINT_LIMIT],
+    ys: &mut [i64; POINT_LIMIT],
+    helpers: &mut [bool; POINT_LIMIT],
+    edge: &mut [usize; DART_LIMIT],
+    count: usize,
+    reference: usize,
+    p: Point,
+) -> Grown
+    requires { ⌜ RoomFor (map-of (now xs) (now ys) (now helpers) (now edge) count reference) p ⌝ }
+    requires { ⌜ 2 ≤ count ⌝ }
+    ensures { λ r. ⌜ arrived (r .arrival)
+        (map-of (now (xs .exit)) (now (ys .exit)) (now (helpers .exit)) (now (edge .exit))
+        (count + 1) (r .reference))
+        ≡ later-point (map-of (now (xs .entry)) (now (ys .entry)) (now (helpers .entry))
+        (now (edge .entry)) count reference) p ⌝ }
 {
-    let seen = seen_from(map, p);
+    let seen = seen_from(xs, ys, edge, count, reference, p);
     let left = seen.left;
     let right = seen.right;
     let visible = seen.visible;
+    put_point(xs, ys, count, p);
     if visible == 0 {
-        return Offered {
-            map: alone(map, p),
+        return Grown {
             arrival: Arrival::Inside,
+            reference,
         };
     }
-    Offered {
-        map: spliced(map, p, left, right),
+    splice(helpers, edge, count, left, right);
+    Grown {
         arrival: Arrival::Outside {
             left,
             right,
             visible,
         },
+        reference: 2 * count,
     }
 }

@@ -3,14 +3,13 @@
 use maps::reading::next_corner;
 use maps::reading::point_at;
 use maps::reading::previous_corner;
-use model::Map;
 use model::Point;
 use plane::sees_edge;
 ghost use mathlib.Core.Path.{_≡_};
 ghost use Prim.Native.Nat.{_+_, _<_};
 ghost use Rattle.finite.specs.Bounded.{one-if};
 ghost use Rattle.model.specs.Maps.{point-limit};
-ghost use Rattle.hull.specs.Requires.{OutlineFor, Ranged, visible-at};
+ghost use Rattle.hull.specs.Requires.{OutlineIn, Ranged, visible-at};
 ghost use Rattle.hull.specs.Sight.{sought-at, seen};
 
 // The corners between which the visible edges lie, and their number.
@@ -27,13 +26,20 @@ pub struct Sought {
 }
 
 // What is seen from p, once round the outline.
-pub fn seen_from(map: Map, p: Point) -> Seen
-    requires { ⌜ OutlineFor map p ⌝ }
-    ensures { λ r. ⌜ r ≡ seen map p ⌝ }
+pub fn seen_from<'a>(
+    xs: &'a [i64],
+    ys: &'a [i64],
+    edge: &'a [usize],
+    count: usize,
+    reference: usize,
+    p: Point,
+) -> Seen
+    requires { ⌜ OutlineIn (now xs) (now ys) (now edge) count reference p ⌝ }
+    ensures { λ r. ⌜ r ≡ seen (now (xs .entry)) (now (ys .entry)) (now (edge .entry)) count reference p ⌝ }
 {
-    let start = map.reference / 2;
-    let last = previous_corner(&map.edge, start);
-    let mut entering = is_visible(&map.xs, &map.ys, last, start, p);
+    let start = reference / 2;
+    let last = previous_corner(edge, start);
+    let mut entering = is_visible(xs, ys, last, start, p);
     let mut left = Sought {
         corner: 0,
         found: false,
@@ -44,10 +50,9 @@ pub fn seen_from(map: Map, p: Point) -> Seen
     };
     let mut visible = 0;
     let mut a = start;
-    let count = map.count;
     for _ in 0..count {
-        let b = next_corner(&map.edge, a);
-        let leaving = is_visible(&map.xs, &map.ys, a, b, p);
+        let b = next_corner(edge, a);
+        let leaving = is_visible(xs, ys, a, b, p);
         left = sought_at(left, entering, leaving, a);
         right = sought_at(right, leaving, entering, a);
         visible = plus_one_if(visible, leaving);

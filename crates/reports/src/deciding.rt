@@ -1,9 +1,9 @@
-// What becomes of the lines of a text, one after another. A refused line asks the map's coordinates
-// and copies no map; a map moves where it grows.
+// What becomes of the lines of a text, one after another. A refused line asks the map's coordinates,
+// and an accepted point is written into the map's arrays: no map is copied.
 
 use super::packing::packed;
 use hull::admission::admission;
-use hull::arrive;
+use hull::grow;
 use maps::empty_map;
 use model::Arrival;
 use model::Line;
@@ -17,7 +17,7 @@ use survey::reader::next_from;
 ghost use mathlib.Core.Path.{_≡_};
 ghost use Rattle.hull.specs.Admission.{RangedPlaces};
 ghost use Rattle.reports.specs.Verdicts.{verdict-by};
-ghost use Rattle.reports.specs.Deciding.{Readable, Reports, Stopped, Surveys};
+ghost use Rattle.reports.specs.Deciding.{Readable, ReportsSome, StopsAll, Surveys};
 
 // A text above so many bytes is refused.
 pub const TEXT_LIMIT: usize = 65536;
@@ -60,22 +60,25 @@ pub(crate) fn verdict_on<'a>(xs: &'a [i64], ys: &'a [i64], count: usize, line: L
     }
 }
 
-// Decides the refused lines from a place on, up to the first line whose point is accepted.
-pub(crate) fn refuse_lines(
-    text: &[u8],
+// Decides the refused lines from a place on, up to the first line whose point is accepted, for a map
+// with these coordinates.
+pub(crate) fn refuse_lines<'a>(
+    text: &'a [u8],
     at: usize,
     line: usize,
-    map: Map,
+    xs: &'a [i64],
+    ys: &'a [i64],
+    count: usize,
     answers: &mut [u32; TEXT_LIMIT],
 ) -> Stop
-    requires { ⌜ Reports (now text) map (now answers) line at ⌝ }
-    ensures { λ r. ⌜ Stopped (now (text .entry)) map (now (answers .exit)) at r ⌝ }
+    requires { ⌜ ReportsSome (now text) (now xs) (now ys) count (now answers) line at ⌝ }
+    ensures { λ r. ⌜ StopsAll (now (text .entry)) (now (xs .entry)) (now (ys .entry)) count
+        (now (answers .entry)) (now (answers .exit)) line at r ⌝ }
 {
-    let count = map.count;
     let mut place = at;
     let mut number = line;
     while !is_ended(text, place) {
-        let found = verdict_on(&map.xs, &map.ys, count, line_from(text, place));
+        let found = verdict_on(xs, ys, count, line_from(text, place));
         match found {
             Verdict::Accepted(p) => {
                 return Stop {
@@ -105,20 +108,50 @@ pub(crate) fn decide_lines(text: &[u8], answers: &mut [u32; TEXT_LIMIT]) -> Surv
     requires { ⌜ Readable (now text) (now answers) ⌝ }
     ensures { λ r. ⌜ Surveys (now (text .entry)) (now (answers .exit)) r ⌝ }
 {
-    let mut map = empty_map();
-    let mut stop = refuse_lines(text, 0, 0, map, answers);
+    let empty = empty_map();
+    let mut xs = empty.xs;
+    let mut ys = empty.ys;
+    let mut helpers = empty.helpers;
+    let mut edge = empty.edge;
+    let mut count = empty.count;
+    let mut reference = empty.reference;
+    let mut stop = refuse_lines(text, 0, 0, &xs, &ys, count, answers);
     while !stop.ended {
         let at = stop.at;
         let line = stop.line;
         let p = stop.p;
-        let offered = arrive(map, p);
-        let arrival = offered.arrival;
-        map = offered.map;
+        let grown = grow(
+            &mut xs,
+            &mut ys,
+            &mut helpers,
+            &mut edge,
+            count,
+            reference,
+            p,
+        );
+        let arrival = grown.arrival;
+        count += 1;
+        reference = grown.reference;
         answers[line] = packed(arrival);
-        stop = refuse_lines(text, next_from(text, at), line + 1, map, answers);
+        stop = refuse_lines(
+            text,
+            next_from(text, at),
+            line + 1,
+            &xs,
+            &ys,
+            count,
+            answers,
+        );
     }
     Surveyed {
-        map,
+        map: Map {
+            xs,
+            ys,
+            helpers,
+            edge,
+            count,
+            reference,
+        },
         lines: stop.line,
     }
 }

@@ -1,33 +1,38 @@
 -- `hull::sight::seen_from` meets its contract: an iteration passes one corner of the outline.
 -- Assumes nothing.
 use borrow.Author.Needs.{needs}
+use mathlib.Core.List.{List}
+use mathlib.Core.Bool.{Bool}
 use Prim.Native.Nat.{_-_}
 use native.Mathlib.Nat.{sub-zero}
 use native.Mathlib.Omega.{arith}
+use denote.Ref.{now}
+use Rattle.model.specs.declared.Map.{Map}
 use Rattle.model.specs.Maps.{edge-link}
 use Rattle.model.specs.Outline.{next-corner, previous-corner}
+use Rattle.hull.specs.Requires.{OutlineIn, map-of}
 use Rattle.hull.proofs.Indices.{ranged}
 use Rattle.hull.proofs.Seeing.{SightAhead, at-first, passed-last, passed-one, at-end}
 use Rattle.hull.proofs.sight.seen_from.Statement.{statement}
 use Rattle.hull.proofs.sight.seen_from.Tie as tie
 
 abbrev Inv-loop : tie.InvT-loop
-Inv-loop p map start last entering₀ left₀ right₀ visible₀ a₀ count counter₀ entering left right visible a counter =
-    SightAhead map p entering left right visible a (map .count - counter)
+Inv-loop xs ys edge count reference p start last entering₀ left₀ right₀ visible₀ a₀ counter₀ entering left right visible a counter =
+    (o : OutlineIn xs ys edge count reference p)
+    × SightAhead (map-of xs ys (o .helpers) edge count reference) p entering left right visible a
+    (count - counter)
 
 abbrev μ-loop : tie.MeasureT-loop
-μ-loop p map start last entering₀ left₀ right₀ visible₀ a₀ count counter₀ entering left right visible a counter =
-    map .count - counter
+μ-loop xs ys edge count reference p start last entering₀ left₀ right₀ visible₀ a₀ counter₀ entering left right visible a counter =
+    count - counter
 
--- where the function starts, from the head of the loop; where an iteration begins, from its calls
+-- where the function starts, and the map whose arrays are lent, with some helpers
 abbrev at-start : tie.After-is-visible Inv-loop μ-loop → tie.Start Inv-loop μ-loop
-at-start c = c .before .before .before .before .before .before .before .before .before .before
+at-start c = c .before .before .before
 
-abbrev in-loop : tie.After-next-corner Inv-loop μ-loop → tie.In-loop Inv-loop μ-loop
-in-loop c = c .before .before .before .before
-
-abbrev at-next-corner : tie.After-is-visible2 Inv-loop μ-loop → tie.After-next-corner Inv-loop μ-loop
-at-next-corner c = c .before .before .before .before .before .before
+abbrev lent : tie.Start Inv-loop μ-loop → List Bool → Map
+lent s helpers =
+    map-of (now (s .args .xs)) (now (s .args .ys)) helpers (now (s .args .edge)) (s .args .count) (s .args .reference)
 
 abbrev started : tie.In-loop Inv-loop μ-loop → tie.Start Inv-loop μ-loop
 started c = at-start (c .before .before)
@@ -36,19 +41,19 @@ previous-corner-requires : tie.Need-previous-corner-requires Inv-loop μ-loop
 previous-corner-requires c κs = search needs
 
 is-visible-requires : tie.Need-is-visible-requires Inv-loop μ-loop
-is-visible-requires c κs = ranged (c .before .before .before .before .before .before .before .before .before .pre)
+is-visible-requires c κs = ranged (c .before .before .pre .outline)
 
 loop-holds : tie.Need-loop-holds Inv-loop μ-loop
 unfolding previous-corner edge-link
 loop-holds c =
-    let from = c .before .before .before .before .before .before .previous-corner .ensures in
-    at-first (at-start c .args .t1) (at-start c .args .p) (at-start c .pre) (sub-zero _) from (c .is-visible .ensures)
+    let s = at-start c in
+    (s .pre, at-first (lent s (s .pre .helpers)) (s .args .p) (s .pre .outline) (sub-zero _) (c .before .previous-corner .ensures) (c .is-visible .ensures))
 
 next-corner-requires : tie.Need-next-corner-requires Inv-loop μ-loop
 next-corner-requires c κs = search needs
 
 is-visible-requires-2 : tie.Need-is-visible-requires-2 Inv-loop μ-loop
-is-visible-requires-2 c κs = ranged (started (in-loop (c .before .before .before .before .before)) .pre)
+is-visible-requires-2 c κs = ranged (started (c .before) .pre .outline)
 
 sought-at-requires : tie.Need-sought-at-requires Inv-loop μ-loop
 sought-at-requires c κs = search needs
@@ -58,16 +63,15 @@ sought-at-requires-2 c κs = search needs
 
 plus-one-if-requires : tie.Need-plus-one-if-requires Inv-loop μ-loop
 plus-one-if-requires c κs =
-    let t = in-loop (at-next-corner (c .before .before)) in
-    omega (arith, t .before .loop .inv .few, started t .pre .is-sound .links .fits, t .loop-test .taken)
+    let t = c .before .before .before .before in
+    let inv = t .before .loop .inv in
+    omega (arith, inv .1 .few, inv .0 .outline .is-sound .links .fits, t .loop-test .taken)
 
 add-counter : tie.Need-add-counter Inv-loop μ-loop
-add-counter c =
-    let t = in-loop (at-next-corner (c .before .before .before .before)) in
-    omega (arith, started t .pre .is-sound .links .fits, t .loop-test .taken)
+add-counter c = search needs
 
 loop-less : tie.Need-loop-less Inv-loop μ-loop
-loop-less c = omega (arith, in-loop (at-next-corner (c .before .before .before .before)) .loop-test .taken)
+loop-less c = search needs
 
 -- a corner was passed: the next one is not the first ..
 loop-again : tie.Need-loop-again Inv-loop μ-loop
@@ -75,16 +79,21 @@ unfolding next-corner edge-link
 loop-again c =
     let d = c .before in
     let e = d .before .before .before in
-    let t = in-loop (at-next-corner e) in
-    passed-one (started t .args .t1) (started t .args .p) (started t .pre) (t .before .loop .inv) (omega (arith, t .loop-test .taken))
-    (at-next-corner e .next-corner .ensures) (e .is-visible2 .ensures)
-    (d .before .before .sought-at .ensures) (d .before .sought-at2 .ensures) (d .plus-one-if .ensures)
-    (omega arith) (c .if1 .left)
+    let t = e .before .before in
+    let s = started t in
+    let inv = t .before .loop .inv in (
+      inv .0,
+      passed-one (lent s (inv .0 .helpers)) (s .args .p) (inv .0 .outline) (inv .1)
+          (omega (arith, t .loop-test .taken)) (e .before .next-corner .ensures) (e .is-visible2 .ensures)
+          (d .before .before .sought-at .ensures) (d .before .sought-at2 .ensures)
+          (d .plus-one-if .ensures) (omega arith) (c .if1 .left),
+    )
 
 returns : tie.Need-returns Inv-loop μ-loop
 returns c =
     let s = at-start (c .before .before) in
-    at-end (s .args .t1) (s .args .p) (s .pre) (c .before .loop .inv) (omega (arith, c .loop-test .left))
+    let inv = c .before .loop .inv in
+    at-end (lent s (inv .0 .helpers)) (s .args .p) (inv .0 .outline) (inv .1) (omega (arith, c .loop-test .left))
 
 -- .. or it is, and all is found
 returns-2 : tie.Need-returns-2 Inv-loop μ-loop
@@ -92,12 +101,15 @@ unfolding next-corner edge-link
 returns-2 c =
     let d = c .before in
     let e = d .before .before .before in
-    let t = in-loop (at-next-corner e) in
+    let t = e .before .before in
     let s = started t in
-    at-end (s .args .t1) (s .args .p) (s .pre)
-    (passed-last (s .args .t1) (s .args .p) (s .pre) (t .before .loop .inv) (omega (arith, t .loop-test .taken))
-    (at-next-corner e .next-corner .ensures) (e .is-visible2 .ensures)
-    (d .before .before .sought-at .ensures) (d .before .sought-at2 .ensures) (d .plus-one-if .ensures) (c .if1 .taken))
+    let inv = t .before .loop .inv in
+    let m = lent s (inv .0 .helpers) in
+    at-end m (s .args .p) (inv .0 .outline)
+    (passed-last m (s .args .p) (inv .0 .outline) (inv .1) (omega (arith, t .loop-test .taken))
+    (e .before .next-corner .ensures) (e .is-visible2 .ensures)
+    (d .before .before .sought-at .ensures) (d .before .sought-at2 .ensures)
+    (d .plus-one-if .ensures) (c .if1 .taken))
     (omega arith)
 
 pub seen-from-spec : {M : Type 1} → statement M

@@ -3,60 +3,122 @@
 use borrow.Author.Needs.{needs}
 use mathlib.Core.Path.{_≡_, sym, subst}
 use mathlib.Core.Bool.{false}
-use Prim.Native.Nat.{_-_}
+use Prim.Native.Nat.{_+_, _-_}
 use native.Mathlib.Omega.{arith}
 use borrow.Author.Tests.{not-true, not-false}
-use lib.ListN.{length}
+use denote.Ref.{now}
+use lib.ListN.{length, set}
+use Rattle.model.specs.declared.Map.{Map}
 use Rattle.model.specs.declared.Offered.{Offered}
+use Rattle.model.specs.Sound.{Sound}
+use Rattle.hull.specs.Requires.{map-of}
+use Rattle.hull.proofs.Outcomes.{Accepted}
 use Rattle.hull.proofs.Admissions.{accepted-room}
 use Rattle.reports.specs.Packing.{Packable}
-use Rattle.reports.specs.Deciding.{Stopped}
-use Rattle.reports.proofs.Verdicts.{arrive-packable}
-use Rattle.reports.proofs.Decisions.{reports-begin, stop-free, stop-further, stop-accepted, accept-next, stopped-onwards, surveys}
+use Rattle.reports.specs.Deciding.{Reports, Stopped}
+use Rattle.reports.proofs.Verdicts.{arrive-sound, arrive-packable}
+use Rattle.reports.proofs.Decisions.{reports-begin, stop-free, stop-further, stop-accepted}
+use Rattle.reports.proofs.Decisions.{accept-next, stopped-onwards, surveys}
 use Rattle.reports.proofs.deciding.decide_lines.Statement.{statement}
 use Rattle.reports.proofs.deciding.decide_lines.Tie as tie
 
 abbrev Inv-loop : tie.InvT-loop
-Inv-loop text answers₀ map₀ stop₀ answers map stop = Stopped text map answers 0 stop
+Inv-loop text answers₀ xs₀ ys₀ helpers₀ edge₀ count₀ reference₀ stop₀ answers xs ys helpers edge count reference stop =
+    Stopped text (map-of xs ys helpers edge count reference) answers 0 stop
 
 abbrev μ-loop : tie.MeasureT-loop
-μ-loop text answers₀ map₀ stop₀ answers map stop = length text - stop .at
+μ-loop text answers₀ xs₀ ys₀ helpers₀ edge₀ count₀ reference₀ stop₀ answers xs ys helpers edge count reference stop =
+    length text - stop .at
+
+-- where the empty map is made, seen from where its coordinates are lent
+abbrev at-empty : tie.After-ys2 Inv-loop μ-loop → tie.After-empty-map Inv-loop μ-loop
+at-empty c = c .before .before .before .before .before .before
+
+-- the map at the head of the loop
+abbrev at-head : tie.At-loop Inv-loop μ-loop → Map
+at-head l =
+    map-of (l .loop .xs) (l .loop .ys) (l .loop .helpers) (l .loop .edge) (l .loop .count) (l .loop .reference)
+
+-- where an iteration begins, and the point that is accepted there
+abbrev in-loop : tie.After-grow Inv-loop μ-loop → tie.Then1 Inv-loop μ-loop
+in-loop c = c .before .before .before .before .before .before
+
+more : (c : tie.Then1 Inv-loop μ-loop) → c .before .before .loop .stop .ended ≡ false
+more c = not-true _ (c .if1 .taken)
+
+accepted : (c : tie.Then1 Inv-loop μ-loop) →
+    let l = c .before .before in Accepted (at-head l) (l .loop .stop .p)
+accepted c = stop-accepted (c .before .before .loop .inv) (more c)
+
+-- the map after an arrival
+abbrev grown : tie.After-grow Inv-loop μ-loop → Map
+grown c =
+    let last = c .grow .last in
+    let l = in-loop c .before .before in
+    map-of (last .0) (last .1 .0) (last .1 .1 .0) (last .1 .1 .1 .0) (l .loop .count + 1) (c .grow .result .reference)
+
+grown-sound : (c : tie.After-grow Inv-loop μ-loop) → Sound (grown c)
+grown-sound c =
+    subst (λ (o : Offered). Sound (o .map)) (sym (c .grow .ensures)) (arrive-sound (accepted (in-loop c)))
+
+-- .. and the report with the line of the arrival
+grown-reports : (c : tie.After-next-from Inv-loop μ-loop) →
+    let at-grow = c .before .before in
+    let l = in-loop at-grow .before .before in
+    Reports (now (at-empty (l .before .before .before) .before .before .args .text)) (grown at-grow)
+    (set (l .loop .answers) (l .loop .stop .line) (c .before .packed .result)) (l .loop .stop .line + 1) (c .next-from .result)
+grown-reports c =
+    let at-grow = c .before .before in
+    let test = in-loop at-grow in
+    accept-next (test .before .before .loop .inv) (more test) (at-grow .grow .ensures)
+    (c .before .packed .ensures) (c .next-from .ensures)
 
 empty-map-requires : tie.Need-empty-map-requires Inv-loop μ-loop
 empty-map-requires c κs = search needs
 
+-- nothing is decided at first
+begun : (c : tie.After-empty-map Inv-loop μ-loop) →
+    let s = c .before .before in
+    Reports (now (s .args .text)) (c .empty-map .result) (now (s .args .answers)) 0 0
+begun c =
+    let pre = c .before .before .pre in
+    rw (c .empty-map .ensures) (reports-begin _ _ (pre .short) (pre .whole))
+
+slice-aggregate-refuse-lines : tie.Need-slice-aggregate-refuse-lines Inv-loop μ-loop
+slice-aggregate-refuse-lines c = search needs
+
+slice-aggregate-refuse-lines-2 : tie.Need-slice-aggregate-refuse-lines-2 Inv-loop μ-loop
+slice-aggregate-refuse-lines-2 c = search needs
+
 refuse-lines-requires : tie.Need-refuse-lines-requires Inv-loop μ-loop
 refuse-lines-requires c κs =
-    let pre = c .before .before .before .pre in
-    rw (c .before .empty-map .ensures) (reports-begin _ _ (pre .short) (pre .whole))
+    let made = at-empty (c .before) in
+    let m = made .empty-map .result in
+    record { helpers = m .helpers; edge = m .edge; reference = m .reference; reports = begun made }
 
 loop-holds : tie.Need-loop-holds Inv-loop μ-loop
-loop-holds c = c .refuse-lines .ensures
+loop-holds c =
+    c .refuse-lines .ensures .stops _ _ _ (begun (at-empty (c .before .before)))
 
--- a line is accepted there
-more : (c : tie.Then1 Inv-loop μ-loop) → c .before .before .loop .stop .ended ≡ false
-more c = not-true _ (c .if1 .taken)
+grow-requires : tie.Need-grow-requires Inv-loop μ-loop
+grow-requires c κs = accepted-room (accepted (c .before .before .before .before .before))
 
-arrive-requires : tie.Need-arrive-requires Inv-loop μ-loop
-arrive-requires c κs =
-    let test =
-    c .before in accepted-room (stop-accepted (test .before .before .loop .inv) (more test))
+add-count : tie.Need-add-count Inv-loop μ-loop
+add-count c = omega (arith, accepted (in-loop c) .room)
 
 packed-requires : tie.Need-packed-requires Inv-loop μ-loop
 packed-requires c κs =
-    let call = c .before in
-    let test = call .before .before in
-    subst (λ (o : Offered). Packable (o .arrival)) (sym (call .arrive .ensures))
-    (arrive-packable (stop-accepted (test .before .before .loop .inv) (more test)))
+    subst (λ (o : Offered). Packable (o .arrival)) (sym (c .grow .ensures))
+    (arrive-packable (accepted (in-loop c)))
 
 mul-answers : tie.Need-mul-answers Inv-loop μ-loop
 mul-answers c =
-    let test = c .before .before .before .before in
+    let test = in-loop (c .before) in
     omega (arith, stop-free (test .before .before .loop .inv) (more test))
 
 element-write-answers : tie.Need-element-write-answers Inv-loop μ-loop
 element-write-answers c =
-    let test = c .before .before .before .before in
+    let test = in-loop (c .before) in
     omega (arith, stop-free (test .before .before .loop .inv) (more test))
 
 next-from-requires : tie.Need-next-from-requires Inv-loop μ-loop
@@ -64,28 +126,34 @@ next-from-requires c κs = search needs
 
 add-refuse-lines : tie.Need-add-refuse-lines Inv-loop μ-loop
 add-refuse-lines c =
-    let test = c .before .before .before .before .before in
+    let test = in-loop (c .before .before) in
     omega (arith, stop-free (test .before .before .loop .inv) (more test))
+
+slice-aggregate-refuse-lines-3 : tie.Need-slice-aggregate-refuse-lines-3 Inv-loop μ-loop
+slice-aggregate-refuse-lines-3 c =
+    sym (grown-sound (c .before .before .before) .points .xs-whole)
+
+slice-aggregate-refuse-lines-4 : tie.Need-slice-aggregate-refuse-lines-4 Inv-loop μ-loop
+slice-aggregate-refuse-lines-4 c =
+    sym (grown-sound (c .before .before .before .before) .points .ys-whole)
 
 refuse-lines-requires-2 : tie.Need-refuse-lines-requires-2 Inv-loop μ-loop
 refuse-lines-requires-2 c κs =
-    let next = c .before in
-    let stored = next .before in
-    let call = stored .before .before in
-    let test = call .before .before in
-    accept-next (test .before .before .loop .inv) (more test) (call .arrive .ensures)
-    (stored .packed .ensures)
-    (next .next-from .ensures)
+    let next = c .before .before .before in
+    let m = grown (next .before .before) in
+    record { helpers = m .helpers; edge = m .edge; reference = m .reference; reports = grown-reports next }
 
 loop-less : tie.Need-loop-less Inv-loop μ-loop
 loop-less c =
-    let next = c .before .before in
-    let test = next .before .before .before .before .before in
+    let next = c .before .before .before .before in
+    let test = in-loop (next .before .before) in
     let on = stop-further (test .before .before .loop .inv) (more test) in
-    omega (arith, on .0, on .1, next .next-from .ensures, c .refuse-lines2 .ensures .further)
+    let stopped = c .refuse-lines2 .ensures .stops _ _ _ (grown-reports next) in
+    omega (arith, on .0, on .1, next .next-from .ensures, stopped .further)
 
 loop-again : tie.Need-loop-again Inv-loop μ-loop
-loop-again c = stopped-onwards (c .refuse-lines2 .ensures)
+loop-again c =
+    stopped-onwards (c .refuse-lines2 .ensures .stops _ _ _ (grown-reports (c .before .before .before .before)))
 
 returns : tie.Need-returns Inv-loop μ-loop
 returns c = surveys (c .before .before .loop .inv) (not-false _ (c .if1 .left))
@@ -97,14 +165,19 @@ decide-lines-spec =
     Inv-loop
     μ-loop
     empty-map-requires
+    slice-aggregate-refuse-lines
+    slice-aggregate-refuse-lines-2
     refuse-lines-requires
     loop-holds
-    arrive-requires
+    grow-requires
+    add-count
     packed-requires
     mul-answers
     element-write-answers
     next-from-requires
     add-refuse-lines
+    slice-aggregate-refuse-lines-3
+    slice-aggregate-refuse-lines-4
     refuse-lines-requires-2
     loop-less
     loop-again

@@ -2,13 +2,15 @@
 -- what is ahead make up the report. The measure is what is left of the text. Assumes nothing.
 use borrow.Author.Needs.{needs}
 use mathlib.Core.Path.{_≡_, sym, _∙_}
-use mathlib.Core.Bool.{false}
-use Prim.Native.Nat.{_-_, _≤_}
+use mathlib.Core.Bool.{Bool, false}
+use mathlib.Core.List.{List}
+use Prim.Native.Nat.{ℕ, _-_, _≤_}
 use native.Mathlib.Omega.{arith}
 use borrow.Author.Tests.{not-true, not-false}
 use denote.Ref.{now}
 use lib.ListN.{length}
 use Rattle.survey.specs.Places.{at-end}
+use Rattle.hull.specs.Requires.{map-of}
 use Rattle.hull.proofs.Admissions.{ranged-places}
 use Rattle.reports.specs.Packing.{refused}
 use Rattle.reports.specs.Deciding.{Reports}
@@ -17,14 +19,25 @@ use Rattle.reports.proofs.deciding.refuse_lines.Statement.{statement}
 use Rattle.reports.proofs.deciding.refuse_lines.Tie as tie
 
 abbrev Inv-loop : tie.InvT-loop
-Inv-loop text at line answers₀ map count place₀ number₀ answers place number =
-    Reports text map answers number place × (at ≤ place)
+Inv-loop text at line xs ys count answers₀ place₀ number₀ answers place number =
+    ((helpers : List Bool) (edge : List ℕ) (reference : ℕ) →
+    Reports text (map-of xs ys helpers edge count reference) answers₀ line at →
+    Reports text (map-of xs ys helpers edge count reference) answers number place)
+    × (at ≤ place)
 
 abbrev μ-loop : tie.MeasureT-loop
-μ-loop text at line answers₀ map count place₀ number₀ answers place number = length text - place
+μ-loop text at line xs ys count answers₀ place₀ number₀ answers place number = length text - place
 
 loop-holds : tie.Need-loop-holds Inv-loop μ-loop
-loop-holds c = (c .before .pre, omega arith)
+loop-holds c = (λ helpers edge reference r. r, omega arith)
+
+-- the report of the map that there is
+report : (l : tie.At-loop Inv-loop μ-loop) →
+    let s = l .before .before in
+    Reports (now (s .args .text))
+    (map-of (now (s .args .xs)) (now (s .args .ys)) (s .pre .helpers) (s .pre .edge) (s .args .count) (s .pre .reference))
+    (l .loop .answers) (l .loop .number) (l .loop .place)
+report l = l .loop .inv .0 _ _ _ (l .before .before .pre .reports)
 
 is-ended-requires : tie.Need-is-ended-requires Inv-loop μ-loop
 is-ended-requires c κs = search needs
@@ -34,7 +47,7 @@ line-from-requires c κs = search needs
 
 -- where an iteration begins
 abbrev in-loop : tie.After-line-from Inv-loop μ-loop → tie.Then1 Inv-loop μ-loop
-in-loop c = c .before .before .before .before .before .before
+in-loop c = c .before
 
 -- there is a line
 there : (c : tie.Then1 Inv-loop μ-loop) →
@@ -43,7 +56,7 @@ there : (c : tie.Then1 Inv-loop μ-loop) →
 there c = sym (c .before .is-ended .ensures) ∙ not-true _ (c .if1 .taken)
 
 verdict-on-requires : tie.Need-verdict-on-requires Inv-loop μ-loop
-verdict-on-requires c κs = ranged-places (in-loop c .before .before .loop .inv .0 .is-sound)
+verdict-on-requires c κs = ranged-places (report (in-loop c .before .before) .is-sound)
 
 enum-known-found : tie.Need-enum-known-found Inv-loop μ-loop
 enum-known-found c = search needs
@@ -53,8 +66,12 @@ returns c =
     let call = c .before .before .before in
     let test = in-loop (call .before) in
     let l = test .before .before in
-    stops-before (l .loop .inv .0) (l .loop .inv .1) (there test) (c .before .found .given .1)
-    (call .verdict-on .ensures) (call .before .line-from .ensures)
+    record {
+      stops =
+          λ helpers edge reference r.
+          stops-before (l .loop .inv .0 helpers edge reference r) (l .loop .inv .1) (there test)
+          (c .before .found .given .1) (call .verdict-on .ensures) (call .before .line-from .ensures);
+    }
 
 enum-known-found-2 : tie.Need-enum-known-found-2 Inv-loop μ-loop
 enum-known-found-2 c = search needs
@@ -69,12 +86,12 @@ at-test c = in-loop (c .before .before .before .before .before)
 mul-answers : tie.Need-mul-answers Inv-loop μ-loop
 mul-answers c =
     let test =
-    at-test c in omega (arith, place-free (test .before .before .loop .inv .0) (there test))
+    at-test c in omega (arith, place-free (report (test .before .before)) (there test))
 
 element-write-answers : tie.Need-element-write-answers Inv-loop μ-loop
 element-write-answers c =
     let test =
-    at-test c in omega (arith, place-free (test .before .before .loop .inv .0) (there test))
+    at-test c in omega (arith, place-free (report (test .before .before)) (there test))
 
 next-from-requires : tie.Need-next-from-requires Inv-loop μ-loop
 next-from-requires c κs = search needs
@@ -83,13 +100,13 @@ add-number : tie.Need-add-number Inv-loop μ-loop
 add-number c =
     let test =
     at-test (c .before) in omega
-    (arith, place-free (test .before .before .loop .inv .0) (there test))
+    (arith, place-free (report (test .before .before)) (there test))
 
 loop-less : tie.Need-loop-less Inv-loop μ-loop
 loop-less c =
     let test = at-test (c .before) in
     let l = test .before .before in
-    let on = place-further (l .loop .inv .0) (there test) in
+    let on = place-further (report l) (there test) in
     omega (arith, on .0, on .1, c .next-from .ensures)
 
 loop-again : tie.Need-loop-again Inv-loop μ-loop
@@ -99,8 +116,9 @@ loop-again c =
     let call = told .before .before in
     let test = at-test stored in
     let l = test .before .before in
-    let on = place-further (l .loop .inv .0) (there test) in (
-      refuse-next (l .loop .inv .0) (there test) _ (told .found2 .given .1)
+    let on = place-further (report l) (there test) in (
+      λ helpers edge reference r.
+          refuse-next (l .loop .inv .0 helpers edge reference r) (there test) _ (told .found2 .given .1)
           (call .verdict-on .ensures)
           (call .before .line-from .ensures) (stored .packed .ensures) (c .next-from .ensures),
       omega (arith, on .0, c .next-from .ensures, l .loop .inv .1),
@@ -109,8 +127,12 @@ loop-again c =
 returns-2 : tie.Need-returns-2 Inv-loop μ-loop
 returns-2 c =
     let l = c .before .before in
-    stops-at-end (l .loop .inv .0) (l .loop .inv .1) _
-    (sym (c .before .is-ended .ensures) ∙ not-false _ (c .if1 .left))
+    let ended = sym (c .before .is-ended .ensures) ∙ not-false _ (c .if1 .left) in
+    record {
+      stops =
+          λ helpers edge reference r.
+          stops-at-end (l .loop .inv .0 helpers edge reference r) (l .loop .inv .1) _ ended;
+    }
 
 pub refuse-lines-spec : {M : Type 1} → statement M
 refuse-lines-spec =

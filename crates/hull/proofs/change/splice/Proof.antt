@@ -1,0 +1,87 @@
+-- `hull::change::splice` meets its contract: what its calls ensure makes it up, and the links that
+-- are cut lead to darts. Assumes nothing.
+use borrow.Author.Needs.{needs}
+use mathlib.Core.Path.{refl, _∙_}
+use native.Mathlib.Omega.{arith}
+use denote.Ref.{now}
+use Rattle.orbits.specs.Sets.{dart-limit}
+use Rattle.model.specs.Maps.{own, helper}
+use Rattle.hull.proofs.Indices.{cut-whole, cut-below}
+use Rattle.hull.proofs.change.splice.Statement.{statement}
+use Rattle.hull.proofs.change.splice.Tie as tie
+
+mul-l : tie.Need-mul-l
+mul-l c = search needs
+
+mul-r : tie.Need-mul-r
+mul-r c = search needs
+
+add-r : tie.Need-add-r
+add-r c = search needs
+
+element-write-helpers : tie.Need-element-write-helpers
+element-write-helpers c = search needs
+
+cut-requires : tie.Need-cut-requires
+cut-requires c κs =
+    let s = c .before in
+    record {
+      whole = s .pre .whole;
+      below = omega arith;
+      partner-below = s .pre .links-below (own (s .args .left)) (omega arith);
+    }
+
+cut-requires-2 : tie.Need-cut-requires-2
+cut-requires-2 c κs =
+    let s = c .before .before .before in
+    rw (c .before .cut .ensures)
+    (record {
+      whole = cut-whole (own (s .args .left)) (now (s .args .edge)) ∙ s .pre .whole;
+      below = omega arith;
+      partner-below =
+          cut-below dart-limit (now (s .args .edge)) (s .pre .links-below) (own (s .args .left))
+          (helper (s .args .right)) (omega arith) (omega arith);
+    })
+
+mul-join : tie.Need-mul-join
+mul-join c = search needs
+
+add-join : tie.Need-add-join
+add-join c = search needs
+
+join-requires : tie.Need-join-requires
+join-requires c κs = search needs
+
+mul-join-2 : tie.Need-mul-join-2
+mul-join-2 c = search needs
+
+join-requires-2 : tie.Need-join-requires-2
+join-requires-2 c κs = search needs
+
+returns : tie.Need-returns
+returns c = (
+  refl,
+  rw (
+    c .join2 .ensures,
+    c .before .before .join .ensures,
+    c .before .before .before .before .cut2 .ensures,
+    c .before .before .before .before .before .before .cut .ensures,
+  ),
+)
+
+pub splice-spec : {M : Type 1} → statement M
+splice-spec =
+    tie.close
+    (tie.spec
+    mul-l
+    mul-r
+    add-r
+    element-write-helpers
+    cut-requires
+    cut-requires-2
+    mul-join
+    add-join
+    join-requires
+    mul-join-2
+    join-requires-2
+    returns)

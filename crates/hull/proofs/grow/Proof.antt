@@ -1,0 +1,62 @@
+-- `hull::grow` meets its contract: the number of points decides. Assumes nothing.
+use borrow.Author.Needs.{needs}
+use mathlib.Core.Path.{_∙_, ap}
+use denote.Ref.{now}
+use Rattle.model.specs.declared.Map.{Map}
+use Rattle.model.specs.declared.Arrival.{Arrival}
+use Rattle.model.specs.Arrival.{arrived}
+use Rattle.hull.specs.Requires.{map-of}
+use Rattle.hull.proofs.Cases.{first, second, later, grown-alone, grown-pair}
+use Rattle.hull.proofs.grow.Statement.{statement}
+use Rattle.hull.proofs.grow.Tie as tie
+
+-- the map whose arrays are lent
+abbrev lent : tie.Start → Map
+lent s =
+    map-of (now (s .args .xs)) (now (s .args .ys)) (now (s .args .helpers)) (now (s .args .edge)) (s .args .count)
+    (s .args .reference)
+
+put-point-requires : tie.Need-put-point-requires
+put-point-requires c κs = search needs
+
+returns : tie.Need-returns
+returns c =
+    let test = c .before .before .before in
+    let s = test .before in
+    ap (arrived Arrival.First) (grown-alone (lent s) (s .args .p) (c .put-point .ensures))
+    ∙ first (lent s) (s .args .p) (test .if1 .taken)
+
+put-point-requires-2 : tie.Need-put-point-requires-2
+put-point-requires-2 c κs = search needs
+
+pair-requires : tie.Need-pair-requires
+pair-requires c κs = search needs
+
+returns-2 : tie.Need-returns-2
+returns-2 c =
+    let put = c .before .before .before in
+    let test = put .before .before .before in
+    let s = test .before .before in
+    ap (arrived Arrival.Second) (grown-pair (lent s) (s .args .p) (put .put-point2 .ensures) (c .pair .ensures))
+    ∙ second (lent s) (s .args .p) (test .if2 .taken)
+
+grow-later-requires : tie.Need-grow-later-requires
+grow-later-requires c κs = search needs
+
+returns-3 : tie.Need-returns-3
+returns-3 c =
+    let test = c .before .before .before .before .before in
+    let s = test .before .before in
+    c .grow-later .ensures ∙ later (lent s) (s .args .p) (test .before .if1 .left) (test .if2 .left)
+
+pub grow-spec : {M : Type 1} → statement M
+grow-spec =
+    tie.close
+    (tie.spec
+    put-point-requires
+    returns
+    put-point-requires-2
+    pair-requires
+    returns-2
+    grow-later-requires
+    returns-3)

@@ -1,0 +1,87 @@
+-- `hull::grow_later` meets its contract: what is seen from the point decides. Assumes nothing.
+use borrow.Author.Needs.{needs}
+use mathlib.Core.Path.{_≡_, sym, subst, _∙_, ap}
+use denote.Ref.{now}
+use Rattle.model.specs.declared.Point.{Point}
+use Rattle.model.specs.declared.Map.{Map}
+use Rattle.model.specs.declared.Arrival.{Arrival}
+use Rattle.model.specs.declared.Offered.{Offered}
+use Rattle.model.specs.Outline.{visible-edges}
+use Rattle.model.specs.Arrival.{left-corner, right-corner, arrived, spliced}
+use Rattle.hull.specs.declared.sight.Seen.{Seen}
+use Rattle.hull.specs.Requires.{Spliceable, map-of}
+use Rattle.hull.proofs.Indices.{spliceable}
+use Rattle.hull.proofs.Seeing.{seen-by-arrays}
+use Rattle.hull.proofs.Cases.{inside, outside, grown-alone, grown-spliced}
+use Rattle.hull.proofs.grow_later.Statement.{statement}
+use Rattle.hull.proofs.grow_later.Tie as tie
+
+-- the map whose arrays are lent
+abbrev lent : tie.Start → Map
+lent s =
+    map-of (now (s .args .xs)) (now (s .args .ys)) (now (s .args .helpers)) (now (s .args .edge)) (s .args .count)
+    (s .args .reference)
+
+-- where the function starts, from what is seen; what is seen, from the point put
+abbrev at-start : tie.After-seen-from → tie.Start
+at-start c = c .before .before .before .before .before .before .before
+
+abbrev at-seen : tie.After-put-point → tie.After-seen-from
+at-seen c = c .before .before .before
+
+seen-from-requires : tie.Need-seen-from-requires
+seen-from-requires c κs =
+    let s = c .before .before .before .before .before .before in
+    record {
+      helpers = now (s .args .helpers);
+      outline = record { is-sound = s .pre .0 .is-sound; two = s .pre .1; offered = s .pre .0 .offered };
+    }
+
+-- what is seen of the map
+seen-is : (c : tie.After-seen-from) →
+    let m = lent (at-start c) in
+    let p = at-start c .args .p in
+    c .seen-from .result ≡ record { left = left-corner m p; right = right-corner m p; visible = visible-edges m p }
+seen-is c = c .seen-from .ensures ∙ sym (seen-by-arrays (lent (at-start c)) (at-start c .args .p))
+
+put-point-requires : tie.Need-put-point-requires
+put-point-requires c κs = search needs
+
+returns : tie.Need-returns
+returns c =
+    let e = at-seen (c .before) in
+    let m = lent (at-start e) in
+    let p = at-start e .args .p in
+    ap (arrived Arrival.Inside) (grown-alone m p (c .before .put-point .ensures))
+    ∙ inside m p (sym (ap (λ (t : Seen). t .visible) (seen-is e)) ∙ c .if1 .taken)
+
+splice-requires : tie.Need-splice-requires
+splice-requires c κs =
+    let e = at-seen (c .before .before .before) in
+    let s = at-start e in
+    subst (λ (t : Seen). Spliceable (now (s .args .edge)) (s .args .count) (t .left) (t .right)) (sym (seen-is e))
+    (spliceable (s .pre .0) (s .pre .1))
+
+mul-t26 : tie.Need-mul-t26
+mul-t26 c = search needs
+
+-- an outside arrival, from what is seen
+abbrev outcome : Map → Point → Seen → Offered
+outcome m p t = arrived (Arrival.Outside (t .left) (t .right) (t .visible)) (spliced m p (t .left) (t .right))
+
+returns-2 : tie.Need-returns-2
+returns-2 c =
+    let d = c .before .before .before in
+    let e = at-seen (d .before) in
+    let m = lent (at-start e) in
+    let p = at-start e .args .p in
+    let t = e .seen-from .result in
+    ap (arrived (Arrival.Outside (t .left) (t .right) (t .visible)))
+    (grown-spliced m p (d .before .put-point .ensures) (t .left) (t .right) (c .splice .ensures))
+    ∙ ap (outcome m p) (seen-is e)
+    ∙ outside m p (λ z. d .if1 .left (ap (λ (u : Seen). u .visible) (seen-is e) ∙ z))
+
+pub grow-later-spec : {M : Type 1} → statement M
+grow-later-spec =
+    tie.close
+    (tie.spec seen-from-requires put-point-requires returns splice-requires mul-t26 returns-2)

@@ -1,8 +1,8 @@
 -- Reading and writing texts, and the laws that the functions cite. Nothing is assumed.
 --     Digits         digits read one after another
 --     Signs          a number is a sign and a magnitude
---     Places         parts of a text by their places
 --     Separators     before and after the first of a byte
+--     Fronts         the number at the front of a list
 --     Texts          the lines of a text by their places
 --     Overwriting    writing at a place of a lent list, one thing after another
 --     Decimals       numbers in decimal
@@ -13,8 +13,8 @@
 --     Reports        the report by places of the text
 pub mod Digits
 pub mod Signs
-pub mod Places
 pub mod Separators
+pub mod Fronts
 pub mod Texts
 pub mod Overwriting
 pub mod Decimals

@@ -20,7 +20,7 @@ use Rattle.finite.specs.Lists.{all-in, all-in-at}
 use Rattle.model.specs.Spelling.{decimal, digit-zero, minus, spelt}
 use Rattle.model.specs.Text.{digit-limit, digits, has-minus, is-digit, is-number, magnitude, number-value, value-after}
 use Rattle.survey.specs.Numbers.{is-magnitude, no-leading-zero}
-use Rattle.survey.proofs.Digits.{magnitude-digits, digit-small, below-limit}
+use Rattle.survey.proofs.Digits.{digits-magnitude, magnitude-digits, digit-small, below-limit}
 use Rattle.survey.proofs.Decimals.{decimal-one, decimal-front, decimal-enough, decimal-more, decimal-length}
 use Rattle.survey.proofs.Signs.{digits-plain, number-is}
 
@@ -202,16 +202,9 @@ module _ (n : ℕ) (small : n < 10 ^ digit-limit) where
       (same-or-not (getD s 0 0) digit-zero)
 
   pub spelt-magnitude : T (is-magnitude (spelt (pos n)))
-  unfolding is-magnitude
   spelt-magnitude =
-      let s : List ℕ = spelt (pos n) in
-      and-both (leb 1 (length s) && leb (length s) digit-limit && all-in is-digit s)
-      (no-leading-zero s)
-      (and-both (leb 1 (length s) && leb (length s) digit-limit) (all-in is-digit s)
-      (and-both (leb 1 (length s)) (leb (length s) digit-limit) (le→leb 1 (length s) (spells
-      .some)) (le→leb (length s) digit-limit few))
-      (spells .each))
-      leads
+      digits-magnitude (spelt (pos n))
+      (record { some = spells .some; few = few; each = spells .each; leads = leads })
 
   -- it begins with a digit
   pub spelt-unsigned : has-minus (spelt (pos n)) ≡ false

@@ -1,16 +1,16 @@
 -- What stands before and after the first of a byte in a list, in the order of this page: both as
 -- parts of the list; what a search from place to place finds; a line as two numbers.
 -- Assumes nothing.
-use mathlib.Core.Path.{_≡_, refl, sym, ap, _∙_}
+use mathlib.Core.Path.{_≡_, refl, sym, ap}
 use mathlib.Core.Logic.{⊎-elim}
 use mathlib.Core.Bool.{Bool, true, false}
 use mathlib.Core.List.{List, [], _∷_}
-use Prim.Native.Nat.{ℕ, suc, _+_, _-_, _≤_, _<_}
+use Prim.Native.Nat.{ℕ, suc, _+_, _≤_, _<_}
 use native.Mathlib.Numerals.{add-one}
 use native.Mathlib.Omega.{arith}
 use borrow.Author.Tests.{eq-eqb, ne-eqb}
 use lib.ListN.{length, getD, take, drop, drop-of-length-le}
-use lib.Seq.{drop-cons, take-length, slice}
+use lib.Seq.{drop-cons}
 use Rattle.finite.specs.Tests.{same-or-not}
 use Rattle.finite.specs.Lists.{before, beyond}
 use Rattle.model.specs.Refusals.{unless}
@@ -63,6 +63,18 @@ before-short x (y ∷ s) =
     (λ (n : x ≡ y → ⊥). rw (before-other x y s n) (omega (arith, before-short x s)))
     (same-or-not x y)
 
+-- what ends it is x, or the end of the list
+pub before-ends : (x : ℕ) (s : List ℕ) → length (before x s) < length s →
+    getD s (length (before x s)) 0 ≡ x
+unfolding before
+before-ends x [] h = absurd (omega arith)
+before-ends x (y ∷ s) h =
+    ⊎-elim
+    (λ (e : x ≡ y). rw (before-found x y s e) (sym e))
+    (λ (n : x ≡ y → ⊥).
+    let more = before-other x y s n in rw more (before-ends x s (omega (arith, rw more at h))))
+    (same-or-not x y)
+
 -- ---- a search from place `at` on
 
 -- the first x from place `at` on
@@ -86,22 +98,6 @@ place-later x s i h n =
 pub place-past : (x : ℕ) (s : List ℕ) (i : ℕ) → length s ≤ i → first-place x s i ≡ i
 unfolding before
 place-past x s i h = let none : drop i s ≡ [] = drop-of-length-le s h in rw none (omega arith)
-
--- what stands before and after the place that a search from 0 on finds
-module _ (x : ℕ) (s : List ℕ) (p : ℕ) (found : p ≡ first-place x s 0) where
-  is-length : p ≡ length (before x s)
-  is-length = omega (arith, found)
-
-  pub before-slice : slice 0 p s ≡ before x s
-  before-slice = rw is-length (sym (before-part x s))
-
-  pub beyond-slice : slice (p + 1) (length s) s ≡ beyond x s
-  beyond-slice = rw (add-one, take-length, is-length) (sym (beyond-part x s))
-
-  pub beyond-none : length s ≤ p → beyond x s ≡ []
-  beyond-none h =
-      let past : length s ≤ suc (length (before x s)) = omega (arith, is-length) in
-      beyond-part x s ∙ drop-of-length-le s past
 
 -- ---- a line is two numbers
 

@@ -1,13 +1,15 @@
 // Lines of a text: what one line names, and the lines of a text by their places.
 
+use super::numbers::Front;
 use super::numbers::Number;
-use super::numbers::number_between;
+use super::numbers::front_number;
+use super::numbers::read_number;
 use model::Line;
 use model::Point;
 use model::Refusal;
 ghost use mathlib.Core.Path.{_≡_};
 ghost use Prim.Native.Nat.{_+_};
-ghost use lib.ListN.{drop, length};
+ghost use lib.ListN.{drop, getD, length};
 ghost use Rattle.finite.specs.Lists.{before};
 ghost use Rattle.model.specs.Text.{line-read};
 ghost use Rattle.survey.specs.Numbers.{named};
@@ -17,14 +19,17 @@ ghost use Rattle.survey.specs.Places.{at-end, line-at, line-end, next-li
 pub fn read_line(line: &[u8]) -> Line
     ensures { λ r. ⌜ r ≡ line-read (now (line .entry)) ⌝ }
 {
-    let space = place_of(line, 0, b' ');
-    let first = number_between(line, 0, space);
-    let second = if space < line.len() {
-        number_between(line, space + 1, line.len())
-    } else {
-        Number::Malformed
-    };
-    named(first, second)
+    let first = front_number(line);
+    match first {
+        Front::Value { value, end } => {
+            if byte_at(line, end) == b' ' {
+                named(Number::Value(value), read_number(&line[end + 1..]))
+            } else {
+                Line::Refused(Refusal::BadLine)
+            }
+        }
+        Front::Malformed => Line::Refused(Refusal::BadLine),
+    }
 }
 
 // The point of two numbers.
@@ -38,6 +43,13 @@ fn named(x: Number, y: Number) -> Line
         },
         Number::Malformed => Line::Refused(Refusal::BadLine),
     }
+}
+
+// What stands at a place of a list, or 0 past its end.
+fn byte_at(list: &[u8], at: usize) -> u8
+    ensures { λ r. ⌜ r ≡ getD (now (list .entry)) at 0 ⌝ }
+{
+    if at < list.len() { list[at] } else { 0 }
 }
 
 // The first place of b in a list from place `at` on, or the list's end. Past the end it is `at`.

@@ -1,21 +1,26 @@
-// Numbers in a text: an optional minus and digits, as the text program takes them.
+// Numbers in a text: an optional minus and digits, as the text program takes them. A number is read
+// from the front of a list, up to the first byte that is no digit.
 
 ghost use mathlib.Core.Path.{_≡_};
+ghost use mathlib.Core.Bool.{not, _||_};
 ghost use Prim.Native.Nat.{_-_};
-ghost use lib.Dec.{T};
-ghost use lib.ListN.{getD};
-ghost use lib.Seq.{slice};
-ghost use Rattle.finite.specs.Lists.{all-in};
+ghost use lib.Dec.{T, eqb};
 ghost use Rattle.model.specs.Spelling.{digit-zero};
-ghost use Rattle.model.specs.Text.{is-digit, value-after};
-ghost use Rattle.survey.specs.Numbers.{is-magnitude, magnitude-read, no-leading-zero, number-read};
+ghost use Rattle.model.specs.Text.{is-digit};
+ghost use Rattle.survey.specs.Numbers.{front-number, magnitude-read, number-read};
 
 // The most digits of a number.
 pub const DIGIT_LIMIT: usize = 7;
 
-// What digits without a sign stand for.
+// What the digits at the front of a list stand for, and how many they are.
 pub enum Magnitude {
-    Value(u64),
+    Value { value: u64, count: usize },
+    Malformed,
+}
+
+// What the number at the front of a list stands for, and the place after it.
+pub enum Front {
+    Value { value: i64, end: usize },
     Malformed,
 }
 
@@ -25,85 +30,83 @@ pub enum Number {
     Malformed,
 }
 
-// The number that stands in a text from place `start` up to place `end`, whatever the places are.
-pub fn number_between(text: &[u8], start: usize, end: usize) -> Number
-    ensures { λ r. ⌜ r ≡ number-read (slice start end (now (text .entry))) ⌝ }
-{
-    let last = if end < text.len() { end } else { text.len() };
-    if start < last {
-        read_number(&text[start..last])
-    } else {
-        Number::Malformed
-    }
-}
-
-// The number that a list of bytes spells.
+// The number that a list of bytes spells: the one at its front, where nothing follows it.
 pub fn read_number(s: &[u8]) -> Number
     ensures { λ r. ⌜ r ≡ number-read (now (s .entry)) ⌝ }
 {
-    if byte_at(s, 0) == b'-' {
-        match read_digits(&s[1..]) {
-            Magnitude::Value(m) => {
-                if m == 0 {
-                    return Number::Malformed;
-                }
-                Number::Value(0 - m as i64)
+    let front = front_number(s);
+    match front {
+        Front::Value { value, end } => {
+            if end == s.len() {
+                Number::Value(value)
+            } else {
+                Number::Malformed
             }
-            Magnitude::Malformed => Number::Malformed,
         }
-    } else {
-        match read_digits(s) {
-            Magnitude::Value(m) => Number::Value(m as i64),
-            Magnitude::Malformed => Number::Malformed,
-        }
+        Front::Malformed => Number::Malformed,
     }
 }
 
-// What digits without a sign stand for.
-fn read_digits(s: &[u8]) -> Magnitude
+// The number at the front of a list: an optional minus and all digits that follow.
+pub fn front_number(s: &[u8]) -> Front
+    ensures { λ r. ⌜ r ≡ front-number (now (s .entry)) ⌝ }
+{
+    let negative = 0 < s.len() && s[0] == b'-';
+    let first = if negative { 1 } else { 0 };
+    let magnitude = front_digits(&s[first..]);
+    match magnitude {
+        Magnitude::Value { value, count } => {
+            if negative {
+                if value == 0 {
+                    return Front::Malformed;
+                }
+                return Front::Value {
+                    value: 0 - value as i64,
+                    end: count + 1,
+                };
+            }
+            Front::Value {
+                value: value as i64,
+                end: count,
+            }
+        }
+        Magnitude::Malformed => Front::Malformed,
+    }
+}
+
+// What the digits at the front of a list stand for: 1 to DIGIT_LIMIT of them, with no leading zero
+// save 0 itself.
+fn front_digits(s: &[u8]) -> Magnitude
     ensures { λ r. ⌜ r ≡ magnitude-read (now (s .entry)) ⌝ }
 {
-    if is_magnitude(s) {
-        Magnitude::Value(value_of(s))
+    let mut value: u64 = 0;
+    let mut count = 0;
+    while count < s.len() {
+        let b = s[count];
+        if !is_digit(b) {
+            break;
+        }
+        value = value * 10 + digit_value(b);
+        count += 1;
+        if DIGIT_LIMIT < count {
+            return Magnitude::Malformed;
+        }
+    }
+    if count == 0 {
+        return Magnitude::Malformed;
+    }
+    if has_no_leading_zero(s[0], count) {
+        Magnitude::Value { value, count }
     } else {
         Magnitude::Malformed
     }
 }
 
-// Whether a list is 1 to DIGIT_LIMIT digits, with no leading zero save 0 itself.
-fn is_magnitude(s: &[u8]) -> bool
-    ensures { λ r. ⌜ r ≡ is-magnitude (now (s .entry)) ⌝ }
+// Whether digits have no leading zero save 0 itself, told from the first of them and their number.
+fn has_no_leading_zero(first: u8, count: usize) -> bool
+    ensures { λ r. ⌜ r ≡ (not (eqb first digit-zero) || eqb count 1) ⌝ }
 {
-    1 <= s.len() && s.len() <= DIGIT_LIMIT && all_digits(s) && has_no_leading_zero(s)
-}
-
-fn all_digits(s: &[u8]) -> bool
-    ensures { λ r. ⌜ r ≡ all-in is-digit (now (s .entry)) ⌝ }
-{
-    for i in 0..s.len() {
-        if !is_digit(s[i]) {
-            return false;
-        }
-    }
-    true
-}
-
-fn has_no_leading_zero(s: &[u8]) -> bool
-    ensures { λ r. ⌜ r ≡ no-leading-zero (now (s .entry)) ⌝ }
-{
-    byte_at(s, 0) != b'0' || s.len() == 1
-}
-
-// The number that digits stand for.
-fn value_of(s: &[u8]) -> u64
-    requires { ⌜ T (is-magnitude (now s)) ⌝ }
-    ensures { λ r. ⌜ r ≡ value-after 0 (now (s .entry)) ⌝ }
-{
-    let mut value: u64 = 0;
-    for i in 0..s.len() {
-        value = value * 10 + digit_value(s[i]);
-    }
-    value
+    first != b'0' || count == 1
 }
 
 fn is_digit(b: u8) -> bool
@@ -117,11 +120,4 @@ fn digit_value(b: u8) -> u64
     ensures { λ r. ⌜ r ≡ b - digit-zero ⌝ }
 {
     (b - b'0') as u64
-}
-
-// What stands at a place of a list, or 0 past its end.
-fn byte_at(s: &[u8], i: usize) -> u8
-    ensures { λ r. ⌜ r ≡ getD (now (s .entry)) i 0 ⌝ }
-{
-    if i < s.len() { s[i] } else { 0 }
 }

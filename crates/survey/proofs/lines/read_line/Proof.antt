@@ -1,60 +1,105 @@
--- `survey::lines::read_line` meets its contract: what stands before the first space and after it
--- are parts of the line. Assumes nothing.
-use mathlib.Core.Path.{_≡_, sym, ap, ap₂, _∙_}
-use mathlib.Core.Logic.{⊎-elim}
-use Rattle.finite.specs.Lists.{before, beyond}
+-- `survey::lines::read_line` meets its contract: the first number is the line's front, and where a
+-- space follows it, the second is what stands after the space. Assumes nothing.
+use mathlib.Core.Path.{_≡_, sym, ap, _∙_}
+use lib.IntN.{ℤ}
+use mir.Syntax.{w64}
+use mir.ValLaws.{toZ-ofZ}
+use native.Mathlib.Omega.{arith}
+use mathlib.Core.List.{List}
+use Prim.Native.Nat.{ℕ, _<_}
+use lib.ListN.{length, getD}
 use Rattle.model.specs.Spelling.{space}
-use Rattle.survey.specs.Numbers.{named, number-read}
-use Rattle.survey.proofs.Separators.{line-is, before-slice, beyond-slice, beyond-none}
-use Rattle.survey.proofs.Signs.{number-none}
+use Rattle.survey.specs.declared.numbers.Number.{Number}
+use Rattle.survey.specs.Numbers.{named}
+use Rattle.survey.proofs.Fronts.{Leads, leads, line-bad, line-spaced, line-unspaced, space-inside}
 use borrow.Author.Needs.{needs}
 use Rattle.survey.proofs.lines.read_line.Statement.{statement}
 use Rattle.survey.proofs.lines.read_line.Tie as tie
 
-place-of-requires : tie.Need-place-of-requires
-place-of-requires c κs = search needs
+front-number-requires : tie.Need-front-number-requires
+front-number-requires c κs = search needs
 
-number-between-requires : tie.Need-number-between-requires
-number-between-requires c κs = search needs
+enum-known-first : tie.Need-enum-known-first
+enum-known-first c = search needs
 
-add-number-between : tie.Need-add-number-between
-add-number-between c = search needs
+byte-at-requires : tie.Need-byte-at-requires
+byte-at-requires c κs = search needs
 
-number-between-requires-2 : tie.Need-number-between-requires-2
-number-between-requires-2 c κs = search needs
+-- the front is a number
+module _ (c : tie.After-first) where
+  abbrev line : List ℕ
+  line = c .before .before .before .before .args .line .now
+
+  what : Leads line (c .first .given .0 .0) (c .first .given .0 .1 .0)
+  what = leads line (sym (c .before .before .front-number .ensures) ∙ c .first .given .1)
+
+-- a space follows it
+module _ (c : tie.Then1) where
+  abbrev first : tie.After-first
+  first = c .before .before .before
+
+  spaced : getD (line first) (first .first .given .0 .1 .0) 0 ≡ space
+  spaced = sym (c .before .byte-at .ensures) ∙ c .if1 .taken
+
+  inside : first .first .given .0 .1 .0 < length (line first)
+  inside = space-inside (line first) (what first) spaced
+
+add-read-number : tie.Need-add-read-number
+add-read-number c = omega (arith, inside c)
+
+sub-read-number : tie.Need-sub-read-number
+sub-read-number c = omega (arith, inside c)
+
+part-read-number-start : tie.Need-part-read-number-start
+part-read-number-start c = omega (arith, inside c)
+
+part-read-number-end : tie.Need-part-read-number-end
+part-read-number-end c = search needs
+
+read-number-requires : tie.Need-read-number-requires
+read-number-requires c κs = search needs
 
 named-requires : tie.Need-named-requires
 named-requires c κs = search needs
 
-second-is : (c : tie.Joined1) → c .if1 .second ≡ number-read (beyond space (c .before .before
-    .before .before .args .line .now))
-second-is c =
-    let found = c .before .before in
-    let line = found .before .before .args .line .now in
-    ⊎-elim
-    (λ w. w .2 ∙ w .1 .ensures ∙ ap number-read (beyond-slice space line _ (found .place-of
-    .ensures)))
-    (λ w. w .1 ∙ sym (ap number-read (beyond-none space line _ (found .place-of .ensures) (w .0
-    .left)) ∙ number-none))
-    (c .if1 .came)
+enum-told : tie.Need-enum-told
+enum-told c = search needs
 
 returns : tie.Need-returns
 returns c =
-    let joined = c .before in
-    let first = joined .before in
-    let found = first .before in
-    let line = found .before .before .args .line .now in
-    c .named .ensures ∙ ap₂ named (first .number-between .ensures
-    ∙ ap number-read (before-slice space line _ (found .place-of .ensures))) (second-is
-    joined) ∙ sym (line-is line)
+    let call = c .before in
+    let then = call .before .before in
+    let told = then .before .before in
+    let kept = toZ-ofZ w64 _ (record { sfits = told .known-told .given .0 .1 }) in
+    c .named .ensures
+    ∙ ap (λ (z : ℤ). named (Number.Value z) (call .read-number .result)) kept
+    ∙ line-spaced (line (first then)) (what (first then)) (spaced then) (call .read-number .ensures)
+
+returns-2 : tie.Need-returns-2
+returns-2 c =
+    let first = c .before .before .before in
+    sym (line-unspaced (line first) (what first) (λ e.
+    c .if1 .left (c .before .byte-at .ensures ∙ e)))
+
+returns-3 : tie.Need-returns-3
+returns-3 c =
+    let call = c .before .before in
+    sym (line-bad _ (sym (call .front-number .ensures) ∙ c .enum-told .given .1))
 
 pub read-line-spec : {M : Type 1} → statement M
 read-line-spec =
     tie.close
     (tie.spec
-    place-of-requires
-    number-between-requires
-    add-number-between
-    number-between-requires-2
+    front-number-requires
+    enum-known-first
+    byte-at-requires
+    add-read-number
+    sub-read-number
+    part-read-number-start
+    part-read-number-end
+    read-number-requires
     named-requires
-    returns)
+    enum-told
+    returns
+    returns-2
+    returns-3)

@@ -1,10 +1,10 @@
--- `survey::numbers::byte_at` meets its contract: past the end of a list the reading is 0.
+-- `survey::lines::byte_at` meets its contract: past the end of a list the reading is 0.
 -- Assumes nothing.
 use mathlib.Core.Path.{sym}
 use lib.ListN.{List·getD-eq-default}
 use borrow.Author.Needs.{needs}
-use Rattle.survey.proofs.numbers.byte_at.Statement.{statement}
-use Rattle.survey.proofs.numbers.byte_at.Tie as tie
+use Rattle.survey.proofs.lines.byte_at.Statement.{statement}
+use Rattle.survey.proofs.lines.byte_at.Tie as tie
 
 shared-slice-read-result : tie.Need-shared-slice-read-result
 shared-slice-read-result c = search needs
@@ -13,7 +13,7 @@ returns : tie.Need-returns
 returns c = search needs
 
 returns-2 : tie.Need-returns-2
-returns-2 c = sym (List·getD-eq-default (c .before .args .s .now) 0 (c .if1 .left))
+returns-2 c = sym (List·getD-eq-default (c .before .args .list .now) 0 (c .if1 .left))
 
 pub byte-at-spec : {M : Type 1} → statement M
 byte-at-spec = tie.close (tie.spec shared-slice-read-result returns returns-2)

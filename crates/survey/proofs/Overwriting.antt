@@ -1,6 +1,6 @@
 -- Writing into a lent list, in the order of this page: one byte; one thing after another; room for
--- the first of two things, and for the second after the first; a word byte by byte.
--- Assumes nothing.
+-- the first of two things, and for the second after the first; one byte before what is written; a
+-- word byte by byte. Assumes nothing.
 use mathlib.Core.Path.{_≡_, refl, sym, ap, subst, _∙_}
 use mathlib.Core.List.{List, [], _∷_, _++_}
 use Prim.Native.Nat.{ℕ, suc, _+_, _≤_, _<_}
@@ -8,7 +8,7 @@ use native.Mathlib.Nat.{add-zero, add-suc, suc-add}
 use native.Mathlib.Numerals.{add-one}
 use native.Mathlib.Omega.{arith}
 use lib.ListN.{length, getD, set, length-append, length-set}
-use lib.Seq.{sets, sets-eq, length-sets, paste, paste-zero, paste-suc, take-length}
+use lib.Seq.{sets, sets-eq, length-sets, set-comm, paste, paste-zero, paste-suc, take-length}
 use Rattle.survey.specs.Writing.{Room, Wrote, overwritten}
 
 -- store by store
@@ -64,6 +64,27 @@ module _ {lent mid s : List ℕ} {at k : ℕ} (w : Wrote lent at s mid k) where
             sym (by-stores lent at (s ++ t) r);
         ends = omega (arith, v .ends, w .ends, length-append s t);
       }
+
+-- ---- one byte before what is written
+
+sets-before : (lent : List ℕ) (at k b : ℕ) (s : List ℕ) → at < k →
+    sets (set lent at b) k s ≡ set (sets lent k s) at b
+sets-before lent at k b [] h = refl
+sets-before lent at k b (c ∷ s) h =
+    ap (λ (l : List ℕ). sets l (suc k) s) (set-comm lent at k b c (λ e. omega arith))
+    ∙ sets-before (set lent k c) at (suc k) b s (omega arith)
+
+pub wrote-before : {lent s after : List ℕ} {at end : ℕ} (b : ℕ) → Room lent at (b ∷ s) →
+    Wrote lent (at + 1) s after end → Wrote lent at (b ∷ s) (set after at b) end
+wrote-before {lent} {s} {at = at} b r w =
+    let behind : Room lent (at + 1) s = record { room = omega (arith, r .room) } in
+    record {
+      holds =
+          ap (λ (l : List ℕ). set l at b) (w .holds ∙ by-stores lent (at + 1) s behind) ∙
+          rw add-one (sym (sets-before lent at (suc at) b s (omega arith))) ∙
+          sym (by-stores lent at (b ∷ s) r);
+      ends = omega (arith, w .ends);
+    }
 
 -- ---- a word
 

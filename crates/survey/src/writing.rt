@@ -53,20 +53,25 @@ pub fn number_length(z: i64) -> usize
     }
 }
 
-// Writes a number without a sign in decimal.
+// Writes a number without a sign in decimal, from its last digit to its first.
 pub fn put_natural(lent: &mut [u8], at: usize, n: u64) -> usize
     requires { ⌜ Room (now lent) at (spelt (pos n)) ⌝ }
     ensures { λ r. ⌜ Wrote (now (lent .entry)) at (spelt (pos n)) (now (lent .exit)) r ⌝ }
 {
-    if n < 10 {
-        put_byte(lent, at, digit(n))
-    } else {
-        let last = put_natural(lent, at, n / 10);
-        put_byte(lent, last, digit(n % 10))
+    let end = at + natural_length(n);
+    let mut rest = n;
+    let mut place = end - 1;
+    while 10 <= rest {
+        lent[place] = digit(rest % 10);
+        rest = rest / 10;
+        place -= 1;
     }
+    lent[place] = digit(rest);
+    end
 }
 
-// How many digits a number without a sign takes. Few digits are told by comparison, without a division.
+// How many digits a number without a sign takes. Few digits are told by comparison, without a
+// division.
 pub fn natural_length(n: u64) -> usize
     ensures { λ r. ⌜ r ≡ length (spelt (pos n)) ⌝ }
 {

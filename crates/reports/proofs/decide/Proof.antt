@@ -7,9 +7,6 @@ use Rattle.reports.proofs.Wholes.{decides-long, decides-short}
 use Rattle.reports.proofs.decide.Statement.{statement}
 use Rattle.reports.proofs.decide.Tie as tie
 
-no-answers-requires : tie.Need-no-answers-requires
-no-answers-requires c κs = search needs
-
 returns : tie.Need-returns
 returns c =
     decides-long (c .if1 .taken) refl
@@ -19,15 +16,6 @@ returns c =
       corners-fit = omega arith;
       lines-fit = omega arith;
     })
-
-decide-lines-requires : tie.Need-decide-lines-requires
-decide-lines-requires c κs = search needs
-
-corners-of-requires : tie.Need-corners-of-requires
-corners-of-requires c κs = search needs
-
-counts-of-requires : tie.Need-counts-of-requires
-counts-of-requires c κs = search needs
 
 returns-2 : tie.Need-returns-2
 returns-2 c =
@@ -41,9 +29,9 @@ pub decide-spec : {M : Type 1} → statement M
 decide-spec =
     tie.close
     (tie.spec
-    no-answers-requires
+    (λ c κs. search needs)
     returns
-    decide-lines-requires
-    corners-of-requires
-    counts-of-requires
+    (λ c κs. search needs)
+    (λ c κs. search needs)
+    (λ c κs. search needs)
     returns-2)

@@ -8,9 +8,6 @@ use Rattle.reports.proofs.length_of.Tie as tie
 abbrev at-start : tie.After-corners2 → tie.Start
 at-start c = c .before .before .before .before .before .before
 
-array-share-prefix-corners : tie.Need-array-share-prefix-corners
-array-share-prefix-corners c = search needs
-
 slice-aggregate-total-length : tie.Need-slice-aggregate-total-length
 slice-aggregate-total-length c = listed-length (at-start c .pre)
 
@@ -25,7 +22,7 @@ pub length-of-spec : {M : Type 1} → statement M
 length-of-spec =
     tie.close
     (tie.spec
-    array-share-prefix-corners
+    (λ c. search needs)
     slice-aggregate-total-length
     total-length-requires
     returns)

@@ -7,27 +7,18 @@ use Rattle.reports.proofs.write_lines.Tie as tie
 abbrev at-start : tie.After-corners2 → tie.Start
 at-start c = c .before .before .before .before .before .before .before .before
 
-array-share-prefix-corners : tie.Need-array-share-prefix-corners
-array-share-prefix-corners c = search needs
-
 slice-aggregate-put-lines : tie.Need-slice-aggregate-put-lines
 slice-aggregate-put-lines c = listed-length (at-start c .pre)
 
 put-lines-requires : tie.Need-put-lines-requires
 put-lines-requires c κs = let f = at-start c .pre in (corners-few f, printable f)
 
-same-length : tie.Need-same-length
-same-length c = search needs
-
-returns : tie.Need-returns
-returns c = search needs
-
 pub write-lines-spec : {M : Type 1} → statement M
 write-lines-spec =
     tie.close
     (tie.spec
-    array-share-prefix-corners
+    (λ c. search needs)
     slice-aggregate-put-lines
     put-lines-requires
-    same-length
-    returns)
+    (λ c. search needs)
+    (λ c. search needs))

@@ -9,17 +9,11 @@ use Rattle.reports.proofs.write_report.Tie as tie
 abbrev at-start : tie.After-corners2 → tie.Start
 at-start c = c .before .before .before .before .before .before .before .before
 
-array-share-prefix-corners : tie.Need-array-share-prefix-corners
-array-share-prefix-corners c = search needs
-
 slice-aggregate-put-lines : tie.Need-slice-aggregate-put-lines
 slice-aggregate-put-lines c = listed-length (at-start c .pre .0)
 
 put-lines-requires : tie.Need-put-lines-requires
 put-lines-requires c κs = let f = at-start c .pre .0 in (corners-few f, printable f)
-
-same-length : tie.Need-same-length
-same-length c = search needs
 
 returns : tie.Need-returns
 unfolding report-of
@@ -31,8 +25,8 @@ pub write-report-spec : {M : Type 1} → statement M
 write-report-spec =
     tie.close
     (tie.spec
-    array-share-prefix-corners
+    (λ c. search needs)
     slice-aggregate-put-lines
     put-lines-requires
-    same-length
+    (λ c. search needs)
     returns)

@@ -73,9 +73,6 @@ grown-reports c =
     accept-next (test .before .before .loop .inv) (more test) (at-grow .grow .ensures)
     (c .before .packed .ensures) (c .next-from .ensures)
 
-empty-map-requires : tie.Need-empty-map-requires Inv-loop μ-loop
-empty-map-requires c κs = search needs
-
 -- nothing is decided at first
 begun : (c : tie.After-empty-map Inv-loop μ-loop) →
     let s = c .before .before in
@@ -83,12 +80,6 @@ begun : (c : tie.After-empty-map Inv-loop μ-loop) →
 begun c =
     let pre = c .before .before .pre in
     rw (c .empty-map .ensures) (reports-begin _ _ (pre .short) (pre .whole))
-
-slice-aggregate-refuse-lines : tie.Need-slice-aggregate-refuse-lines Inv-loop μ-loop
-slice-aggregate-refuse-lines c = search needs
-
-slice-aggregate-refuse-lines-2 : tie.Need-slice-aggregate-refuse-lines-2 Inv-loop μ-loop
-slice-aggregate-refuse-lines-2 c = search needs
 
 refuse-lines-requires : tie.Need-refuse-lines-requires Inv-loop μ-loop
 refuse-lines-requires c κs =
@@ -120,9 +111,6 @@ element-write-answers : tie.Need-element-write-answers Inv-loop μ-loop
 element-write-answers c =
     let test = in-loop (c .before) in
     omega (arith, stop-free (test .before .before .loop .inv) (more test))
-
-next-from-requires : tie.Need-next-from-requires Inv-loop μ-loop
-next-from-requires c κs = search needs
 
 add-refuse-lines : tie.Need-add-refuse-lines Inv-loop μ-loop
 add-refuse-lines c =
@@ -164,9 +152,9 @@ decide-lines-spec =
     (tie.spec
     Inv-loop
     μ-loop
-    empty-map-requires
-    slice-aggregate-refuse-lines
-    slice-aggregate-refuse-lines-2
+    (λ c κs. search needs)
+    (λ c. search needs)
+    (λ c. search needs)
     refuse-lines-requires
     loop-holds
     grow-requires
@@ -174,7 +162,7 @@ decide-lines-spec =
     packed-requires
     mul-answers
     element-write-answers
-    next-from-requires
+    (λ c κs. search needs)
     add-refuse-lines
     slice-aggregate-refuse-lines-3
     slice-aggregate-refuse-lines-4

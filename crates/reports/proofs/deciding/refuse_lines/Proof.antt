@@ -39,12 +39,6 @@ report : (l : tie.At-loop Inv-loop μ-loop) →
     (l .loop .answers) (l .loop .number) (l .loop .place)
 report l = l .loop .inv .0 _ _ _ (l .before .before .pre .reports)
 
-is-ended-requires : tie.Need-is-ended-requires Inv-loop μ-loop
-is-ended-requires c κs = search needs
-
-line-from-requires : tie.Need-line-from-requires Inv-loop μ-loop
-line-from-requires c κs = search needs
-
 -- where an iteration begins
 abbrev in-loop : tie.After-line-from Inv-loop μ-loop → tie.Then1 Inv-loop μ-loop
 in-loop c = c .before
@@ -58,9 +52,6 @@ there c = sym (c .before .is-ended .ensures) ∙ not-true _ (c .if1 .taken)
 verdict-on-requires : tie.Need-verdict-on-requires Inv-loop μ-loop
 verdict-on-requires c κs = ranged-places (report (in-loop c .before .before) .is-sound)
 
-enum-known-found : tie.Need-enum-known-found Inv-loop μ-loop
-enum-known-found c = search needs
-
 returns : tie.Need-returns Inv-loop μ-loop
 returns c =
     let call = c .before .before .before in
@@ -72,9 +63,6 @@ returns c =
           stops-before (l .loop .inv .0 helpers edge reference r) (l .loop .inv .1) (there test)
           (c .before .found .given .1) (call .verdict-on .ensures) (call .before .line-from .ensures);
     }
-
-enum-known-found-2 : tie.Need-enum-known-found-2 Inv-loop μ-loop
-enum-known-found-2 c = search needs
 
 packed-requires : tie.Need-packed-requires Inv-loop μ-loop
 packed-requires c κs = refused _
@@ -92,9 +80,6 @@ element-write-answers : tie.Need-element-write-answers Inv-loop μ-loop
 element-write-answers c =
     let test =
     at-test c in omega (arith, place-free (report (test .before .before)) (there test))
-
-next-from-requires : tie.Need-next-from-requires Inv-loop μ-loop
-next-from-requires c κs = search needs
 
 add-number : tie.Need-add-number Inv-loop μ-loop
 add-number c =
@@ -141,16 +126,16 @@ refuse-lines-spec =
     Inv-loop
     μ-loop
     loop-holds
-    is-ended-requires
-    line-from-requires
+    (λ c κs. search needs)
+    (λ c κs. search needs)
     verdict-on-requires
-    enum-known-found
+    (λ c. search needs)
     returns
-    enum-known-found-2
+    (λ c. search needs)
     packed-requires
     mul-answers
     element-write-answers
-    next-from-requires
+    (λ c κs. search needs)
     add-number
     loop-less
     loop-again

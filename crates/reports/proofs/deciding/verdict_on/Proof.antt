@@ -5,21 +5,6 @@ use Rattle.reports.proofs.Verdicts.{found-accepted, found-refused, foun
 use Rattle.reports.proofs.deciding.verdict_on.Statement.{statement}
 use Rattle.reports.proofs.deciding.verdict_on.Tie as tie
 
-enum-known-line : tie.Need-enum-known-line
-enum-known-line c = search needs
-
-admission-requires : tie.Need-admission-requires
-admission-requires c κs = search needs
-
-enum-told : tie.Need-enum-told
-enum-told c = search needs
-
-enum-known-outcome : tie.Need-enum-known-outcome
-enum-known-outcome c = search needs
-
-enum-known-line-2 : tie.Need-enum-known-line-2
-enum-known-line-2 c = search needs
-
 returns : tie.Need-returns
 returns c =
     let call = c .before .before in
@@ -39,11 +24,11 @@ pub verdict-on-spec : {M : Type 1} → statement M
 verdict-on-spec =
     tie.close
     (tie.spec
-    enum-known-line
-    admission-requires
-    enum-told
-    enum-known-outcome
-    enum-known-line-2
+    (λ c. search needs)
+    (λ c κs. search needs)
+    (λ c. search needs)
+    (λ c. search needs)
+    (λ c. search needs)
     returns
     returns-2
     returns-3)

@@ -8,27 +8,6 @@ use Rattle.reports.proofs.Packed.{small-values}
 use Rattle.reports.proofs.packing.packed.Statement.{statement}
 use Rattle.reports.proofs.packing.packed.Tie as tie
 
-enum-told : tie.Need-enum-told
-enum-told c = search needs
-
-cast-result : tie.Need-cast-result
-cast-result c = search needs
-
-enum-told-2 : tie.Need-enum-told-2
-enum-told-2 c = search needs
-
-cast-result-2 : tie.Need-cast-result-2
-cast-result-2 c = search needs
-
-enum-told-3 : tie.Need-enum-told-3
-enum-told-3 c = search needs
-
-cast-result-3 : tie.Need-cast-result-3
-cast-result-3 c = search needs
-
-enum-known-arrival : tie.Need-enum-known-arrival
-enum-known-arrival c = search needs
-
 -- what an outside arrival reports is small
 small : (c : tie.After-arrival) →
     let v = c .arrival .given .0 in SmallValues (v .0) (v .1 .0) (v .1 .1 .0)
@@ -51,12 +30,6 @@ add-result-3 c = let s = small (c .before) in omega arith
 
 cast-result-4 : tie.Need-cast-result-4
 cast-result-4 c = let s = small (c .before) in omega arith
-
-enum-known-arrival-2 : tie.Need-enum-known-arrival-2
-enum-known-arrival-2 c = search needs
-
-refusal-number-requires : tie.Need-refusal-number-requires
-refusal-number-requires c κs = search needs
 
 cast-result-5 : tie.Need-cast-result-5
 cast-result-5 c =
@@ -90,21 +63,21 @@ pub packed-spec : {M : Type 1} → statement M
 packed-spec =
     tie.close
     (tie.spec
-    enum-told
-    cast-result
-    enum-told-2
-    cast-result-2
-    enum-told-3
-    cast-result-3
-    enum-known-arrival
+    (λ c. search needs)
+    (λ c. search needs)
+    (λ c. search needs)
+    (λ c. search needs)
+    (λ c. search needs)
+    (λ c. search needs)
+    (λ c. search needs)
     add-result
     mul-result
     add-result-2
     mul-result-2
     add-result-3
     cast-result-4
-    enum-known-arrival-2
-    refusal-number-requires
+    (λ c. search needs)
+    (λ c κs. search needs)
     cast-result-5
     returns
     returns-2

@@ -8,9 +8,6 @@ use Rattle.reports.specs.Packing.{unpacked}
 use Rattle.reports.proofs.packing.unpacked.Statement.{statement}
 use Rattle.reports.proofs.packing.unpacked.Tie as tie
 
-refusal-of-requires : tie.Need-refusal-of-requires
-refusal-of-requires c κs = search needs
-
 returns : tie.Need-returns
 unfolding unpacked
 returns c = rw (lt-ltb _ 11 (c .before .if1 .taken)) (ap Arrival.Refused (c .refusal-of .ensures))
@@ -38,9 +35,6 @@ returns-4 c =
       eq-eqb _ 13 (c .if4 .taken),
     )
 
-sub-values : tie.Need-sub-values
-sub-values c = search needs
-
 returns-5 : tie.Need-returns-5
 unfolding unpacked
 returns-5 c =
@@ -54,4 +48,4 @@ returns-5 c =
 pub unpacked-spec : {M : Type 1} → statement M
 unpacked-spec =
     tie.close
-    (tie.spec refusal-of-requires returns returns-2 returns-3 returns-4 sub-values returns-5)
+    (tie.spec (λ c κs. search needs) returns returns-2 returns-3 returns-4 (λ c. search needs) returns-5)

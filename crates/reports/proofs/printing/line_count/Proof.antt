@@ -4,9 +4,6 @@ use Rattle.reports.specs.Lines.{line-count}
 use Rattle.reports.proofs.printing.line_count.Statement.{statement}
 use Rattle.reports.proofs.printing.line_count.Tie as tie
 
-add-result : tie.Need-add-result
-add-result c = search needs
-
 returns : tie.Need-returns
 unfolding line-count
 returns c = rw (c .if1 .taken)
@@ -16,4 +13,4 @@ unfolding line-count
 returns-2 c = rw (c .before .if1 .left)
 
 pub line-count-spec : {M : Type 1} → statement M
-line-count-spec = tie.close (tie.spec add-result returns returns-2)
+line-count-spec = tie.close (tie.spec (λ c. search needs) returns returns-2)

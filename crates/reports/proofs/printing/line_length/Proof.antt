@@ -18,25 +18,10 @@ returns : tie.Need-returns
 unfolding bytes
 returns c = ap length (header-is _ _ _ _ (c .if1 .taken))
 
-refused-length-requires : tie.Need-refused-length-requires
-refused-length-requires c κs = search needs
-
 returns-2 : tie.Need-returns-2
 returns-2 c =
     c .refused-length .ensures
     ∙ ap length (long-is _ _ _ _ (c .before .before .if1 .left) (c .before .if2 .taken))
-
-sub-i : tie.Need-sub-i
-sub-i c = search needs
-
-answer-at-requires : tie.Need-answer-at-requires
-answer-at-requires c κs = search needs
-
-unpacked-requires : tie.Need-unpacked-requires
-unpacked-requires c κs = search needs
-
-arrival-length-requires : tie.Need-arrival-length-requires
-arrival-length-requires c κs = search needs
 
 returns-3 : tie.Need-returns-3
 returns-3 c =
@@ -47,9 +32,6 @@ returns-3 c =
     ∙ ap length
     (ap (arrival-line _) (c .before .unpacked .ensures ∙ ap unpacked (read .answer-at .ensures))
     ∙ answer-is _ _ _ _ (else2 .before .if1 .left) (else2 .if2 .left) (test .if3 .taken))
-
-values-length-requires : tie.Need-values-length-requires
-values-length-requires c κs = search needs
 
 add-result : tie.Need-add-result
 add-result c =
@@ -66,12 +48,6 @@ returns-4 c =
     ∙ ap length
     (corners-is _ _ _ _ (else2 .before .if1 .left) (else2 .if2 .left) (else3 .if3 .left)
     (test .if4 .taken))
-
-slice-aggregate-values-length : tie.Need-slice-aggregate-values-length
-slice-aggregate-values-length c = search needs
-
-values-length-requires-2 : tie.Need-values-length-requires-2
-values-length-requires-2 c κs = search needs
 
 add-result-2 : tie.Need-add-result-2
 add-result-2 c =
@@ -95,17 +71,17 @@ line-length-spec =
     tie.close
     (tie.spec
     returns
-    refused-length-requires
+    (λ c κs. search needs)
     returns-2
-    sub-i
-    answer-at-requires
-    unpacked-requires
-    arrival-length-requires
+    (λ c. search needs)
+    (λ c κs. search needs)
+    (λ c κs. search needs)
+    (λ c κs. search needs)
     returns-3
-    values-length-requires
+    (λ c κs. search needs)
     add-result
     returns-4
-    slice-aggregate-values-length
-    values-length-requires-2
+    (λ c. search needs)
+    (λ c κs. search needs)
     add-result-2
     returns-5)

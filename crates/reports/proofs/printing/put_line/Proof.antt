@@ -13,17 +13,11 @@ use Rattle.reports.proofs.ReportLines.{header-is, long-is, answer-is, c
 use Rattle.reports.proofs.printing.put_line.Statement.{statement}
 use Rattle.reports.proofs.printing.put_line.Tie as tie
 
-slice-aggregate-put-word : tie.Need-slice-aggregate-put-word
-slice-aggregate-put-word c = search needs
-
 put-word-requires : tie.Need-put-word-requires
 unfolding bytes
 put-word-requires c κs =
     let test = c .before .before in
     room-as (sym (header-is _ _ _ _ (test .if1 .taken))) (test .before .before .before .before .pre)
-
-same-length : tie.Need-same-length
-same-length c = search needs
 
 returns : tie.Need-returns
 unfolding bytes
@@ -38,24 +32,12 @@ put-refused-requires c κs =
     room-as (sym (long-is _ _ _ _ (test .before .if1 .left) (test .if2 .taken)))
     (test .before .before .before .before .before .pre)
 
-same-length-2 : tie.Need-same-length-2
-same-length-2 c = search needs
-
 returns-2 : tie.Need-returns-2
 returns-2 c =
     let call = c .before .before in
     let test = call .before .before in
     wrote-as (sym (long-is _ _ _ _ (test .before .if1 .left) (test .if2 .taken)))
     (call .put-refused .ensures)
-
-sub-i : tie.Need-sub-i
-sub-i c = search needs
-
-answer-at-requires : tie.Need-answer-at-requires
-answer-at-requires c κs = search needs
-
-unpacked-requires : tie.Need-unpacked-requires
-unpacked-requires c κs = search needs
 
 -- the line of the answer that was read
 line-read : (c : tie.After-unpacked) →
@@ -74,16 +56,10 @@ put-arrival-requires c κs =
     room-as (line-read c)
     (c .before .before .before .before .before .before .before .before .before .before .pre)
 
-same-length-3 : tie.Need-same-length-3
-same-length-3 c = search needs
-
 returns-3 : tie.Need-returns-3
 returns-3 c =
     let call = c .before .before in
     wrote-as (line-read (call .before)) (call .put-arrival .ensures)
-
-slice-aggregate-put-answer : tie.Need-slice-aggregate-put-answer
-slice-aggregate-put-answer c = search needs
 
 put-answer-requires : tie.Need-put-answer-requires
 unfolding bytes
@@ -95,9 +71,6 @@ put-answer-requires c κs =
     (sym (corners-is _ _ _ _ (else2 .before .if1 .left) (else2 .if2 .left) (else3 .if3 .left)
     (test .if4 .taken)))
     (else2 .before .before .before .before .before .pre)
-
-same-length-4 : tie.Need-same-length-4
-same-length-4 c = search needs
 
 returns-4 : tie.Need-returns-4
 unfolding bytes
@@ -111,12 +84,6 @@ returns-4 c =
     (test .if4 .taken)))
     (call .put-answer .ensures)
 
-slice-aggregate-put-answer-2 : tie.Need-slice-aggregate-put-answer-2
-slice-aggregate-put-answer-2 c = search needs
-
-slice-aggregate-put-answer-3 : tie.Need-slice-aggregate-put-answer-3
-slice-aggregate-put-answer-3 c = search needs
-
 put-answer-requires-2 : tie.Need-put-answer-requires-2
 unfolding bytes
 put-answer-requires-2 c κs =
@@ -127,9 +94,6 @@ put-answer-requires-2 c κs =
     (sym (counts-is _ _ _ _ (else2 .before .if1 .left) (else2 .if2 .left) (else3 .if3 .left)
     (else4 .if4 .left)))
     (else2 .before .before .before .before .before .pre)
-
-same-length-5 : tie.Need-same-length-5
-same-length-5 c = search needs
 
 returns-5 : tie.Need-returns-5
 unfolding bytes
@@ -147,25 +111,25 @@ pub put-line-spec : {M : Type 1} → statement M
 put-line-spec =
     tie.close
     (tie.spec
-    slice-aggregate-put-word
+    (λ c. search needs)
     put-word-requires
-    same-length
+    (λ c. search needs)
     returns
     put-refused-requires
-    same-length-2
+    (λ c. search needs)
     returns-2
-    sub-i
-    answer-at-requires
-    unpacked-requires
+    (λ c. search needs)
+    (λ c κs. search needs)
+    (λ c κs. search needs)
     put-arrival-requires
-    same-length-3
+    (λ c. search needs)
     returns-3
-    slice-aggregate-put-answer
+    (λ c. search needs)
     put-answer-requires
-    same-length-4
+    (λ c. search needs)
     returns-4
-    slice-aggregate-put-answer-2
-    slice-aggregate-put-answer-3
+    (λ c. search needs)
+    (λ c. search needs)
     put-answer-requires-2
-    same-length-5
+    (λ c. search needs)
     returns-5)

@@ -15,14 +15,8 @@ Inv-loop lent₀ answers corners ends from count next₀ end₀ lent next end =
 abbrev μ-loop : tie.MeasureT-loop
 μ-loop lent₀ answers corners ends from count next₀ end₀ lent next end = count - next
 
-line-count-requires : tie.Need-line-count-requires Inv-loop μ-loop
-line-count-requires c κs = search needs
-
 loop-holds : tie.Need-loop-holds Inv-loop μ-loop
 loop-holds c = none-put _ _ _ _ _
-
-line-length-requires : tie.Need-line-length-requires Inv-loop μ-loop
-line-length-requires c κs = search needs
 
 sub-if1 : tie.Need-sub-if1 Inv-loop μ-loop
 sub-if1 c = let l = c .before .before in omega (arith, l .loop .inv .inside, l .loop .inv .long)
@@ -40,12 +34,6 @@ put-line-requires c κs =
     let test = c .before in
     put-room _ _ _ _ _ (test .before .before .before .loop .inv) _
     (test .before .line-length .ensures) (test .if1 .left)
-
-add-next : tie.Need-add-next Inv-loop μ-loop
-add-next c = search needs
-
-loop-less : tie.Need-loop-less Inv-loop μ-loop
-loop-less c = search needs
 
 loop-again : tie.Need-loop-again Inv-loop μ-loop
 loop-again c =
@@ -72,15 +60,15 @@ put-lines-spec =
     (tie.spec
     Inv-loop
     μ-loop
-    line-count-requires
+    (λ c κs. search needs)
     loop-holds
-    line-length-requires
+    (λ c κs. search needs)
     sub-if1
     same-length
     returns
     put-line-requires
-    add-next
-    loop-less
+    (λ c. search needs)
+    (λ c. search needs)
     loop-again
     same-length-2
     returns-2)

@@ -14,14 +14,8 @@ Inv-loop answers corners ends count total₀ j₀ total j = Totalled answers cor
 abbrev μ-loop : tie.MeasureT-loop
 μ-loop answers corners ends count total₀ j₀ total j = count - j
 
-line-count-requires : tie.Need-line-count-requires Inv-loop μ-loop
-line-count-requires c κs = search needs
-
 loop-holds : tie.Need-loop-holds Inv-loop μ-loop
 loop-holds c = none-totalled _ _ _
-
-line-length-requires : tie.Need-line-length-requires Inv-loop μ-loop
-line-length-requires c κs = search needs
 
 -- the position lies before the end
 before-end : (c : tie.After-line-length Inv-loop μ-loop) →
@@ -39,12 +33,6 @@ add-total c =
           (s .pre .0) (s .pre .1),
     )
 
-add-j : tie.Need-add-j Inv-loop μ-loop
-add-j c = search needs
-
-loop-less : tie.Need-loop-less Inv-loop μ-loop
-loop-less c = search needs
-
 loop-again : tie.Need-loop-again Inv-loop μ-loop
 loop-again c =
     one-totalled _ _ _ (c .before .before .loop .inv) (before-end c) _ (c .line-length .ensures)
@@ -60,11 +48,11 @@ total-length-spec =
     (tie.spec
     Inv-loop
     μ-loop
-    line-count-requires
+    (λ c κs. search needs)
     loop-holds
-    line-length-requires
+    (λ c κs. search needs)
     add-total
-    add-j
-    loop-less
+    (λ c. search needs)
+    (λ c. search needs)
     loop-again
     returns)

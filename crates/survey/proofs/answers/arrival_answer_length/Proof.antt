@@ -14,24 +14,6 @@ use borrow.Author.Needs.{needs}
 use Rattle.survey.proofs.answers.arrival_answer_length.Statement.{statement}
 use Rattle.survey.proofs.answers.arrival_answer_length.Tie as tie
 
-enum-told : tie.Need-enum-told
-enum-told c = search needs
-
-enum-told-2 : tie.Need-enum-told-2
-enum-told-2 c = search needs
-
-enum-told-3 : tie.Need-enum-told-3
-enum-told-3 c = search needs
-
-enum-known-arrival : tie.Need-enum-known-arrival
-enum-known-arrival c = search needs
-
-slice-aggregate-values-length : tie.Need-slice-aggregate-values-length
-slice-aggregate-values-length c = search needs
-
-values-length-requires : tie.Need-values-length-requires
-values-length-requires c κs = search needs
-
 abbrev line : Arrival → List ℕ
 line a = printed (arrival-answer a)
 
@@ -55,12 +37,6 @@ add-result c = omega (
   arrival-most (c .before .before .before .before .before
       .args .arrival),
 )
-
-enum-known-arrival-2 : tie.Need-enum-known-arrival-2
-enum-known-arrival-2 c = search needs
-
-refused-length-requires : tie.Need-refused-length-requires
-refused-length-requires c κs = search needs
 
 returns : tie.Need-returns
 unfolding answer-line bytes spaced
@@ -87,15 +63,15 @@ pub arrival-answer-length-spec : {M : Type 1} → statement M
 arrival-answer-length-spec =
     tie.close
     (tie.spec
-    enum-told
-    enum-told-2
-    enum-told-3
-    enum-known-arrival
-    slice-aggregate-values-length
-    values-length-requires
+    (λ c. search needs)
+    (λ c. search needs)
+    (λ c. search needs)
+    (λ c. search needs)
+    (λ c. search needs)
+    (λ c κs. search needs)
     add-result
-    enum-known-arrival-2
-    refused-length-requires
+    (λ c. search needs)
+    (λ c κs. search needs)
     returns
     returns-2
     returns-3

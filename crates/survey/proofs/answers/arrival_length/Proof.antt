@@ -11,14 +11,8 @@ use borrow.Author.Needs.{needs}
 use Rattle.survey.proofs.answers.arrival_length.Statement.{statement}
 use Rattle.survey.proofs.answers.arrival_length.Tie as tie
 
-natural-length-requires : tie.Need-natural-length-requires
-natural-length-requires c κs = search needs
-
 add-result : tie.Need-add-result
 add-result c = omega (arith, c .natural-length .ensures, spelt-length (c .before .args .line))
-
-arrival-answer-length-requires : tie.Need-arrival-answer-length-requires
-arrival-answer-length-requires c κs = search needs
 
 whole : (c : tie.After-arrival-answer-length) →
     let a = c .before .before .args in
@@ -49,8 +43,8 @@ pub arrival-length-spec : {M : Type 1} → statement M
 arrival-length-spec =
     tie.close
     (tie.spec
-    natural-length-requires
+    (λ c κs. search needs)
     add-result
-    arrival-answer-length-requires
+    (λ c κs. search needs)
     add-result-2
     returns)

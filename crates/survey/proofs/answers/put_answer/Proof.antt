@@ -48,9 +48,6 @@ put-byte-requires c κs =
     let begin = call .before .before .before .before .before .before .before .before .before in
     room-second (both call) (line-feed ∷ []) (begin .pre)
 
-same-length : tie.Need-same-length
-same-length c = search needs
-
 returns : tie.Need-returns
 unfolding answer-line
 returns c =
@@ -62,4 +59,4 @@ returns c =
 pub put-answer-spec : {M : Type 1} → statement M
 put-answer-spec =
     tie.close
-    (tie.spec put-word-requires put-values-requires put-byte-requires same-length returns)
+    (tie.spec put-word-requires put-values-requires put-byte-requires (λ c. search needs) returns)

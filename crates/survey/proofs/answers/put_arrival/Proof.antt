@@ -34,9 +34,6 @@ put-arrival-answer-requires c κs =
     let call = c .before .before .before in
     room-second (call .put-byte .ensures) _ (rest-room (call .before .before .before .before))
 
-same-length : tie.Need-same-length
-same-length c = search needs
-
 returns : tie.Need-returns
 unfolding arrival-line
 returns c =
@@ -53,5 +50,5 @@ put-arrival-spec =
     put-natural-requires
     put-byte-requires
     put-arrival-answer-requires
-    same-length
+    (λ c. search needs)
     returns)

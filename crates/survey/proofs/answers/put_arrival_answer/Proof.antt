@@ -12,12 +12,6 @@ use borrow.Author.Needs.{needs}
 use Rattle.survey.proofs.answers.put_arrival_answer.Statement.{statement}
 use Rattle.survey.proofs.answers.put_arrival_answer.Tie as tie
 
-enum-told : tie.Need-enum-told
-enum-told c = search needs
-
-slice-aggregate-put-line : tie.Need-slice-aggregate-put-line
-slice-aggregate-put-line c = search needs
-
 abbrev line : Arrival → List ℕ
 line a = printed (arrival-answer a)
 
@@ -27,38 +21,17 @@ put-line-requires c κs =
     let told = c .before .before in
     room-as (ap line (told .enum-told .given .1) ∙ first-line) (told .before .before .before .pre)
 
-enum-told-2 : tie.Need-enum-told-2
-enum-told-2 c = search needs
-
-slice-aggregate-put-line-2 : tie.Need-slice-aggregate-put-line-2
-slice-aggregate-put-line-2 c = search needs
-
 put-line-requires-2 : tie.Need-put-line-requires-2
 unfolding bytes
 put-line-requires-2 c κs =
     let told = c .before .before in
     room-as (ap line (told .enum-told2 .given .1) ∙ second-line) (told .before .before .before .pre)
 
-enum-told-3 : tie.Need-enum-told-3
-enum-told-3 c = search needs
-
-slice-aggregate-put-line-3 : tie.Need-slice-aggregate-put-line-3
-slice-aggregate-put-line-3 c = search needs
-
 put-line-requires-3 : tie.Need-put-line-requires-3
 unfolding bytes
 put-line-requires-3 c κs =
     let told = c .before .before in
     room-as (ap line (told .enum-told3 .given .1) ∙ inside-line) (told .before .before .before .pre)
-
-enum-known-arrival : tie.Need-enum-known-arrival
-enum-known-arrival c = search needs
-
-slice-aggregate-put-answer : tie.Need-slice-aggregate-put-answer
-slice-aggregate-put-answer c = search needs
-
-slice-aggregate-put-answer-2 : tie.Need-slice-aggregate-put-answer-2
-slice-aggregate-put-answer-2 c = search needs
 
 put-answer-requires : tie.Need-put-answer-requires
 unfolding bytes
@@ -68,17 +41,11 @@ put-answer-requires c κs =
     room-as (ap line (told .arrival .given .1) ∙ outside-line (v .0) (v .1 .0) (v .1 .1 .0))
     (told .before .before .before .pre)
 
-enum-known-arrival-2 : tie.Need-enum-known-arrival-2
-enum-known-arrival-2 c = search needs
-
 put-refused-requires : tie.Need-put-refused-requires
 put-refused-requires c κs =
     let told = c .before .before in
     room-as (ap line (told .arrival2 .given .1) ∙ refused-arrival (told .arrival2 .given .0 .0))
     (told .before .before .before .pre)
-
-same-length : tie.Need-same-length
-same-length c = search needs
 
 returns : tie.Need-returns
 unfolding bytes
@@ -87,9 +54,6 @@ returns c =
     let told = call .before .before .before in
     wrote-as (ap line (told .enum-told .given .1) ∙ first-line) (call .put-line .ensures)
 
-same-length-2 : tie.Need-same-length-2
-same-length-2 c = search needs
-
 returns-2 : tie.Need-returns-2
 unfolding bytes
 returns-2 c =
@@ -97,18 +61,12 @@ returns-2 c =
     let told = call .before .before .before in
     wrote-as (ap line (told .enum-told2 .given .1) ∙ second-line) (call .put-line2 .ensures)
 
-same-length-3 : tie.Need-same-length-3
-same-length-3 c = search needs
-
 returns-3 : tie.Need-returns-3
 unfolding bytes
 returns-3 c =
     let call = c .before .before in
     let told = call .before .before .before in
     wrote-as (ap line (told .enum-told3 .given .1) ∙ inside-line) (call .put-line3 .ensures)
-
-same-length-4 : tie.Need-same-length-4
-same-length-4 c = search needs
 
 returns-4 : tie.Need-returns-4
 unfolding bytes
@@ -118,9 +76,6 @@ returns-4 c =
     let v = told .arrival .given .0 in
     wrote-as (ap line (told .arrival .given .1) ∙ outside-line (v .0) (v .1 .0) (v .1 .1 .0))
     (call .put-answer .ensures)
-
-same-length-5 : tie.Need-same-length-5
-same-length-5 c = search needs
 
 returns-5 : tie.Need-returns-5
 returns-5 c =
@@ -133,28 +88,28 @@ pub put-arrival-answer-spec : {M : Type 1} → statement M
 put-arrival-answer-spec =
     tie.close
     (tie.spec
-    enum-told
-    slice-aggregate-put-line
+    (λ c. search needs)
+    (λ c. search needs)
     put-line-requires
-    enum-told-2
-    slice-aggregate-put-line-2
+    (λ c. search needs)
+    (λ c. search needs)
     put-line-requires-2
-    enum-told-3
-    slice-aggregate-put-line-3
+    (λ c. search needs)
+    (λ c. search needs)
     put-line-requires-3
-    enum-known-arrival
-    slice-aggregate-put-answer
-    slice-aggregate-put-answer-2
+    (λ c. search needs)
+    (λ c. search needs)
+    (λ c. search needs)
     put-answer-requires
-    enum-known-arrival-2
+    (λ c. search needs)
     put-refused-requires
-    same-length
+    (λ c. search needs)
     returns
-    same-length-2
+    (λ c. search needs)
     returns-2
-    same-length-3
+    (λ c. search needs)
     returns-3
-    same-length-4
+    (λ c. search needs)
     returns-4
-    same-length-5
+    (λ c. search needs)
     returns-5)

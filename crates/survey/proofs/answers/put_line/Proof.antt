@@ -27,9 +27,6 @@ put-byte-requires c κs =
     room-second (call .put-word .ensures) (line-feed ∷ []) (room-as (line-is (begin .args .word
     .now)) (begin .pre))
 
-same-length : tie.Need-same-length
-same-length c = search needs
-
 returns : tie.Need-returns
 returns c =
     let last = c .before .before in
@@ -40,4 +37,4 @@ returns c =
     .put-byte .ensures))
 
 pub put-line-spec : {M : Type 1} → statement M
-put-line-spec = tie.close (tie.spec put-word-requires put-byte-requires same-length returns)
+put-line-spec = tie.close (tie.spec put-word-requires put-byte-requires (λ c. search needs) returns)

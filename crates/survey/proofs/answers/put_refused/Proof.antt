@@ -7,24 +7,12 @@ use borrow.Author.Needs.{needs}
 use Rattle.survey.proofs.answers.put_refused.Statement.{statement}
 use Rattle.survey.proofs.answers.put_refused.Tie as tie
 
-refusal-number-requires : tie.Need-refusal-number-requires
-refusal-number-requires c κs = search needs
-
-slice-aggregate-put-answer : tie.Need-slice-aggregate-put-answer
-slice-aggregate-put-answer c = search needs
-
-slice-aggregate-put-answer-2 : tie.Need-slice-aggregate-put-answer-2
-slice-aggregate-put-answer-2 c = search needs
-
 put-answer-requires : tie.Need-put-answer-requires
 unfolding bytes
 put-answer-requires c κs =
     let found = c .before .before .before in
     let begin = found .before .before in
     room-as (refused-as (begin .args .refusal) _ (found .refusal-number .ensures)) (begin .pre)
-
-same-length : tie.Need-same-length
-same-length c = search needs
 
 returns : tie.Need-returns
 unfolding bytes
@@ -39,9 +27,9 @@ pub put-refused-spec : {M : Type 1} → statement M
 put-refused-spec =
     tie.close
     (tie.spec
-    refusal-number-requires
-    slice-aggregate-put-answer
-    slice-aggregate-put-answer-2
+    (λ c κs. search needs)
+    (λ c. search needs)
+    (λ c. search needs)
     put-answer-requires
-    same-length
+    (λ c. search needs)
     returns)

@@ -4,15 +4,6 @@ use borrow.Author.Needs.{needs}
 use Rattle.survey.proofs.answers.put_value.Statement.{statement}
 use Rattle.survey.proofs.answers.put_value.Tie as tie
 
-put-byte-requires : tie.Need-put-byte-requires
-put-byte-requires c κs = search needs
-
-put-natural-requires : tie.Need-put-natural-requires
-put-natural-requires c κs = search needs
-
-same-length : tie.Need-same-length
-same-length c = search needs
-
 returns : tie.Need-returns
 returns c =
     let last = c .before .before in
@@ -21,4 +12,4 @@ returns c =
     wrote-then (call .put-byte .ensures) (begin .pre) (last .put-natural .ensures)
 
 pub put-value-spec : {M : Type 1} → statement M
-put-value-spec = tie.close (tie.spec put-byte-requires put-natural-requires same-length returns)
+put-value-spec = tie.close (tie.spec (λ c κs. search needs) (λ c κs. search needs) (λ c. search needs) returns)

@@ -17,24 +17,12 @@ abbrev μ-loop : tie.MeasureT-loop
 loop-holds : tie.Need-loop-holds Inv-loop μ-loop
 loop-holds c = printed-none (c .before .before .args .values .now) (c .before .before .pre)
 
-mul-put-value : tie.Need-mul-put-value Inv-loop μ-loop
-mul-put-value c = search needs
-
-shared-slice-read-put-value : tie.Need-shared-slice-read-put-value Inv-loop μ-loop
-shared-slice-read-put-value c = search needs
-
 put-value-requires : tie.Need-put-value-requires Inv-loop μ-loop
 put-value-requires c κs =
     let body = c .before .before in
     let l = body .before in
     let begin = l .before .before .before in
     value-room (begin .args .values .now) (begin .pre) (l .loop .inv) (body .loop-test .taken)
-
-add-i : tie.Need-add-i Inv-loop μ-loop
-add-i c = search needs
-
-loop-less : tie.Need-loop-less Inv-loop μ-loop
-loop-less c = omega arith
 
 loop-again : tie.Need-loop-again Inv-loop μ-loop
 loop-again c =
@@ -64,11 +52,11 @@ put-values-spec =
     Inv-loop
     μ-loop
     loop-holds
-    mul-put-value
-    shared-slice-read-put-value
+    (λ c. search needs)
+    (λ c. search needs)
     put-value-requires
-    add-i
-    loop-less
+    (λ c. search needs)
+    (λ c. omega arith)
     loop-again
     same-length
     returns)

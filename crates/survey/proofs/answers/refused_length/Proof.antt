@@ -13,15 +13,6 @@ use borrow.Author.Needs.{needs}
 use Rattle.survey.proofs.answers.refused_length.Statement.{statement}
 use Rattle.survey.proofs.answers.refused_length.Tie as tie
 
-refusal-number-requires : tie.Need-refusal-number-requires
-refusal-number-requires c κs = search needs
-
-slice-aggregate-values-length : tie.Need-slice-aggregate-values-length
-slice-aggregate-values-length c = search needs
-
-values-length-requires : tie.Need-values-length-requires
-values-length-requires c κs = search needs
-
 whole : (c : tie.After-values-length) → 8 + c .values-length .result ≡ length (printed (refused
     (c .before .before .before .args .refusal)))
 unfolding bytes
@@ -44,8 +35,8 @@ pub refused-length-spec : {M : Type 1} → statement M
 refused-length-spec =
     tie.close
     (tie.spec
-    refusal-number-requires
-    slice-aggregate-values-length
-    values-length-requires
+    (λ c κs. search needs)
+    (λ c. search needs)
+    (λ c κs. search needs)
     add-result
     returns)

@@ -22,15 +22,6 @@ loop-holds : tie.Need-loop-holds Inv-loop μ-loop
 unfolding spaced
 loop-holds c = (refl, omega arith)
 
-mul-natural-length : tie.Need-mul-natural-length Inv-loop μ-loop
-mul-natural-length c = search needs
-
-shared-slice-read-natural-length : tie.Need-shared-slice-read-natural-length Inv-loop μ-loop
-shared-slice-read-natural-length c = search needs
-
-natural-length-requires : tie.Need-natural-length-requires Inv-loop μ-loop
-natural-length-requires c κs = search needs
-
 -- the length with one more value, and how large it is
 next : (c : tie.After-natural-length Inv-loop μ-loop) →
     let l = c .before .before .before in
@@ -66,12 +57,6 @@ add-total c = omega (arith, next c, few c)
 add-total-2 : tie.Need-add-total-2 Inv-loop μ-loop
 add-total-2 c = omega (arith, next c, few c)
 
-add-i : tie.Need-add-i Inv-loop μ-loop
-add-i c = search needs
-
-loop-less : tie.Need-loop-less Inv-loop μ-loop
-loop-less c = omega arith
-
 loop-again : tie.Need-loop-again Inv-loop μ-loop
 loop-again c = (next c, omega arith)
 
@@ -86,12 +71,12 @@ values-length-spec =
     Inv-loop
     μ-loop
     loop-holds
-    mul-natural-length
-    shared-slice-read-natural-length
-    natural-length-requires
+    (λ c. search needs)
+    (λ c. search needs)
+    (λ c κs. search needs)
     add-total
     add-total-2
-    add-i
-    loop-less
+    (λ c. search needs)
+    (λ c. omega arith)
     loop-again
     returns)

@@ -8,22 +8,10 @@ use borrow.Author.Needs.{needs}
 use Rattle.survey.proofs.lines.line_at.Statement.{statement}
 use Rattle.survey.proofs.lines.line_at.Tie as tie
 
-line-end-requires : tie.Need-line-end-requires
-line-end-requires c κs = search needs
-
-sub-read-line : tie.Need-sub-read-line
-sub-read-line c = search needs
-
-part-read-line-start : tie.Need-part-read-line-start
-part-read-line-start c = search needs
-
 part-read-line-end : tie.Need-part-read-line-end
 part-read-line-end c =
     let a = c .before .before .before .args in
     line-inside (a .text .now) (a .at) _ (c .before .line-end .ensures) (c .if1 .taken)
-
-read-line-requires : tie.Need-read-line-requires
-read-line-requires c κs = search needs
 
 returns : tie.Need-returns
 unfolding line-at
@@ -44,10 +32,10 @@ pub line-at-spec : {M : Type 1} → statement M
 line-at-spec =
     tie.close
     (tie.spec
-    line-end-requires
-    sub-read-line
-    part-read-line-start
+    (λ c κs. search needs)
+    (λ c. search needs)
+    (λ c. search needs)
     part-read-line-end
-    read-line-requires
+    (λ c κs. search needs)
     returns
     returns-2)

@@ -4,12 +4,9 @@ use Rattle.survey.specs.Places.{line-bytes, line-end}
 use Rattle.survey.proofs.lines.line_end.Statement.{statement}
 use Rattle.survey.proofs.lines.line_end.Tie as tie
 
-place-of-requires : tie.Need-place-of-requires
-place-of-requires c κs = search needs
-
 returns : tie.Need-returns
 unfolding line-end line-bytes
 returns c = c .place-of .ensures
 
 pub line-end-spec : {M : Type 1} → statement M
-line-end-spec = tie.close (tie.spec place-of-requires returns)
+line-end-spec = tie.close (tie.spec (λ c κs. search needs) returns)

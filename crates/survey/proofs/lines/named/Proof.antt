@@ -7,18 +7,6 @@ use borrow.Author.Needs.{needs}
 use Rattle.survey.proofs.lines.named.Statement.{statement}
 use Rattle.survey.proofs.lines.named.Tie as tie
 
-enum-known-x : tie.Need-enum-known-x
-enum-known-x c = search needs
-
-enum-known-y : tie.Need-enum-known-y
-enum-known-y c = search needs
-
-enum-told : tie.Need-enum-told
-enum-told c = search needs
-
-enum-told-2 : tie.Need-enum-told-2
-enum-told-2 c = search needs
-
 returns : tie.Need-returns
 unfolding named
 returns c =
@@ -43,4 +31,4 @@ returns-3 c = sym (rw (c .enum-told2 .given .1))
 pub named-spec : {M : Type 1} → statement M
 named-spec =
     tie.close
-    (tie.spec enum-known-x enum-known-y enum-told enum-told-2 returns returns-2 returns-3)
+    (tie.spec (λ c. search needs) (λ c. search needs) (λ c. search needs) (λ c. search needs) returns returns-2 returns-3)

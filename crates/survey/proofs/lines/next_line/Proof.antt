@@ -5,12 +5,6 @@ use Rattle.survey.specs.Places.{next-line}
 use Rattle.survey.proofs.lines.next_line.Statement.{statement}
 use Rattle.survey.proofs.lines.next_line.Tie as tie
 
-line-end-requires : tie.Need-line-end-requires
-line-end-requires c κs = search needs
-
-add-result : tie.Need-add-result
-add-result c = search needs
-
 returns : tie.Need-returns
 unfolding next-line
 returns c =
@@ -22,4 +16,4 @@ returns-2 c =
     rw (← c .before .line-end .ensures, le-ltb _ _ (c .if1 .left))
 
 pub next-line-spec : {M : Type 1} → statement M
-next-line-spec = tie.close (tie.spec line-end-requires add-result returns returns-2)
+next-line-spec = tie.close (tie.spec (λ c κs. search needs) (λ c. search needs) returns returns-2)

@@ -16,15 +16,6 @@ use borrow.Author.Needs.{needs}
 use Rattle.survey.proofs.lines.read_line.Statement.{statement}
 use Rattle.survey.proofs.lines.read_line.Tie as tie
 
-front-number-requires : tie.Need-front-number-requires
-front-number-requires c κs = search needs
-
-enum-known-first : tie.Need-enum-known-first
-enum-known-first c = search needs
-
-byte-at-requires : tie.Need-byte-at-requires
-byte-at-requires c κs = search needs
-
 -- the front is a number
 module _ (c : tie.After-first) where
   abbrev line : List ℕ
@@ -53,18 +44,6 @@ sub-read-number c = omega (arith, inside c)
 part-read-number-start : tie.Need-part-read-number-start
 part-read-number-start c = omega (arith, inside c)
 
-part-read-number-end : tie.Need-part-read-number-end
-part-read-number-end c = search needs
-
-read-number-requires : tie.Need-read-number-requires
-read-number-requires c κs = search needs
-
-named-requires : tie.Need-named-requires
-named-requires c κs = search needs
-
-enum-told : tie.Need-enum-told
-enum-told c = search needs
-
 returns : tie.Need-returns
 returns c =
     let call = c .before in
@@ -90,16 +69,16 @@ pub read-line-spec : {M : Type 1} → statement M
 read-line-spec =
     tie.close
     (tie.spec
-    front-number-requires
-    enum-known-first
-    byte-at-requires
+    (λ c κs. search needs)
+    (λ c. search needs)
+    (λ c κs. search needs)
     add-read-number
     sub-read-number
     part-read-number-start
-    part-read-number-end
-    read-number-requires
-    named-requires
-    enum-told
+    (λ c. search needs)
+    (λ c κs. search needs)
+    (λ c κs. search needs)
+    (λ c. search needs)
     returns
     returns-2
     returns-3)

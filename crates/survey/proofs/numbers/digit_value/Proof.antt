@@ -9,11 +9,5 @@ use Rattle.survey.proofs.numbers.digit_value.Tie as tie
 sub-result : tie.Need-sub-result
 sub-result c = omega (arith, digit-small (c .args .b) (c .pre))
 
-cast-result : tie.Need-cast-result
-cast-result c = search needs
-
-returns : tie.Need-returns
-returns c = search needs
-
 pub digit-value-spec : {M : Type 1} → statement M
-digit-value-spec = tie.close (tie.spec sub-result cast-result returns)
+digit-value-spec = tie.close (tie.spec sub-result (λ c. search needs) (λ c. search needs))

@@ -26,12 +26,6 @@ abbrev μ-loop : tie.MeasureT-loop
 loop-holds : tie.Need-loop-holds Inv-loop μ-loop
 loop-holds c = (valued-none _, omega arith)
 
-shared-slice-read-b : tie.Need-shared-slice-read-b Inv-loop μ-loop
-shared-slice-read-b c = search needs
-
-is-digit-requires : tie.Need-is-digit-requires Inv-loop μ-loop
-is-digit-requires c κs = search needs
-
 -- a digit was found at place `count`
 module _ (c : tie.Else1 Inv-loop μ-loop) where
   abbrev in-loop : tie.In-loop Inv-loop μ-loop
@@ -64,16 +58,10 @@ digit-value-requires c κs = of-true _ (found c)
 add-value : tie.Need-add-value Inv-loop μ-loop
 add-value c = omega (arith, c .digit-value .ensures, next-small (c .before))
 
-add-count : tie.Need-add-count Inv-loop μ-loop
-add-count c = search needs
-
 returns : tie.Need-returns Inv-loop μ-loop
 returns c =
     sym (magnitude-none _ (λ t.
     omega (arith, next (c .before .before) .counted, c .if2 .taken, magnitude-digits _ t .few)))
-
-loop-less : tie.Need-loop-less Inv-loop μ-loop
-loop-less c = omega arith
 
 loop-again : tie.Need-loop-again Inv-loop μ-loop
 loop-again c = (rw (c .before .digit-value .ensures) (next (c .before .before)), omega arith)
@@ -97,9 +85,6 @@ shared-slice-read-has-no-leading-zero :
 shared-slice-read-has-no-leading-zero c =
     omega (arith, c .before .if3 .left, c .before .before .before .loop .inv .0 .inside)
 
-has-no-leading-zero-requires : tie.Need-has-no-leading-zero-requires Inv-loop μ-loop
-has-no-leading-zero-requires c κs = search needs
-
 returns-3 : tie.Need-returns-3 Inv-loop μ-loop
 returns-3 c =
     let some = c .before .before .before in
@@ -120,17 +105,17 @@ front-digits-spec =
     Inv-loop
     μ-loop
     loop-holds
-    shared-slice-read-b
-    is-digit-requires
+    (λ c. search needs)
+    (λ c κs. search needs)
     mul-value
     digit-value-requires
     add-value
-    add-count
+    (λ c. search needs)
     returns
-    loop-less
+    (λ c. omega arith)
     loop-again
     returns-2
     shared-slice-read-has-no-leading-zero
-    has-no-leading-zero-requires
+    (λ c κs. search needs)
     returns-3
     returns-4)

@@ -22,9 +22,6 @@ use borrow.Author.Needs.{needs}
 use Rattle.survey.proofs.numbers.front_number.Statement.{statement}
 use Rattle.survey.proofs.numbers.front_number.Tie as tie
 
-shared-slice-read-negative : tie.Need-shared-slice-read-negative
-shared-slice-read-negative c = search needs
-
 -- `negative` says whether there is a minus
 sign : (c : tie.Joined1) → has-minus (c .before .before .args .s .now) ≡ c .if1 .negative
 unfolding has-minus
@@ -50,15 +47,6 @@ sub-front-digits c = begins (c .before) .inside
 
 part-front-digits-start : tie.Need-part-front-digits-start
 part-front-digits-start c = begins (c .before) .inside
-
-part-front-digits-end : tie.Need-part-front-digits-end
-part-front-digits-end c = search needs
-
-front-digits-requires : tie.Need-front-digits-requires
-front-digits-requires c κs = search needs
-
-enum-known-magnitude : tie.Need-enum-known-magnitude
-enum-known-magnitude c = search needs
 
 -- the magnitude as the machine has it after the cast, and its negation
 module _ (m : ℕ) (small : m < 10 ^ digit-limit) where
@@ -116,9 +104,6 @@ returns-2 c =
 cast-t22 : tie.Need-cast-t22
 cast-t22 c = fits w64 tt (magnitude _ (what (c .before .before) .small))
 
-enum-told : tie.Need-enum-told
-enum-told c = search needs
-
 returns-3 : tie.Need-returns-3
 returns-3 c =
     let told = c .before .before in
@@ -137,18 +122,18 @@ pub front-number-spec : {M : Type 1} → statement M
 front-number-spec =
     tie.close
     (tie.spec
-    shared-slice-read-negative
+    (λ c. search needs)
     sub-front-digits
     part-front-digits-start
-    part-front-digits-end
-    front-digits-requires
-    enum-known-magnitude
+    (λ c. search needs)
+    (λ c κs. search needs)
+    (λ c. search needs)
     returns
     cast-t19
     sub-t20
     add-t21
     returns-2
     cast-t22
-    enum-told
+    (λ c. search needs)
     returns-3
     returns-4)

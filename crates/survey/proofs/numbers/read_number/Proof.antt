@@ -9,15 +9,6 @@ use borrow.Author.Needs.{needs}
 use Rattle.survey.proofs.numbers.read_number.Statement.{statement}
 use Rattle.survey.proofs.numbers.read_number.Tie as tie
 
-front-number-requires : tie.Need-front-number-requires
-front-number-requires c κs = search needs
-
-enum-known-front : tie.Need-enum-known-front
-enum-known-front c = search needs
-
-enum-told : tie.Need-enum-told
-enum-told c = search needs
-
 -- the front is a number
 what : (c : tie.After-front) →
     let v = c .front .given .0 in
@@ -41,4 +32,4 @@ returns-3 c =
 pub read-number-spec : {M : Type 1} → statement M
 read-number-spec =
     tie.close
-    (tie.spec front-number-requires enum-known-front enum-told returns returns-2 returns-3)
+    (tie.spec (λ c κs. search needs) (λ c. search needs) (λ c. search needs) returns returns-2 returns-3)

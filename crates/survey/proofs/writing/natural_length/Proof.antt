@@ -50,9 +50,6 @@ loop-holds c =
 add-count : tie.Need-add-count Inv-loop μ-loop
 add-count c = omega (arith, spelt-length (c .before .before .before .before .before .before .before .args .n))
 
-loop-less : tie.Need-loop-less Inv-loop μ-loop
-loop-less c = omega arith
-
 loop-again : tie.Need-loop-again Inv-loop μ-loop
 loop-again c =
     (omega (arith, length-more (c .before .loop .rest) (c .loop-test .taken) (omega arith)), omega arith)
@@ -73,6 +70,6 @@ natural-length-spec =
     returns-5
     loop-holds
     add-count
-    loop-less
+    (λ c. omega arith)
     loop-again
     returns-6)

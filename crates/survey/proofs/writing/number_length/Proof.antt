@@ -9,12 +9,6 @@ use borrow.Author.Needs.{needs}
 use Rattle.survey.proofs.writing.number_length.Statement.{statement}
 use Rattle.survey.proofs.writing.number_length.Tie as tie
 
-magnitude-requires : tie.Need-magnitude-requires
-magnitude-requires c κs = search needs
-
-natural-length-requires : tie.Need-natural-length-requires
-natural-length-requires c κs = search needs
-
 add-result : tie.Need-add-result
 add-result c = omega (
   arith,
@@ -22,12 +16,6 @@ add-result c = omega (
   spelt-length (c .before .magnitude
       .result),
 )
-
-magnitude-requires-2 : tie.Need-magnitude-requires-2
-magnitude-requires-2 c κs = search needs
-
-natural-length-requires-2 : tie.Need-natural-length-requires-2
-natural-length-requires-2 c κs = search needs
 
 returns : tie.Need-returns
 returns c =
@@ -50,10 +38,10 @@ pub number-length-spec : {M : Type 1} → statement M
 number-length-spec =
     tie.close
     (tie.spec
-    magnitude-requires
-    natural-length-requires
+    (λ c κs. search needs)
+    (λ c κs. search needs)
     add-result
-    magnitude-requires-2
-    natural-length-requires-2
+    (λ c κs. search needs)
+    (λ c κs. search needs)
     returns
     returns-2)

@@ -16,9 +16,6 @@ Inv-loop lent₀ at n end rest₀ place₀ lent rest place = Backwards lent₀ a
 abbrev μ-loop : tie.MeasureT-loop
 μ-loop lent₀ at n end rest₀ place₀ lent rest place = rest
 
-natural-length-requires : tie.Need-natural-length-requires Inv-loop μ-loop
-natural-length-requires c κs = search needs
-
 add-end : tie.Need-add-end Inv-loop μ-loop
 add-end c = omega (arith, c .natural-length .ensures, c .before .before .pre .room)
 
@@ -31,9 +28,6 @@ loop-holds c =
     let begin = c .before .before in
     backwards-none (begin .pre) (omega arith)
     (ap (λ (k : ℕ). begin .args .at + k) (c .natural-length .ensures))
-
-digit-requires : tie.Need-digit-requires Inv-loop μ-loop
-digit-requires c κs = omega arith
 
 -- at the head of the loop
 module _ (c : tie.At-loop Inv-loop μ-loop) where
@@ -52,17 +46,11 @@ sub-place-2 c =
     backwards-some (begin at-loop .pre) (omega arith) (at-loop .loop .inv)
     (c .before .loop-test .taken)
 
-loop-less : tie.Need-loop-less Inv-loop μ-loop
-loop-less c = omega arith
-
 loop-again : tie.Need-loop-again Inv-loop μ-loop
 loop-again c =
     let at-loop = c .before .before in
     backwards-more (begin at-loop .pre) (omega arith) (at-loop .loop .inv)
     (c .before .loop-test .taken) (c .digit .ensures)
-
-digit-requires-2 : tie.Need-digit-requires-2 Inv-loop μ-loop
-digit-requires-2 c κs = omega arith
 
 slice-write-lent-2 : tie.Need-slice-write-lent-2 Inv-loop μ-loop
 slice-write-lent-2 c = inside (c .before .before)
@@ -85,16 +73,16 @@ put-natural-spec =
     (tie.spec
     Inv-loop
     μ-loop
-    natural-length-requires
+    (λ c κs. search needs)
     add-end
     sub-place
     loop-holds
-    digit-requires
+    (λ c κs. omega arith)
     slice-write-lent
     sub-place-2
-    loop-less
+    (λ c. omega arith)
     loop-again
-    digit-requires-2
+    (λ c κs. omega arith)
     slice-write-lent-2
     same-length
     returns)

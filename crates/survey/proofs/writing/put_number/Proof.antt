@@ -16,9 +16,6 @@ put-byte-requires c κs =
     room-first (minus ∷ []) _ (room-as (signed-spelling (begin .fits .z) refl (sign .if1 .taken))
     (begin .pre))
 
-magnitude-requires : tie.Need-magnitude-requires
-magnitude-requires c κs = search needs
-
 put-natural-requires : tie.Need-put-natural-requires
 put-natural-requires c κs =
     let call = c .before .before .before .before in
@@ -28,18 +25,12 @@ put-natural-requires c κs =
     (room-as (signed-spelling (begin .fits .z) (c .magnitude .ensures) (sign .if1 .taken)) (begin
     .pre))
 
-magnitude-requires-2 : tie.Need-magnitude-requires-2
-magnitude-requires-2 c κs = search needs
-
 put-natural-requires-2 : tie.Need-put-natural-requires-2
 put-natural-requires-2 c κs =
     let sign = c .before .before in
     let begin = sign .before .before in
     room-as (plain-spelling (begin .fits .z) (c .magnitude2 .ensures) (sign .if1 .left)) (begin
     .pre)
-
-same-length : tie.Need-same-length
-same-length c = search needs
 
 returns : tie.Need-returns
 returns c =
@@ -51,9 +42,6 @@ returns c =
     let whole = signed-spelling (begin .fits .z) (found .magnitude .ensures) (sign .if1 .taken) in
     wrote-as whole (wrote-then (call .put-byte .ensures) (room-as whole (begin .pre)) (last
     .put-natural .ensures))
-
-same-length-2 : tie.Need-same-length-2
-same-length-2 c = search needs
 
 returns-2 : tie.Need-returns-2
 returns-2 c =
@@ -69,11 +57,11 @@ put-number-spec =
     tie.close
     (tie.spec
     put-byte-requires
-    magnitude-requires
+    (λ c κs. search needs)
     put-natural-requires
-    magnitude-requires-2
+    (λ c κs. search needs)
     put-natural-requires-2
-    same-length
+    (λ c. search needs)
     returns
-    same-length-2
+    (λ c. search needs)
     returns-2)

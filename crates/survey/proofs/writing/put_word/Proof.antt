@@ -17,9 +17,6 @@ abbrev μ-loop : tie.MeasureT-loop
 loop-holds : tie.Need-loop-holds Inv-loop μ-loop
 loop-holds c = copied-none (c .pre)
 
-shared-slice-read-lent : tie.Need-shared-slice-read-lent Inv-loop μ-loop
-shared-slice-read-lent c = search needs
-
 below-end : (c : tie.In-loop Inv-loop μ-loop) →
     c .before .before .args .at + c .before .loop .i < length (c .before .loop .lent)
 below-end c = omega (arith, c .before .before .pre .room, c .before .loop .inv .long)
@@ -29,12 +26,6 @@ add-lent c = omega (arith, c .before .before .before .pre .room)
 
 slice-write-lent : tie.Need-slice-write-lent Inv-loop μ-loop
 slice-write-lent c = below-end (c .before)
-
-add-i : tie.Need-add-i Inv-loop μ-loop
-add-i c = search needs
-
-loop-less : tie.Need-loop-less Inv-loop μ-loop
-loop-less c = omega arith
 
 loop-again : tie.Need-loop-again Inv-loop μ-loop
 loop-again c = copied-more (c .before .before .before .pre) (c .before .before .loop .inv) (c
@@ -56,11 +47,11 @@ put-word-spec =
     Inv-loop
     μ-loop
     loop-holds
-    shared-slice-read-lent
+    (λ c. search needs)
     add-lent
     slice-write-lent
-    add-i
-    loop-less
+    (λ c. search needs)
+    (λ c. omega arith)
     loop-again
     add-result
     same-length

@@ -22,11 +22,11 @@ use Rattle.model.specs.Refusals.{nor}
 use Rattle.model.specs.Reading.{unsound}
 use Rattle.model.specs.Arrival.{arrive, refusing, admission-rules, is-repeated, is-in-line, left-corner, right-corner}
 use Rattle.model.specs.Offers.{offer}
-use Rattle.model.proofs.Sound.{sound-by}
+use Rattle.model.proofs.Sound.{place-ranged, sound-by}
 use Rattle.model.proofs.Answers.{rule-passes, outcome-refuses, outcome-serves, served-none}
 use Rattle.hull.specs.Admission.{RangedPlaces, admission-by}
 use Rattle.hull.specs.Requires.{RoomFor}
-use Rattle.hull.proofs.Indices.{place-ranged, spliceable}
+use Rattle.hull.proofs.Indices.{spliceable}
 use Rattle.hull.proofs.Outcomes.{Accepted, accepted-by}
 
 not-sound : {m : Map} → Sound m → not (sound m) ≡ false

@@ -1,7 +1,7 @@
 -- "Nothing else changes": each arrival changes just what document 01 names, at every place of the map
 -- (model/specs/Changes), and no other sound map has these changes. In the order of this page: a link
 -- that is made by cases; a point inside; the first point; the second; a point outside; every offer
--- (`offer-changes`); the changes fix the map (`grown-only`). Assumes nothing.
+-- (`nothing-else-changes`); the changes fix the map (`grown-only`). Assumes nothing.
 use mathlib.Core.Path.{_≡_, refl, sym, ap, subst, _∙_}
 use mathlib.Core.Logic.{_≢_, inl, inr, ⊎-elim}
 use mathlib.Core.Bool.{Bool, cond}
@@ -236,8 +236,8 @@ arrival-changes m p a o (outcomes.second one) = second one (second-changes a one
 arrival-changes m p a o (outcomes.inside two none) = inside two none (inside-changes a) (inside-lone a)
 arrival-changes m p a o (outcomes.outside two some) = outside two some (outside-changes a two some)
 
-pub offer-changes : (m : Map) (p : Point) → Changes m p (offer m p .arrival) (offer m p .map)
-offer-changes m p = decided (offer m p) (offer-decided m p)
+pub nothing-else-changes : (m : Map) (p : Point) → Changes m p (offer m p .arrival) (offer m p .map)
+nothing-else-changes m p = decided (offer m p) (offer-decided m p)
   where
     decided : (o : Offered) → Decided m p o → Changes m p (o .arrival) (o .map)
     decided o (accepted a) = arrival-changes m p a (arrive m p) (arrive-arrives m p)

@@ -10,7 +10,7 @@ use Prim.Native.Nat.{ℕ, _≤_, _<_}
 use native.Mathlib.Omega.{arith}
 use lib.Dec.{T, T-not}
 use lib.IntN.{ℤ}
-use lib.ListN.{length, getD, set, length-set}
+use lib.ListN.{length, getD, set}
 use lib.Seq.{set-out, getD-set-same, getD-set-other}
 use Rattle.finite.specs.Tests.{and-both, decide, same-or-not}
 use Rattle.finite.specs.Bounded.{lt-or-ge}
@@ -18,21 +18,17 @@ use Rattle.finite.specs.Lists.{elem, first-in, elem-head, elem-tail}
 use Rattle.orbits.specs.Sets.{dart-limit}
 use Rattle.model.specs.declared.Point.{Point}
 use Rattle.model.specs.declared.Map.{Map}
-use Rattle.model.specs.Plane.{coordinate-in-range, in-range}
+use Rattle.model.specs.Plane.{in-range}
 use Rattle.model.specs.Maps.{point-limit, point, is-present, edge-link}
 use Rattle.model.specs.Outline.{outline}
 use Rattle.model.specs.Sound.{Sound}
 use Rattle.model.specs.Arrival.{cut, left-corner, right-corner}
-use Rattle.model.proofs.Sound.{present-below}
+use Rattle.model.proofs.Sound.{place-ranged, present-below}
 use Rattle.model.specs.Maps.{point-at}
 use Rattle.maps.proofs.Outline.{outline-circuit}
 use Rattle.hull.specs.Requires.{RoomFor, OutlineFor, Ranged, Spliceable}
 
 -- ---- edge links
-
-pub cut-whole : (d : ℕ) (edge : List ℕ) → length (cut d edge) ≡ length edge
-unfolding cut
-cut-whole d edge = length-set edge (getD edge d d) (getD edge d d)
 
 -- where a partner is fixed, what stands at a place is below a bound as before
 pub cut-below : (n : ℕ) (edge : List ℕ) → ((d : ℕ) → d < n → getD edge d d < n) →
@@ -64,15 +60,9 @@ module _ {m : Map} (s : Sound m) where
       (λ t. subst (λ (x : ℕ). x < dart-limit) (sym (s .links .absent d (T-not (is-present m d) t))) h)
       (decide (is-present m d))
 
-  -- ---- points
+-- ---- points
 
-  -- a place without a point holds 0, 0, which is in range too
-  pub place-ranged : (k : ℕ) → T (in-range (point m k))
-  unfolding in-range coordinate-in-range
-  place-ranged k =
-      ⊎-elim (s .points .ranged k) (λ l. subst (λ p. T (in-range p)) (sym (s .points .vacant k l)) tt) (lt-or-ge k (m .count))
-
--- so the arrays of a map with an outline may be read at every place
+-- the arrays of a map with an outline may be read at every place
 pub ranged : {m : Map} {p : Point} → OutlineFor m p → Ranged (m .xs) (m .ys) p
 unfolding point
 ranged o = record { places = place-ranged (o .is-sound); offered = o .offered }

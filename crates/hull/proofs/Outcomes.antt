@@ -2,12 +2,12 @@
 -- arrival, of which every condition of refusal is known to fail. Assumes nothing.
 use mathlib.Core.Path.{_≡_, refl, sym, ap, subst, _∙_}
 use mathlib.Core.Logic.{_≢_, ⊎-elim}
-use mathlib.Core.Bool.{Bool, true, false, not, cond}
+use mathlib.Core.Bool.{Bool, cond}
 use Prim.Native.Nat.{ℕ, _≤_, _<_}
 use native.Mathlib.Omega.{arith}
 use borrow.Author.Tests.{eq-eqb, ne-eqb}
 use lib.Dec.{T, not-T, leb, eqb, nleb→lt}
-use Rattle.finite.specs.Tests.{same-or-not}
+use Rattle.finite.specs.Tests.{same-or-not, not-not}
 use Rattle.finite.specs.Bounded.{any-by}
 use Rattle.model.specs.declared.Refusal.{Refusal}
 use Rattle.model.specs.declared.Point.{Point}
@@ -25,10 +25,6 @@ use Rattle.model.specs.Offers.{offer-rules, offer}
 use Rattle.model.specs.History.{is-accepted}
 use Rattle.model.proofs.Sound.{sound-holds, same-point-by}
 use Rattle.model.proofs.Answers.{RulesDecide, refuses, serves, unless-decides, unless-made}
-
-not-not : (b : Bool) → ¬ T (not b) → T b
-not-not true n = tt
-not-not false n = n tt
 
 -- a point that no condition refuses
 pub record Accepted (m : Map) (p : Point) : Type 0 where

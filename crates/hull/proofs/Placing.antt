@@ -15,8 +15,8 @@ use lib.Dec.{T, T-not, ltb}
 use lib.IntN.{pos}
 use lib.ListN.{length}
 use borrow.Author.Tests.{le-ltb, lt-ltb}
-use Rattle.integers.specs.Order.{order, eqZ, negℤ-splits, <ℤ-≢, eqZ-true, eq-eqZ}
-use Rattle.finite.specs.Tests.{and-left, and-right, and-both, decide, is-true, is-false, of-true}
+use Rattle.integers.specs.Order.{order, negℤ-splits, <ℤ-≢}
+use Rattle.finite.specs.Tests.{and-left, and-right, decide, is-true, is-false}
 use Rattle.finite.specs.Bounded.{lt-or-ge}
 use Rattle.finite.specs.Lists.{elem, all-in, any-in, count-in, first-in, elem-head, elem-tail, all-elem, all-of-elem}
 use Rattle.finite.specs.Cycles.{Chain, Cycle}
@@ -25,11 +25,12 @@ use Rattle.finite.specs.Rotations.{FirstPassing, first-passing, none-passes}
 use Rattle.model.specs.declared.Point.{Point}
 use Rattle.model.specs.declared.Map.{Map}
 use Rattle.model.specs.declared.Placed.{Placed}
-use Rattle.model.specs.Plane.{at, same-point, orientation, left-of, in-line, sees-edge, strictly-between}
+use Rattle.model.specs.Plane.{at, orientation, left-of, in-line, sees-edge, strictly-between}
 use Rattle.model.specs.Maps.{point}
 use Rattle.model.specs.Outline.{next-corner, outline, sees, visible-edges, corners}
 use Rattle.model.specs.Sound.{Sound}
 use Rattle.model.specs.Placing.{is-at, is-on-edge, is-left-of-edge, strictly-sees, strictly-visible, place-among}
+use Rattle.model.proofs.Sound.{same-point-eq, same-point-by}
 use Rattle.plane.specs.Between.{opposite}
 use Rattle.plane.proofs.Orientation.{orientation-cyclic, orientation-swap, orientation-twice, left-positive, in-line-zero}
 use Rattle.plane.proofs.Aligned.{left-of-all}
@@ -39,19 +40,6 @@ use Rattle.hull.proofs.Arrivals.{sound-convex}
 use Rattle.hull.proofs.Corners.{corners-rotated, corners-members}
 
 -- ---- the tests of a corner as statements
-
-same-is : (a p : Point) → T (same-point a p) → a ≡ p
-unfolding same-point
-same-is a p t =
-    let x : a .x ≡ p .x = eqZ-true _ _ (is-true _ (and-left (eqZ (a .x) (p .x)) (eqZ (a .y) (p .y)) t)) in
-    let y : a .y ≡ p .y = eqZ-true _ _ (is-true _ (and-right (eqZ (a .x) (p .x)) (eqZ (a .y) (p .y)) t)) in
-    λ i. at (x i) (y i)
-
-same-by : (a p : Point) → a ≡ p → T (same-point a p)
-unfolding same-point
-same-by a p e =
-    and-both (eqZ (a .x) (p .x)) (eqZ (a .y) (p .y)) (of-true _ (eq-eqZ (ap (λ (q : Point). q .x) e)))
-    (of-true _ (eq-eqZ (ap (λ (q : Point). q .y) e)))
 
 between-line : (a b p : Point) → T (strictly-between a b p) → T (in-line a b p)
 unfolding strictly-between
@@ -123,7 +111,7 @@ module _ {m : Map} (s : Sound m) (two : 2 ≤ m .count) (p : Point) where
   strictly-visible-is = strictly-visible-outline
 
   no-corner : T (not (any-in (is-at m p) (corners m))) → NoCorner m p
-  no-corner t a h e = none-passes (is-at m p) (corners m) t a (listed a h) (same-by (point m a) p e)
+  no-corner t a h e = none-passes (is-at m p) (corners m) t a (listed a h) (same-point-by (point m a) p e)
 
   no-edge : T (not (any-in (is-on-edge m p) (corners m))) → NoEdge m p
   no-edge t a h = none-passes (is-on-edge m p) (corners m) t a (listed a h)
@@ -138,7 +126,7 @@ module _ {m : Map} (s : Sound m) (two : 2 ≤ m .count) (p : Point) where
   corner-means : T (any-in (is-at m p) (corners m)) → Means m p (Placed.Corner (first-in (is-at m p) 0 (corners m)))
   corner-means t =
       let f = first-passing (is-at m p) 0 (corners m) t in
-      (first-on f, same-is (point m (first-in (is-at m p) 0 (corners m))) p (f .passes))
+      (first-on f, same-point-eq (point m (first-in (is-at m p) 0 (corners m))) p (f .passes))
 
   edge-means : NoCorner m p → (a : ℕ) → FirstPassing (is-on-edge m p) (corners m) a →
       Means m p (Placed.Edge a (next-corner m a))

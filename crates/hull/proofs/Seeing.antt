@@ -12,6 +12,7 @@ use native.Mathlib.Omega.{arith}
 use lib.Dec.{T}
 use borrow.Author.Tests.{le-ltb, eq-eqb, ne-eqb}
 use Rattle.finite.specs.Bounded.{one-if}
+use Rattle.finite.specs.Counting.{one-if-small}
 use Rattle.finite.specs.Lists.{elem, count-in, first-in, ring}
 use Rattle.model.specs.declared.Point.{Point}
 use Rattle.model.specs.declared.Map.{Map}
@@ -97,11 +98,6 @@ module _ (m : Map) (p : Point) where
     pub left-is : settled left is-left (corners-ahead m ahead a) ≡ left-corner m p
     pub right-is : settled right is-right (corners-ahead m ahead a) ≡ right-corner m p
     pub visible-is : visible + count-in (sees m p) (corners-ahead m ahead a) ≡ visible-edges m p
-
-  one-if-small : (b : Bool) → one-if b ≤ 1
-  unfolding one-if
-  one-if-small true = omega arith
-  one-if-small false = omega arith
 
   -- what the code tests of an edge
   leaves : {leaving : Bool} (a b : ℕ) → b ≡ next-corner m a →

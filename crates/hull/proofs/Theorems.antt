@@ -14,7 +14,6 @@ use Rattle.model.specs.Outline.{next-corner, previous-corner, outline, sees, vi
 use Rattle.model.specs.Sound.{sound, Sound}
 use Rattle.model.specs.Arrival.{left-corner, right-corner}
 use Rattle.model.specs.Offers.{offer}
-use Rattle.model.specs.Changes.{Changes}
 use Rattle.model.proofs.Sound.{sound-holds, sound-by}
 use Rattle.plane.proofs.Convex.{some-hidden}
 use Rattle.plane.proofs.Corners.{LeftCorner, RightCorner, left-corner-unique, right-corner-unique}
@@ -22,18 +21,11 @@ use Rattle.plane.proofs.Hull.{Supports}
 use Rattle.plane.proofs.Hull as plane-hull
 use Rattle.hull.proofs.Outcomes.{Accepted}
 use Rattle.hull.proofs.Arrivals.{sound-convex, offer-sound, left-is, right-is}
-use Rattle.hull.proofs.Changes.{offer-changes}
 
 -- ---- an offer keeps a map sound; a refused one gives the same map: Outcomes.`refused-keeps`
 
 pub sound-kept : (m : Map) (p : Point) → T (sound m) → T (sound (offer m p .map))
 sound-kept m p t = sound-by (offer m p .map) (offer-sound m p (sound-holds m t))
-
--- ---- what an offer changes, at every place of the map; and no other sound map has these changes:
--- Changes.`grown-only`
-
-pub nothing-else-changes : (m : Map) (p : Point) → Changes m p (offer m p .arrival) (offer m p .map)
-nothing-else-changes = offer-changes
 
 -- ---- where an edge is visible there is one left corner and one right, and some edge is hidden
 

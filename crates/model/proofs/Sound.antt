@@ -20,7 +20,7 @@ use Rattle.orbits.specs.Sets.{dart-limit}
 use Rattle.orbits.specs.Classes.{is-fixed, is-closed}
 use Rattle.model.specs.declared.Point.{Point}
 use Rattle.model.specs.declared.Map.{Map}
-use Rattle.model.specs.Plane.{origin, same-point, beside}
+use Rattle.model.specs.Plane.{origin, coordinate-in-range, in-range, same-point, beside}
 use Rattle.model.specs.Maps.{point-limit, no-dart, own, owner, is-own, point, has-helper, is-present, edge-link, point-link, dart-bound}
 use Rattle.model.specs.Outline.{next-corner, outline}
 use Rattle.model.specs.Sound.{arrays-whole, count-fits, points-in-range, points-differ, places-vacant, helpers-owned, absent-fixed, links-undo, edges-cross, lone-fixed, one-outline, reference-on-outline, others-left, no-outline, sound, Sound, SoundLinks}
@@ -39,6 +39,13 @@ same-point-by p q e =
     and-both (eqZ (p .x) (q .x)) (eqZ (p .y) (q .y))
     (of-true _ (eq-eqZ (ap (λ (r : Point). r .x) e)))
     (of-true _ (eq-eqZ (ap (λ (r : Point). r .y) e)))
+
+-- the points of a sound map are in range, and so is a place without a point, which holds 0, 0
+pub place-ranged : {m : Map} → Sound m → (k : ℕ) → T (in-range (point m k))
+unfolding in-range coordinate-in-range
+place-ranged {m} s k =
+    ⊎-elim (s .points .ranged k) (λ l. subst (λ p. T (in-range p)) (sym (s .points .vacant k l)) tt)
+    (lt-or-ge k (m .count))
 
 -- a present dart belongs to a point, so it lies below the bound
 pub present-below : (m : Map) (d : ℕ) → T (is-present m d) → d < dart-bound m

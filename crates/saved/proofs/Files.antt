@@ -22,7 +22,7 @@ use Rattle.orbits.specs.Sets.{dart-limit}
 use Rattle.model.specs.declared.Map.{Map}
 use Rattle.model.specs.declared.Outcome.{Outcome}
 use Rattle.model.specs.declared.Loaded.{Loaded}
-use Rattle.model.specs.Plane.{coordinate-limit, in-range, at, coordinate-in-range}
+use Rattle.model.specs.Plane.{coordinate-limit, at}
 use Rattle.model.specs.Maps.{point-limit, own, point, has-helper, is-present, edge-link}
 use Rattle.model.specs.Refusals.{unless}
 use Rattle.model.specs.Sound.{Sound, sound}
@@ -32,7 +32,7 @@ use Rattle.model.specs.Saved.{coordinates-place, helpers-place, links-place}
 use Rattle.model.specs.Saved.{coordinate, header, saved, count-in-file, coordinate-in-file}
 use Rattle.model.specs.Saved.{helper-in-file, link-in-file, coordinates-in-file, helpers-in-file}
 use Rattle.model.specs.Saved.{links-in-file, file-in-form, map-in, loaded}
-use Rattle.model.proofs.Sound.{present-below, sound-holds}
+use Rattle.model.proofs.Sound.{place-ranged, present-below, sound-holds}
 use Rattle.plane.proofs.Bounds.{x-near, y-near}
 use Rattle.saved.proofs.Digits.{number-small, complement-small, signed-complement}
 use Rattle.saved.proofs.Digits.{complement-signed, bytes-back}
@@ -46,20 +46,13 @@ use Rattle.saved.proofs.Places.{reference-read, coordinate-read, helper
 -- ---- what a sound map holds fits its fields
 
 module _ {m : Map} (s : Sound m) where
-  pub points-ranged : (k : ℕ) → T (in-range (point m k))
-  unfolding in-range coordinate-in-range
-  points-ranged k =
-      ⊎-elim (λ (l : k < m .count). s .points .ranged k l)
-      (λ (l : m .count ≤ k). rw (s .points .vacant k l) tt)
-      (lt-or-ge k (m .count))
-
   pub coordinate-small : (i : ℕ) → natAbs (coordinate m i) ≤ coordinate-limit
   unfolding coordinate
   coordinate-small i =
       ⊎-elim
       (λ (e : i % 2 ≡ 0).
-      rw (eq-eqb (i % 2) 0 e) (x-near (point m (i / 2)) (points-ranged (i / 2)) .bound))
-      (λ e. rw (ne-eqb (i % 2) 0 e) (y-near (point m (i / 2)) (points-ranged (i / 2)) .bound))
+      rw (eq-eqb (i % 2) 0 e) (x-near (point m (i / 2)) (place-ranged s (i / 2)) .bound))
+      (λ e. rw (ne-eqb (i % 2) 0 e) (y-near (point m (i / 2)) (place-ranged s (i / 2)) .bound))
       (same-or-not (i % 2) 0)
 
   link-small : (d : ℕ) → d < own (m .count) → edge-link m d < 256 ^ 2

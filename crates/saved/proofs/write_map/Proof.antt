@@ -12,7 +12,7 @@ use Rattle.model.specs.Saved.{header, header-length, helpers-place, links-place
 use Rattle.model.specs.Saved.{coordinate, saved}
 use Rattle.saved.proofs.Blocks.{length-block, piece-written}
 use Rattle.saved.proofs.Places.{length-header}
-use Rattle.saved.proofs.Files.{points-ranged}
+use Rattle.model.proofs.Sound.{place-ranged}
 use borrow.Author.Needs.{needs}
 use Rattle.saved.proofs.write_map.Statement.{statement}
 use Rattle.saved.proofs.write_map.Tie as tie
@@ -22,7 +22,7 @@ unfolding point
 write-coordinates-requires c κs =
     let s =
     c .before .before .before .before .before .before .before .before .before .before .before in
-    ((omega arith, simp (length-take, length-drop) (omega arith)), points-ranged (s .pre .0))
+    ((omega arith, simp (length-take, length-drop) (omega arith)), place-ranged (s .pre .0))
 
 -- the header and the blocks of a map, up to each
 abbrev first-1 : Map → List ℕ

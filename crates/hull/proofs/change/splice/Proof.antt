@@ -6,7 +6,8 @@ use native.Mathlib.Omega.{arith}
 use denote.Ref.{now}
 use Rattle.orbits.specs.Sets.{dart-limit}
 use Rattle.model.specs.Maps.{own, helper}
-use Rattle.hull.proofs.Indices.{cut-whole, cut-below}
+use Rattle.maps.proofs.Edges.{length-cut}
+use Rattle.hull.proofs.Indices.{cut-below}
 use Rattle.hull.proofs.change.splice.Statement.{statement}
 use Rattle.hull.proofs.change.splice.Tie as tie
 
@@ -36,7 +37,7 @@ cut-requires-2 c κs =
     let s = c .before .before .before in
     rw (c .before .cut .ensures)
     (record {
-      whole = cut-whole (own (s .args .left)) (now (s .args .edge)) ∙ s .pre .whole;
+      whole = length-cut (own (s .args .left)) (now (s .args .edge)) ∙ s .pre .whole;
       below = omega arith;
       partner-below =
           cut-below dart-limit (now (s .args .edge)) (s .pre .links-below) (own (s .args .left))

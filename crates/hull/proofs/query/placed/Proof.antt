@@ -11,7 +11,7 @@ use Rattle.model.specs.declared.Placed.{Placed}
 use Rattle.model.specs.Maps.{point, edge-link}
 use Rattle.model.specs.Outline.{next-corner}
 use Rattle.model.specs.Placing.{place-among}
-use Rattle.hull.proofs.Indices.{place-ranged}
+use Rattle.model.proofs.Sound.{place-ranged}
 use Rattle.hull.proofs.Views.{Scanning, verdict, edge-verdict, inside-verdict, outside-verdict, at-first, corner-found, corner-looked, at-end}
 use Rattle.hull.proofs.query.placed.Statement.{statement}
 use Rattle.hull.proofs.query.placed.Tie as tie

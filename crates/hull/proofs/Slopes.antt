@@ -26,7 +26,7 @@ use Rattle.model.specs.Plane.{coordinate-limit, same-point, orientation, in-lin
 use Rattle.model.specs.Maps.{point-at}
 use Rattle.plane.proofs.Orientation.{orientation-cyclic, in-line-zero}
 use Rattle.hull.specs.Requires.{NewAmong, in-line-with}
-use Rattle.hull.specs.Slopes.{slope-count, scaled, slope}
+use Rattle.hull.specs.Slopes.{slope-count, slope-parts, scaled, slope}
 
 -- ---- quotients
 
@@ -63,8 +63,8 @@ module _ {across up : ℤ} (a : Number span across) (u : Number span up) where
   abbrev pub lifted : Number (span + twice * span) (up +ℤ pos twice *ℤ across)
   lifted = add (back w64 tt u) (back w64 tt lift)
 
-  abbrev pub scaling : Number (coordinate-limit * (span + twice * span)) (scaled across up)
-  scaling = mul (literal (pos coordinate-limit)) (back w64 tt lifted)
+  abbrev pub scaling : Number (slope-parts * (span + twice * span)) (scaled across up)
+  scaling = mul (literal (pos slope-parts)) (back w64 tt lifted)
 
   pub same-side : SameSide (scaled across up) across
   same-side =
@@ -74,10 +74,10 @@ module _ {across up : ℤ} (a : Number span across) (u : Number span up) where
         bounded-splits (u .small),
         *ℤ-splits (pos twice) across,
         +ℤ-splits up (pos twice *ℤ across),
-        *ℤ-splits (pos coordinate-limit) (up +ℤ pos twice *ℤ across),
+        *ℤ-splits (pos slope-parts) (up +ℤ pos twice *ℤ across),
       )
 
-  abbrev pub divided : Number (coordinate-limit * (span + twice * span))
+  abbrev pub divided : Number (slope-parts * (span + twice * span))
       (pos (natAbs (scaled across up) / natAbs across))
   divided =
       record {
@@ -103,7 +103,7 @@ positive (negsuc k) n = omega arith
 module _ (a u b v : ℤ) (along : a *ℤ v ≡ u *ℤ b) where
   same-ratio : scaled a u *ℤ b ≡ scaled b v *ℤ a
   same-ratio =
-      let l = pos coordinate-limit in
+      let l = pos slope-parts in
       let k = pos twice in
       identity 5 (λ l k a u b. l ⊗ (u ⊕ k ⊗ a) ⊗ b ≐ l ⊗ (u ⊗ b) ⊕ l ⊗ k ⊗ (a ⊗ b)) tt l k a u b
       ∙ ap (λ (z : ℤ). l *ℤ z +ℤ l *ℤ k *ℤ (a *ℤ b)) (sym along)

@@ -1,19 +1,22 @@
 -- The slope of a line, by which lines through one point are told apart: points in line with p have
 -- one slope from p, and points of one slope from p are seldom not in line with it. In the order of
 -- this page: how many slopes there are; what is divided; the slope. Assumes nothing.
-use Prim.Native.Nat.{ℕ, _*_, _/_, _%_}
+use Prim.Native.Nat.{ℕ, _+_, _*_, _/_, _%_}
 use lib.IntN.{ℤ, pos, _+ℤ_, _-ℤ_, _*ℤ_, natAbs}
 use Rattle.model.specs.declared.Point.{Point}
 use Rattle.model.specs.Plane.{coordinate-limit}
 
--- how many slopes are told apart
+-- how many slopes are told apart, and how many parts make a slope of 1
 abbrev pub slope-count : ℕ
-slope-count = 16_381
+slope-count = 32_768
+
+abbrev pub slope-parts : ℕ
+slope-parts = coordinate-limit + 1
 
 -- what is divided by the way across. A slope is at most twice the limit, up or down: with so much
--- added it is not negative. It is taken in parts of which `coordinate-limit` make 1.
+-- added it is not negative.
 abbrev pub scaled : ℤ → ℤ → ℤ
-scaled across up = pos coordinate-limit *ℤ (up +ℤ pos (2 * coordinate-limit) *ℤ across)
+scaled across up = pos slope-parts *ℤ (up +ℤ pos (2 * coordinate-limit) *ℤ across)
 
 -- the slope of the line from p to a: up by across, and 0 where the line is vertical
 unfoldable pub slope : Point → Point → ℕ

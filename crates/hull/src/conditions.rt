@@ -12,8 +12,11 @@ ghost use Rattle.model.specs.Plane.{in-range};
 ghost use Rattle.hull.specs.Requires.{NewAmong, Ranged, in-line-among, in-line-with};
 ghost use Rattle.hull.specs.Slopes.{slope, slope-count};
 
-// How many slopes are told apart: a prime number, so whole-number slopes seldom meet.
-const SLOPE_COUNT: usize = 16381;
+// How many slopes are told apart.
+const SLOPE_COUNT: usize = 32768;
+
+// How many parts make a slope of 1: an odd number, so that slopes that are whole numbers do not meet.
+const SLOPE_PARTS: i64 = COORDINATE_LIMIT + 1;
 
 // Whether p, which is none of the first points, is in line with two of them. Two points in line with
 // p have one slope from p, so a point is compared with those before it only if its slope was seen.
@@ -49,7 +52,7 @@ fn slope(p: Point, a: Point) -> usize
     if across == 0 {
         return 0;
     }
-    (COORDINATE_LIMIT * (up + 2 * COORDINATE_LIMIT * across) / across) as usize % SLOPE_COUNT
+    (SLOPE_PARTS * (up + 2 * COORDINATE_LIMIT * across) / across) as usize % SLOPE_COUNT
 }
 
 // Whether p is in line with point j and a point before it.

@@ -17,15 +17,6 @@ at-start c = c .before .before .before .before .before .before
 admission-requires : tie.Need-admission-requires
 admission-requires c κs = ranged-places (c .before .before .before .before .before .pre)
 
-enum-known-decided : tie.Need-enum-known-decided
-enum-known-decided c = search needs
-
-refused-requires : tie.Need-refused-requires
-refused-requires c κs = search needs
-
-enum-told : tie.Need-enum-told
-enum-told c = search needs
-
 arrive-requires : tie.Need-arrive-requires
 arrive-requires c κs =
     let d = c .before .before in
@@ -56,9 +47,9 @@ admitted-spec =
     tie.close
     (tie.spec
     admission-requires
-    enum-known-decided
-    refused-requires
-    enum-told
+    (λ c. search needs)
+    (λ c κs. search needs)
+    (λ c. search needs)
     arrive-requires
     returns
     returns-2)

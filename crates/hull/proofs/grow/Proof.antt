@@ -16,21 +16,12 @@ lent s =
     map-of (now (s .args .xs)) (now (s .args .ys)) (now (s .args .helpers)) (now (s .args .edge)) (s .args .count)
     (s .args .reference)
 
-put-point-requires : tie.Need-put-point-requires
-put-point-requires c κs = search needs
-
 returns : tie.Need-returns
 returns c =
     let test = c .before .before .before in
     let s = test .before in
     ap (arrived Arrival.First) (grown-alone (lent s) (s .args .p) (c .put-point .ensures))
     ∙ first (lent s) (s .args .p) (test .if1 .taken)
-
-put-point-requires-2 : tie.Need-put-point-requires-2
-put-point-requires-2 c κs = search needs
-
-pair-requires : tie.Need-pair-requires
-pair-requires c κs = search needs
 
 returns-2 : tie.Need-returns-2
 returns-2 c =
@@ -39,9 +30,6 @@ returns-2 c =
     let s = test .before .before in
     ap (arrived Arrival.Second) (grown-pair (lent s) (s .args .p) (put .put-point2 .ensures) (c .pair .ensures))
     ∙ second (lent s) (s .args .p) (test .if2 .taken)
-
-grow-later-requires : tie.Need-grow-later-requires
-grow-later-requires c κs = search needs
 
 returns-3 : tie.Need-returns-3
 returns-3 c =
@@ -53,10 +41,10 @@ pub grow-spec : {M : Type 1} → statement M
 grow-spec =
     tie.close
     (tie.spec
-    put-point-requires
+    (λ c κs. search needs)
     returns
-    put-point-requires-2
-    pair-requires
+    (λ c κs. search needs)
+    (λ c κs. search needs)
     returns-2
-    grow-later-requires
+    (λ c κs. search needs)
     returns-3)

@@ -44,9 +44,6 @@ seen-is : (c : tie.After-seen-from) →
     c .seen-from .result ≡ record { left = left-corner m p; right = right-corner m p; visible = visible-edges m p }
 seen-is c = c .seen-from .ensures ∙ sym (seen-by-arrays (lent (at-start c)) (at-start c .args .p))
 
-put-point-requires : tie.Need-put-point-requires
-put-point-requires c κs = search needs
-
 returns : tie.Need-returns
 returns c =
     let e = at-seen (c .before) in
@@ -61,9 +58,6 @@ splice-requires c κs =
     let s = at-start e in
     subst (λ (t : Seen). Spliceable (now (s .args .edge)) (s .args .count) (t .left) (t .right)) (sym (seen-is e))
     (spliceable (s .pre .0) (s .pre .1))
-
-mul-t26 : tie.Need-mul-t26
-mul-t26 c = search needs
 
 -- an outside arrival, from what is seen
 abbrev outcome : Map → Point → Seen → Offered
@@ -84,4 +78,4 @@ returns-2 c =
 pub grow-later-spec : {M : Type 1} → statement M
 grow-later-spec =
     tie.close
-    (tie.spec seen-from-requires put-point-requires returns splice-requires mul-t26 returns-2)
+    (tie.spec seen-from-requires (λ c κs. search needs) returns splice-requires (λ c. search needs) returns-2)

@@ -31,18 +31,12 @@ returns : tie.Need-returns
 unfolding admission-by
 returns c = rule-applies Outcome.Refused _ _ _ (le-leb _ _ (c .if1 .taken))
 
-in-range-requires : tie.Need-in-range-requires
-in-range-requires c κs = search needs
-
 returns-2 : tie.Need-returns-2
 unfolding admission-by
 returns-2 c =
     let d = c .before in
     rule-passes Outcome.Refused _ _ _ (room (d .before))
     (rule-applies Outcome.Refused _ _ _ (ap not (sym (d .in-range .ensures)) ∙ c .if2 .taken))
-
-is-new-requires : tie.Need-is-new-requires
-is-new-requires c κs = search needs
 
 returns-3 : tie.Need-returns-3
 unfolding admission-by
@@ -93,9 +87,9 @@ admission-spec =
     tie.close
     (tie.spec
     returns
-    in-range-requires
+    (λ c κs. search needs)
     returns-2
-    is-new-requires
+    (λ c κs. search needs)
     returns-3
     is-in-line-among-requires
     returns-4

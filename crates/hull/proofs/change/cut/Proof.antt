@@ -10,12 +10,6 @@ use Rattle.model.specs.Arrival.{cut}
 use Rattle.hull.proofs.change.cut.Statement.{statement}
 use Rattle.hull.proofs.change.cut.Tie as tie
 
-mul-e : tie.Need-mul-e
-mul-e c = search needs
-
-element-copy-out-e : tie.Need-element-copy-out-e
-element-copy-out-e c = search needs
-
 -- the default does not matter within the array
 partner : (c : tie.After-e) →
     let s = c .before .args in getD (now (s .edge)) (s .d) 0 ≡ getD (now (s .edge)) (s .d) (s .d)
@@ -38,4 +32,4 @@ unfolding cut
 returns c = rw (partner c)
 
 pub cut-spec : {M : Type 1} → statement M
-cut-spec = tie.close (tie.spec mul-e element-copy-out-e mul-edge element-write-edge returns)
+cut-spec = tie.close (tie.spec (λ c. search needs) (λ c. search needs) mul-edge element-write-edge returns)

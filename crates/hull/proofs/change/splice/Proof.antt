@@ -11,18 +11,6 @@ use Rattle.hull.proofs.Indices.{cut-below}
 use Rattle.hull.proofs.change.splice.Statement.{statement}
 use Rattle.hull.proofs.change.splice.Tie as tie
 
-mul-l : tie.Need-mul-l
-mul-l c = search needs
-
-mul-r : tie.Need-mul-r
-mul-r c = search needs
-
-add-r : tie.Need-add-r
-add-r c = search needs
-
-element-write-helpers : tie.Need-element-write-helpers
-element-write-helpers c = search needs
-
 cut-requires : tie.Need-cut-requires
 cut-requires c κs =
     let s = c .before in
@@ -44,21 +32,6 @@ cut-requires-2 c κs =
           (helper (s .args .right)) (omega arith) (omega arith);
     })
 
-mul-join : tie.Need-mul-join
-mul-join c = search needs
-
-add-join : tie.Need-add-join
-add-join c = search needs
-
-join-requires : tie.Need-join-requires
-join-requires c κs = search needs
-
-mul-join-2 : tie.Need-mul-join-2
-mul-join-2 c = search needs
-
-join-requires-2 : tie.Need-join-requires-2
-join-requires-2 c κs = search needs
-
 returns : tie.Need-returns
 returns c = (
   refl,
@@ -74,15 +47,15 @@ pub splice-spec : {M : Type 1} → statement M
 splice-spec =
     tie.close
     (tie.spec
-    mul-l
-    mul-r
-    add-r
-    element-write-helpers
+    (λ c. search needs)
+    (λ c. search needs)
+    (λ c. search needs)
+    (λ c. search needs)
     cut-requires
     cut-requires-2
-    mul-join
-    add-join
-    join-requires
-    mul-join-2
-    join-requires-2
+    (λ c. search needs)
+    (λ c. search needs)
+    (λ c κs. search needs)
+    (λ c. search needs)
+    (λ c κs. search needs)
     returns)

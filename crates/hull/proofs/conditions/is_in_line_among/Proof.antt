@@ -43,14 +43,8 @@ iteration : (c : tie.In-loop Inv-loop μ-loop) (r : Bool) →
     Iteration (λ k. not (here (now (s .xs)) (now (s .ys)) (s .p) k)) 0 (c .before .loop .j) (not r)
 iteration c r e = record { passed = c .before .loop .inv .0; found = ap not e }
 
-no-slopes-requires : tie.Need-no-slopes-requires Inv-loop μ-loop
-no-slopes-requires c κs = search needs
-
 loop-holds : tie.Need-loop-holds Inv-loop μ-loop
 loop-holds c = (none-passed _ 0, none-seen (sym (c .no-slopes .ensures)))
-
-point-at-requires : tie.Need-point-at-requires Inv-loop μ-loop
-point-at-requires c κs = search needs
 
 slope-requires : tie.Need-slope-requires Inv-loop μ-loop
 slope-requires c κs =
@@ -84,12 +78,6 @@ returns c =
 array-write-seen : tie.Need-array-write-seen Inv-loop μ-loop
 array-write-seen c = in-table (c .before)
 
-add-j : tie.Need-add-j Inv-loop μ-loop
-add-j c = search needs
-
-loop-less : tie.Need-loop-less Inv-loop μ-loop
-loop-less c = search needs
-
 loop-again : tie.Need-loop-again Inv-loop μ-loop
 loop-again c =
     let loop = in-loop (c .before) in
@@ -110,15 +98,15 @@ is-in-line-among-spec =
     (tie.spec
     Inv-loop
     μ-loop
-    no-slopes-requires
+    (λ c κs. search needs)
     loop-holds
-    point-at-requires
+    (λ c κs. search needs)
     slope-requires
     array-read-if1
     is-in-line-with-requires
     returns
     array-write-seen
-    add-j
-    loop-less
+    (λ c. search needs)
+    (λ c. search needs)
     loop-again
     returns-2)

@@ -31,14 +31,8 @@ in-loop c = c .before .before
 abbrev at-start : tie.After-are-in-line Inv-loop μ-loop → tie.Start Inv-loop μ-loop
 at-start c = in-loop c .before .before .before
 
-point-at-requires : tie.Need-point-at-requires Inv-loop μ-loop
-point-at-requires c κs = search needs
-
 loop-holds : tie.Need-loop-holds Inv-loop μ-loop
 loop-holds c = none-passed _ 0
-
-point-at-requires-2 : tie.Need-point-at-requires-2 Inv-loop μ-loop
-point-at-requires-2 c κs = search needs
 
 are-in-line-requires : tie.Need-are-in-line-requires Inv-loop μ-loop
 are-in-line-requires c κs =
@@ -66,12 +60,6 @@ returns c =
     (one-failed (iteration (c .before)) (none-below _ _) (in-loop (c .before) .loop-test .taken)
     (not-twice (c .if1 .taken)))
 
-add-i : tie.Need-add-i Inv-loop μ-loop
-add-i c = search needs
-
-loop-less : tie.Need-loop-less Inv-loop μ-loop
-loop-less c = search needs
-
 loop-again : tie.Need-loop-again Inv-loop μ-loop
 loop-again c = one-passed (iteration (c .before)) (not-twice (c .if1 .left))
 
@@ -84,12 +72,12 @@ is-in-line-with-spec =
     (tie.spec
     Inv-loop
     μ-loop
-    point-at-requires
+    (λ c κs. search needs)
     loop-holds
-    point-at-requires-2
+    (λ c κs. search needs)
     are-in-line-requires
     returns
-    add-i
-    loop-less
+    (λ c. search needs)
+    (λ c. search needs)
     loop-again
     returns-2)

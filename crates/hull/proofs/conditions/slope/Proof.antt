@@ -46,9 +46,6 @@ returns c =
     let none = same-bits (fits w64 tt (across s)) (literal-fits (pos 0) tt) (c .if1 .taken) in
     slope-vertical (s .args .p) (s .args .a) (sym (across s .is) ∙ none)
 
-mul-result : tie.Need-mul-result
-mul-result c = search needs
-
 mul-result-2 : tie.Need-mul-result-2
 mul-result-2 c = let s = at-start (c .before) in fits w64 tt (lift (across s) (up s))
 
@@ -81,7 +78,7 @@ slope-spec =
     sub-across
     sub-up
     returns
-    mul-result
+    (λ c. search needs)
     mul-result-2
     add-result
     mul-result-3

@@ -38,9 +38,6 @@ array-write-places c = omega (arith, c .before .loop .inv .few, c .before .befor
 add-listed : tie.Need-add-listed Inv-loop μ-loop
 add-listed c = omega (arith, c .before .loop .inv .few, c .before .before .before .before .pre .links .fits, c .loop-test .taken)
 
-next-corner-requires : tie.Need-next-corner-requires Inv-loop μ-loop
-next-corner-requires c κs = search needs
-
 -- where an iteration began, and where the lowest corner was found
 abbrev in-loop : tie.After-next-corner Inv-loop μ-loop → tie.In-loop Inv-loop μ-loop
 in-loop c = c .before .before .before .before
@@ -96,7 +93,7 @@ corners-of-spec =
     mul-places
     array-write-places
     add-listed
-    next-corner-requires
+    (λ c κs. search needs)
     add-counter
     loop-less
     loop-again

@@ -7,15 +7,6 @@ use Rattle.model.specs.Maps.{point-at}
 use Rattle.hull.proofs.listing.lower_of.Statement.{statement}
 use Rattle.hull.proofs.listing.lower_of.Tie as tie
 
-point-at-requires : tie.Need-point-at-requires
-point-at-requires c κs = search needs
-
-point-at-requires-2 : tie.Need-point-at-requires-2
-point-at-requires-2 c κs = search needs
-
-is-lower-requires : tie.Need-is-lower-requires
-is-lower-requires c κs = search needs
-
 -- what the test says
 module _ (c : tie.After-is-lower) where
   abbrev s : tie.Start
@@ -34,4 +25,4 @@ returns-2 c = rw (sym (tested (c .before)) ∙ c .if1 .left)
 
 pub lower-of-spec : {M : Type 1} → statement M
 lower-of-spec =
-    tie.close (tie.spec point-at-requires point-at-requires-2 is-lower-requires returns returns-2)
+    tie.close (tie.spec (λ c κs. search needs) (λ c κs. search needs) (λ c κs. search needs) returns returns-2)

@@ -26,12 +26,6 @@ in-loop l = l .before .before .before .before .before .before
 loop-holds : tie.Need-loop-holds Inv-loop μ-loop
 loop-holds c = seeking-first (c .args .t1) (sub-zero _) (c .pre .1)
 
-lower-of-requires : tie.Need-lower-of-requires Inv-loop μ-loop
-lower-of-requires c κs = search needs
-
-next-corner-requires : tie.Need-next-corner-requires Inv-loop μ-loop
-next-corner-requires c κs = search needs
-
 add-counter : tie.Need-add-counter Inv-loop μ-loop
 add-counter c =
     let t = in-loop (at-lower-of (c .before)) in
@@ -71,8 +65,8 @@ lowest-corner-spec =
     Inv-loop
     μ-loop
     loop-holds
-    lower-of-requires
-    next-corner-requires
+    (λ c κs. search needs)
+    (λ c κs. search needs)
     add-counter
     loop-less
     loop-again

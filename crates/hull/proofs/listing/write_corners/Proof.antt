@@ -14,25 +14,10 @@ abbrev μ-loop : tie.MeasureT-loop
 loop-holds : tie.Need-loop-holds Inv-loop μ-loop
 loop-holds c = (writing-first _ _, omega arith)
 
-mul-lent : tie.Need-mul-lent Inv-loop μ-loop
-mul-lent c = omega arith
-
-element-copy-out-lent : tie.Need-element-copy-out-lent Inv-loop μ-loop
-element-copy-out-lent c = omega arith
-
-mul-lent-2 : tie.Need-mul-lent-2 Inv-loop μ-loop
-mul-lent-2 c = omega arith
-
 slice-write-lent : tie.Need-slice-write-lent Inv-loop μ-loop
 slice-write-lent c =
     let l = c .before .before in
     omega (arith, writing-length _ _ (l .loop .inv .0) (omega arith) (omega arith))
-
-add-i : tie.Need-add-i Inv-loop μ-loop
-add-i c = omega arith
-
-loop-less : tie.Need-loop-less Inv-loop μ-loop
-loop-less c = omega arith
 
 loop-again : tie.Need-loop-again Inv-loop μ-loop
 loop-again c =
@@ -52,12 +37,12 @@ write-corners-spec =
     Inv-loop
     μ-loop
     loop-holds
-    mul-lent
-    element-copy-out-lent
-    mul-lent-2
+    (λ c. omega arith)
+    (λ c. omega arith)
+    (λ c. omega arith)
     slice-write-lent
-    add-i
-    loop-less
+    (λ c. omega arith)
+    (λ c. omega arith)
     loop-again
     same-length
     returns)

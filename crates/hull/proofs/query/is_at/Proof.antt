@@ -7,16 +7,10 @@ use Rattle.model.specs.Plane.{same-point}
 use Rattle.hull.proofs.query.is_at.Statement.{statement}
 use Rattle.hull.proofs.query.is_at.Tie as tie
 
-point-at-requires : tie.Need-point-at-requires
-point-at-requires c κs = search needs
-
-is-same-requires : tie.Need-is-same-requires
-is-same-requires c κs = search needs
-
 returns : tie.Need-returns
 returns c =
     let p = c .before .before .args .p in
     c .is-same .ensures ∙ ap (λ (a : Point). same-point a p) (c .before .point-at .ensures)
 
 pub is-at-spec : {M : Type 1} → statement M
-is-at-spec = tie.close (tie.spec point-at-requires is-same-requires returns)
+is-at-spec = tie.close (tie.spec (λ c κs. search needs) (λ c κs. search needs) returns)

@@ -62,18 +62,12 @@ mul-a c = omega (arith, listed (c .before) .corners-of .ensures .fits, c .loop-t
 element-copy-out-a : tie.Need-element-copy-out-a Inv-loop μ-loop
 element-copy-out-a c = omega (arith, listed (c .before) .corners-of .ensures .fits, c .loop-test .taken)
 
-is-at-requires : tie.Need-is-at-requires Inv-loop μ-loop
-is-at-requires c κs = search needs
-
 returns-2 : tie.Need-returns-2 Inv-loop μ-loop
 returns-2 c =
     let t = step (c .before) in
     let l = t .before in
     corner-found (entry l .args .t1) (entry l .args .p) (listed l .corners-of .ensures) (l .loop .inv) (t .loop-test .taken)
     (c .before .is-at .ensures) (c .if2 .taken) (listed l .before .if1 .left)
-
-next-corner-requires : tie.Need-next-corner-requires Inv-loop μ-loop
-next-corner-requires c κs = search needs
 
 side-at-requires : tie.Need-side-at-requires Inv-loop μ-loop
 unfolding point
@@ -86,12 +80,6 @@ viewed-requires c κs =
     let t = step (tested (led c)) in
     omega (arith, t .before .loop .inv .few, t .loop-test .taken, listed (t .before) .corners-of .ensures .fits)
 
-add-i : tie.Need-add-i Inv-loop μ-loop
-add-i c = omega arith
-
-loop-less : tie.Need-loop-less Inv-loop μ-loop
-loop-less c = omega arith
-
 loop-again : tie.Need-loop-again Inv-loop μ-loop
 unfolding next-corner edge-link
 loop-again c =
@@ -102,9 +90,6 @@ loop-again c =
     corner-looked (entry l .args .t1) (entry l .args .p) (listed l .corners-of .ensures) (l .loop .inv) (t .loop-test .taken)
     (a .is-at .ensures) (d .before .before .before .before .if2 .left) (d .next-corner .ensures)
     (c .before .side-at .ensures) (c .viewed .ensures)
-
-next-corner-requires-2 : tie.Need-next-corner-requires-2 Inv-loop μ-loop
-next-corner-requires-2 c κs = search needs
 
 returns-3 : tie.Need-returns-3 Inv-loop μ-loop
 unfolding next-corner edge-link
@@ -137,15 +122,15 @@ placed-spec =
     loop-holds
     mul-a
     element-copy-out-a
-    is-at-requires
+    (λ c κs. search needs)
     returns-2
-    next-corner-requires
+    (λ c κs. search needs)
     side-at-requires
     viewed-requires
-    add-i
-    loop-less
+    (λ c. omega arith)
+    (λ c. omega arith)
     loop-again
-    next-corner-requires-2
+    (λ c κs. search needs)
     returns-3
     returns-4
     returns-5)

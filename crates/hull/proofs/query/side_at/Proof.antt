@@ -7,12 +7,6 @@ use Rattle.hull.proofs.Indices.{three-ranged}
 use Rattle.hull.proofs.query.side_at.Statement.{statement}
 use Rattle.hull.proofs.query.side_at.Tie as tie
 
-point-at-requires : tie.Need-point-at-requires
-point-at-requires c κs = search needs
-
-point-at-requires-2 : tie.Need-point-at-requires-2
-point-at-requires-2 c κs = search needs
-
 side-of-requires : tie.Need-side-of-requires
 side-of-requires c κs =
     let s = c .before .before in
@@ -25,4 +19,4 @@ returns c =
     c .side-of .ensures ∙ ap₂ (λ a b. side-of a b p) (d .before .point-at .ensures) (d .point-at2 .ensures)
 
 pub side-at-spec : {M : Type 1} → statement M
-side-at-spec = tie.close (tie.spec point-at-requires point-at-requires-2 side-of-requires returns)
+side-at-spec = tie.close (tie.spec (λ c κs. search needs) (λ c κs. search needs) side-of-requires returns)

@@ -29,9 +29,6 @@ module _ (c : tie.After-orientation-in-range) where
   unfolding visible-from
   visible = ap (λ (z : ℤ). ltZ z (pos 0)) value
 
-orientation-in-range-requires : tie.Need-orientation-in-range-requires
-orientation-in-range-requires c κs = search needs
-
 returns : tie.Need-returns
 unfolding side-of
 returns c = rw (sym (left (c .before)) ∙ c .if1 .taken)
@@ -41,9 +38,6 @@ unfolding side-of
 returns-2 c =
     let t = c .before .before in
     rw (sym (left t) ∙ c .before .if1 .left, sym (visible t) ∙ c .if2 .taken)
-
-are-opposite-requires : tie.Need-are-opposite-requires
-are-opposite-requires c κs = search needs
 
 -- where the last test is made
 module _ (c : tie.After-are-opposite) where
@@ -81,4 +75,4 @@ returns-4 c =
 pub side-of-spec : {M : Type 1} → statement M
 side-of-spec =
     tie.close
-    (tie.spec orientation-in-range-requires returns returns-2 are-opposite-requires returns-3 returns-4)
+    (tie.spec (λ c κs. search needs) returns returns-2 (λ c κs. search needs) returns-3 returns-4)

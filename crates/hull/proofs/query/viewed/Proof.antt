@@ -6,27 +6,6 @@ use Rattle.hull.specs.Viewing.{viewed}
 use Rattle.hull.proofs.query.viewed.Statement.{statement}
 use Rattle.hull.proofs.query.viewed.Tie as tie
 
-enum-told : tie.Need-enum-told
-enum-told c = search needs
-
-enum-told-2 : tie.Need-enum-told-2
-enum-told-2 c = search needs
-
-add-t5 : tie.Need-add-t5
-add-t5 c = search needs
-
-enum-told-3 : tie.Need-enum-told-3
-enum-told-3 c = search needs
-
-between-requires : tie.Need-between-requires
-between-requires c κs = search needs
-
-enum-told-4 : tie.Need-enum-told-4
-enum-told-4 c = search needs
-
-returns : tie.Need-returns
-returns c = search needs
-
 returns-2 : tie.Need-returns-2
 returns-2 c =
     let s = c .before .before .before .args in
@@ -46,13 +25,13 @@ pub viewed-spec : {M : Type 1} → statement M
 viewed-spec =
     tie.close
     (tie.spec
-    enum-told
-    enum-told-2
-    add-t5
-    enum-told-3
-    between-requires
-    enum-told-4
-    returns
+    (λ c. search needs)
+    (λ c. search needs)
+    (λ c. search needs)
+    (λ c. search needs)
+    (λ c κs. search needs)
+    (λ c. search needs)
+    (λ c. search needs)
     returns-2
     returns-3
     returns-4)

@@ -7,12 +7,6 @@ use Rattle.hull.proofs.Indices.{three-ranged}
 use Rattle.hull.proofs.sight.is_visible.Statement.{statement}
 use Rattle.hull.proofs.sight.is_visible.Tie as tie
 
-point-at-requires : tie.Need-point-at-requires
-point-at-requires c κs = search needs
-
-point-at-requires-2 : tie.Need-point-at-requires-2
-point-at-requires-2 c κs = search needs
-
 sees-edge-requires : tie.Need-sees-edge-requires
 sees-edge-requires c κs =
     let s = c .before .before in
@@ -26,4 +20,4 @@ returns c =
 
 pub is-visible-spec : {M : Type 1} → statement M
 is-visible-spec =
-    tie.close (tie.spec point-at-requires point-at-requires-2 sees-edge-requires returns)
+    tie.close (tie.spec (λ c κs. search needs) (λ c κs. search needs) sees-edge-requires returns)

@@ -5,9 +5,6 @@ use Rattle.finite.specs.Bounded.{one-if}
 use Rattle.hull.proofs.sight.plus_one_if.Statement.{statement}
 use Rattle.hull.proofs.sight.plus_one_if.Tie as tie
 
-add-result : tie.Need-add-result
-add-result c = search needs
-
 returns : tie.Need-returns
 unfolding one-if
 returns c = rw (c .if1 .taken)
@@ -17,4 +14,4 @@ unfolding one-if
 returns-2 c = rw (c .if1 .left) (omega arith)
 
 pub plus-one-if-spec : {M : Type 1} → statement M
-plus-one-if-spec = tie.close (tie.spec add-result returns returns-2)
+plus-one-if-spec = tie.close (tie.spec (λ c. search needs) returns returns-2)

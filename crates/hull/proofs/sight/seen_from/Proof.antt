@@ -37,9 +37,6 @@ lent s helpers =
 abbrev started : tie.In-loop Inv-loop μ-loop → tie.Start Inv-loop μ-loop
 started c = at-start (c .before .before)
 
-previous-corner-requires : tie.Need-previous-corner-requires Inv-loop μ-loop
-previous-corner-requires c κs = search needs
-
 is-visible-requires : tie.Need-is-visible-requires Inv-loop μ-loop
 is-visible-requires c κs = ranged (c .before .before .pre .outline)
 
@@ -49,29 +46,14 @@ loop-holds c =
     let s = at-start c in
     (s .pre, at-first (lent s (s .pre .helpers)) (s .args .p) (s .pre .outline) (sub-zero _) (c .before .previous-corner .ensures) (c .is-visible .ensures))
 
-next-corner-requires : tie.Need-next-corner-requires Inv-loop μ-loop
-next-corner-requires c κs = search needs
-
 is-visible-requires-2 : tie.Need-is-visible-requires-2 Inv-loop μ-loop
 is-visible-requires-2 c κs = ranged (started (c .before) .pre .outline)
-
-sought-at-requires : tie.Need-sought-at-requires Inv-loop μ-loop
-sought-at-requires c κs = search needs
-
-sought-at-requires-2 : tie.Need-sought-at-requires-2 Inv-loop μ-loop
-sought-at-requires-2 c κs = search needs
 
 plus-one-if-requires : tie.Need-plus-one-if-requires Inv-loop μ-loop
 plus-one-if-requires c κs =
     let t = c .before .before .before .before in
     let inv = t .before .loop .inv in
     omega (arith, inv .1 .few, inv .0 .outline .is-sound .links .fits, t .loop-test .taken)
-
-add-counter : tie.Need-add-counter Inv-loop μ-loop
-add-counter c = search needs
-
-loop-less : tie.Need-loop-less Inv-loop μ-loop
-loop-less c = search needs
 
 -- a corner was passed: the next one is not the first ..
 loop-again : tie.Need-loop-again Inv-loop μ-loop
@@ -118,16 +100,16 @@ seen-from-spec =
     (tie.spec
     Inv-loop
     μ-loop
-    previous-corner-requires
+    (λ c κs. search needs)
     is-visible-requires
     loop-holds
-    next-corner-requires
+    (λ c κs. search needs)
     is-visible-requires-2
-    sought-at-requires
-    sought-at-requires-2
+    (λ c κs. search needs)
+    (λ c κs. search needs)
     plus-one-if-requires
-    add-counter
-    loop-less
+    (λ c. search needs)
+    (λ c. search needs)
     loop-again
     returns
     returns-2)

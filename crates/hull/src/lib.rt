@@ -28,7 +28,7 @@ ghost use Rattle.model.specs.Arrival.{admitted, arrive, arrived, later-point, r
 ghost use Rattle.hull.specs.Requires.{RoomFor, map-of};
 
 // What an arrival leaves beside a map's arrays: how the point arrived, and the reference.
-pub struct Grown {
+pub struct Growth {
     pub arrival: Arrival,
     pub reference: usize,
 }
@@ -100,7 +100,7 @@ pub fn grow(
     count: usize,
     reference: usize,
     p: Point,
-) -> Grown
+) -> Growth
     requires { ⌜ RoomFor (map-of (now xs) (now ys) (now helpers) (now edge) count reference) p ⌝ }
     ensures { λ r. ⌜ arrived (r .arrival)
         (map-of (now (xs .exit)) (now (ys .exit)) (now (helpers .exit)) (now (edge .exit))
@@ -110,7 +110,7 @@ pub fn grow(
 {
     if count == 0 {
         put_point(xs, ys, count, p);
-        return Grown {
+        return Growth {
             arrival: Arrival::First,
             reference,
         };
@@ -118,7 +118,7 @@ pub fn grow(
     if count == 1 {
         put_point(xs, ys, count, p);
         pair(helpers, edge);
-        return Grown {
+        return Growth {
             arrival: Arrival::Second,
             reference: 2,
         };
@@ -135,7 +135,7 @@ fn grow_later(
     count: usize,
     reference: usize,
     p: Point,
-) -> Grown
+) -> Growth
     requires { ⌜ RoomFor (map-of (now xs) (now ys) (now helpers) (now edge) count reference) p ⌝ }
     requires { ⌜ 2 ≤ count ⌝ }
     ensures { λ r. ⌜ arrived (r .arrival)
@@ -150,13 +150,13 @@ fn grow_later(
     let visible = seen.visible;
     put_point(xs, ys, count, p);
     if visible == 0 {
-        return Grown {
+        return Growth {
             arrival: Arrival::Inside,
             reference,
         };
     }
     splice(helpers, edge, count, left, right);
-    Grown {
+    Growth {
         arrival: Arrival::Outside {
             left,
             right,

@@ -4,13 +4,16 @@ use mathlib.Core.Path.{_≡_, refl, sym, ap, ap₂, subst, _∙_}
 use mathlib.Core.Logic.{_≢_, ⊎-elim}
 use mathlib.Core.Bool.{Bool, true, false, _&&_, true≢false}
 use mathlib.Core.List.{List}
-use Prim.Native.Nat.{ℕ, zero, suc, _+_, _*_, _/_, _%_, _<_}
-use native.Mathlib.Nat.{div-zero, zero-div, div-le-self, le-trans, mul-comm}
+use Prim.Native.Nat.{ℕ, zero, suc, _+_, _*_, _/_, _%_, _^_, _<_, max}
+use native.Mathlib.Nat.{div-zero, zero-div, div-self, div-le-self, le-trans, mul-comm}
 use native.Mathlib.Nat.{mul-div-mul-left, mul-div-mul-right}
 use native.Mathlib.Omega.{arith}
+use native.Mathlib.Numerals.{add-one}
+use lib.Bits.{bitAnd, bitOr, or-step, or-shr}
 use lib.Dec.{T}
 use lib.IntN.{ℤ, pos, negsuc, _+ℤ_, _-ℤ_, _*ℤ_, natAbs, zero-*ℤ, *ℤ-comm, ℤ-discrete}
 use lib.ListN.{length, getD, set, length-set}
+use lib.Pow.{pow-pos}
 use lib.Seq.{getD-set-same, getD-set-other}
 use lib.Signed.{quotZ, _≤ℤ_, _<ℤ_}
 use mir.Syntax.{w64}
@@ -20,13 +23,14 @@ use Rattle.integers.specs.Sign.{zero-product}
 use Rattle.integers.specs.Range.{Number, bounded-splits, natAbs-*ℤ, literal, add, mul, back}
 use Rattle.integers.specs.Solver.{_≐_, _⊕_, _⊗_, identity}
 use Rattle.finite.specs.Tests.{is-false, same-or-not}
-use Rattle.finite.specs.Bounded.{any-at, any-by}
+use Rattle.finite.specs.Bounded.{any-at, any-by, below-suc}
+use Rattle.orbits.proofs.Sets.{and-bit}
 use Rattle.model.specs.declared.Point.{Point}
 use Rattle.model.specs.Plane.{coordinate-limit, same-point, orientation, in-line}
 use Rattle.model.specs.Maps.{point-at}
 use Rattle.plane.proofs.Orientation.{orientation-cyclic, in-line-zero}
 use Rattle.hull.specs.Requires.{NewAmong, in-line-with}
-use Rattle.hull.specs.Slopes.{slope-count, slope-parts, scaled, slope}
+use Rattle.hull.specs.Slopes.{slope-count, slope-words, slope-parts, scaled, slope}
 
 -- ---- quotients
 
@@ -154,40 +158,61 @@ slope-below p a = omega arith
 
 -- ---- the slopes seen on the way through the points
 
--- what is marked stays marked, and so is place v
-set-marks : (s : List Bool) (v x : ℕ) → v < length s → (x ≢ v → getD s x false ≡ true) →
-    getD (set s v true) x false ≡ true
-set-marks s v x l h =
-    ⊎-elim (λ (e : x ≡ v). rw e (getD-set-same s v true false l))
-    (λ (n : x ≢ v). getD-set-other s v x true false n ∙ h n)
-    (same-or-not x v)
+-- bit d of a list of words
+abbrev bit-at : List ℕ → ℕ → ℕ
+bit-at words d = getD words (d / 64) 0 / 2 ^ (d % 64) % 2
 
--- the slopes of the points before k are marked in s
-pub record SlopesSeen (xs ys : List ℤ) (p : Point) (k : ℕ) (s : List Bool) : Type 0 where
-  pub whole : length s ≡ slope-count
-  pub marked : (i : ℕ) → i < k → getD s (slope p (point-at xs ys i)) false ≡ true
+or-bits : (a b k : ℕ) → bitOr a b / 2 ^ k % 2 ≡ max (a / 2 ^ k % 2) (b / 2 ^ k % 2)
+or-bits a b k = rw (or-shr a b k) (omega (arith, or-step (a / 2 ^ k) (b / 2 ^ k)))
 
-module _ {xs ys : List ℤ} {p : Point} {s : List Bool} where
-  pub none-seen : length s ≡ slope-count → SlopesSeen xs ys p 0 s
+-- with bit v set, in the word of v
+abbrev pub marking : List ℕ → ℕ → List ℕ
+marking words v = set words (v / 64) (bitOr (getD words (v / 64) 0) (2 ^ (v % 64)))
+
+marks-one : (words : List ℕ) (v : ℕ) → v / 64 < length words → bit-at (marking words v) v ≡ 1
+marks-one words v l =
+    rw (getD-set-same words (v / 64) (bitOr (getD words (v / 64) 0) (2 ^ (v % 64))) 0 l)
+    (omega (arith, or-bits (getD words (v / 64) 0) (2 ^ (v % 64)) (v % 64), div-self (pow-pos (v % 64))))
+
+-- what is set stays set
+marks-more : (words : List ℕ) (v x : ℕ) → v / 64 < length words → bit-at words x ≡ 1 →
+    bit-at (marking words v) x ≡ 1
+marks-more words v x l e =
+    let more = bitOr (getD words (v / 64) 0) (2 ^ (v % 64)) in
+    ⊎-elim
+    (λ (q : x / 64 ≡ v / 64).
+    rw (q, getD-set-same words (v / 64) more 0 l)
+    (omega (arith, or-bits (getD words (v / 64) 0) (2 ^ (v % 64)) (x % 64), rw q at e)))
+    (λ (n : x / 64 ≢ v / 64). rw (getD-set-other words (v / 64) (x / 64) more 0 n) e)
+    (same-or-not (x / 64) (v / 64))
+
+-- the slopes of the points before k have their bits set in s
+pub record SlopesSeen (xs ys : List ℤ) (p : Point) (k : ℕ) (s : List ℕ) : Type 0 where
+  pub whole : length s ≡ slope-words
+  pub marked : (i : ℕ) → i < k → bit-at s (slope p (point-at xs ys i)) ≡ 1
+
+module _ {xs ys : List ℤ} {p : Point} {s : List ℕ} where
+  pub none-seen : length s ≡ slope-words → SlopesSeen xs ys p 0 s
   none-seen e = record { whole = e; marked = λ i l. absurd (omega arith) }
 
   module _ (k : ℕ) {v : ℕ} (m : SlopesSeen xs ys p k s) (v-is : v ≡ slope p (point-at xs ys k)) where
-    pub one-seen : SlopesSeen xs ys p (k + 1) (set s v true)
+    within : v / 64 < length s
+    within = omega (arith, m .whole, slope-below p (point-at xs ys k))
+
+    pub one-seen : SlopesSeen xs ys p (k + 1) (marking s v)
     one-seen =
         record {
-          whole = length-set s v true ∙ m .whole;
+          whole = length-set s (v / 64) (bitOr (getD s (v / 64) 0) (2 ^ (v % 64))) ∙ m .whole;
           marked =
               λ i l.
-              set-marks s v (slope p (point-at xs ys i))
-              (omega (arith, m .whole, slope-below p (point-at xs ys k)))
-              (λ n.
-              let other : i ≢ k = λ e. n (ap (λ (j : ℕ). slope p (point-at xs ys j)) e ∙ sym v-is) in
-              m .marked i (omega arith));
+              ⊎-elim (λ (b : i < k). marks-more s v (slope p (point-at xs ys i)) within (m .marked i b))
+              (λ (e : i ≡ k). rw (e, ← v-is) (marks-one s v within))
+              (below-suc k i (rw add-one at l));
         }
 
-    -- where the slope of point k is not marked, no point before it is in line with it and p
-    pub unseen : {count : ℕ} → NewAmong xs ys count p → k < count → getD s v false ≡ false →
-        in-line-with xs ys k p ≡ false
+    -- where the bit of the slope of point k is not set, no point before it is in line with it and p
+    pub unseen : {count : ℕ} → NewAmong xs ys count p → k < count →
+        bitAnd (getD s (v / 64) 0) (2 ^ (v % 64)) ≡ 0 → in-line-with xs ys k p ≡ false
     unseen {count} new l none =
         is-false (in-line-with xs ys k p)
         (λ t.
@@ -195,8 +220,8 @@ module _ {xs ys : List ℤ} {p : Point} {s : List Bool} where
         let one =
         same-slope (point-at xs ys (f .0)) (point-at xs ys k) p (fresh (f .0) (omega arith)) (fresh k l)
         (f .2) in
-        true≢false
-        (sym (m .marked (f .0) (f .1)) ∙ ap (λ (x : ℕ). getD s x false) (one ∙ sym v-is) ∙ none))
+        let bit : bit-at s v ≡ 1 = rw (v-is ∙ sym one) (m .marked (f .0) (f .1)) in
+        omega (arith, rw bit at (and-bit (getD s (v / 64) 0) (v % 64)), pow-pos (v % 64)))
       where
         fresh : (i : ℕ) → i < count → same-point (point-at xs ys i) p ≡ false
         fresh i h = is-false _ (λ t. subst T (new .new) (any-by count _ i h t))

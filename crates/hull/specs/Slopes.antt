@@ -6,9 +6,13 @@ use lib.IntN.{ℤ, pos, _+ℤ_, _-ℤ_, _*ℤ_, natAbs}
 use Rattle.model.specs.declared.Point.{Point}
 use Rattle.model.specs.Plane.{coordinate-limit}
 
--- how many slopes are told apart, and how many parts make a slope of 1
+-- how many slopes are told apart, the words that have a bit for each, and how many parts make a
+-- slope of 1
 abbrev pub slope-count : ℕ
-slope-count = 32_768
+slope-count = 65_536
+
+abbrev pub slope-words : ℕ
+slope-words = slope-count / 64
 
 abbrev pub slope-parts : ℕ
 slope-parts = coordinate-limit + 1

@@ -10,10 +10,13 @@ ghost use lib.Dec.{T};
 ghost use lib.ListN.{length};
 ghost use Rattle.model.specs.Plane.{in-range};
 ghost use Rattle.hull.specs.Requires.{NewAmong, Ranged, in-line-among, in-line-with};
-ghost use Rattle.hull.specs.Slopes.{slope, slope-count};
+ghost use Rattle.hull.specs.Slopes.{slope, slope-words};
 
 // How many slopes are told apart.
-const SLOPE_COUNT: usize = 32768;
+const SLOPE_COUNT: usize = 65536;
+
+// The words that have a bit for each slope.
+const SLOPE_WORDS: usize = SLOPE_COUNT / 64;
 
 // How many parts make a slope of 1: an odd number, so that slopes that are whole numbers do not meet.
 const SLOPE_PARTS: i64 = COORDINATE_LIMIT + 1;
@@ -27,19 +30,22 @@ pub fn is_in_line_among<'a>(xs: &'a [i64], ys: &'a [i64], count: usize, p: Point
     let mut seen = no_slopes();
     for j in 0..count {
         let s = slope(p, point_at(xs, ys, j));
-        if seen[s] && is_in_line_with(xs, ys, j, p) {
+        let w = s / 64;
+        let bit = 1u64 << (s % 64);
+        let word = seen[w];
+        if word & bit != 0 && is_in_line_with(xs, ys, j, p) {
             return true;
         }
-        seen[s] = true;
+        seen[w] = word | bit;
     }
     false
 }
 
-// No slope is seen.
-fn no_slopes() -> [bool; SLOPE_COUNT]
-    ensures { λ r. ⌜ slope-count ≡ length r ⌝ }
+// No slope is seen: no bit is set.
+fn no_slopes() -> [u64; SLOPE_WORDS]
+    ensures { λ r. ⌜ slope-words ≡ length r ⌝ }
 {
-    [false; SLOPE_COUNT]
+    [0u64; SLOPE_WORDS]
 }
 
 // The slope of the line from p to a, for points that are in range. It decides nothing by itself.

@@ -5,9 +5,11 @@ use mathlib.Core.Path.{_≡_, refl, sym, ap, _∙_}
 use mathlib.Core.Logic.{⊎-elim}
 use mathlib.Core.Bool.{Bool, not}
 use mathlib.Core.List.{List}
-use Prim.Native.Nat.{ℕ, _-_, _<_}
+use Prim.Native.Nat.{ℕ, _-_, _%_, _<_}
+use native.Mathlib.Omega.{arith}
 use denote.Ref.{now}
 use lib.IntN.{ℤ}
+use Rattle.orbits.proofs.Sets.{mask-is}
 use Rattle.model.specs.declared.Point.{Point}
 use Rattle.model.specs.Maps.{point-at}
 use Rattle.hull.specs.Requires.{in-line-with}
@@ -57,12 +59,18 @@ slope-is : (c : tie.After-slope Inv-loop μ-loop) →
     c .slope .result ≡ slope (s .p) (point-at (now (s .xs)) (now (s .ys)) (l .before .loop .j))
 slope-is c = c .slope .ensures ∙ ap (slope _) (c .before .point-at .ensures)
 
--- .. is a place of the table
+-- .. has a bit
 in-table : (c : tie.After-slope Inv-loop μ-loop) → c .slope .result < slope-count
 in-table c = rw (c .slope .ensures) (slope-below _ _)
 
-array-read-if1 : tie.Need-array-read-if1 Inv-loop μ-loop
-array-read-if1 c = in-table c
+shl-bit : tie.Need-shl-bit Inv-loop μ-loop
+shl-bit c = search needs
+
+mul-word : tie.Need-mul-word Inv-loop μ-loop
+mul-word c = omega (arith, in-table c)
+
+array-read-word : tie.Need-array-read-word Inv-loop μ-loop
+array-read-word c = omega (arith, in-table c)
 
 is-in-line-with-requires : tie.Need-is-in-line-with-requires Inv-loop μ-loop
 is-in-line-with-requires c κs = at-start (in-loop (c .before)) .pre .ranged
@@ -75,19 +83,24 @@ returns c =
     (one-failed (iteration loop _ (call .is-in-line-with .ensures)) (none-below _ _) (loop .loop-test .taken)
     (not-twice (c .if2 .taken)))
 
+mul-seen : tie.Need-mul-seen Inv-loop μ-loop
+mul-seen c = omega (arith, in-table (c .before))
+
 array-write-seen : tie.Need-array-write-seen Inv-loop μ-loop
-array-write-seen c = in-table (c .before)
+array-write-seen c = omega (arith, in-table (c .before))
 
 loop-again : tie.Need-loop-again Inv-loop μ-loop
 loop-again c =
     let loop = in-loop (c .before) in
     let inv = loop .before .loop .inv in
+    let mask = mask-is (c .before .slope .result % 64) (omega arith) in
     let none =
     ⊎-elim (λ asked. sym (asked .1 .ensures) ∙ asked .2 .left)
     (λ new.
-    unseen _ (inv .1) (slope-is (c .before)) (at-start loop .pre) (loop .loop-test .taken) (new .left))
+    unseen _ (inv .1) (slope-is (c .before)) (at-start loop .pre) (loop .loop-test .taken)
+    (rw mask at (new .left)))
     (c .if1 .came) in
-    (one-passed (iteration loop _ refl) (not-twice none), one-seen _ (inv .1) (slope-is (c .before)))
+    (one-passed (iteration loop _ refl) (not-twice none), rw mask (one-seen _ (inv .1) (slope-is (c .before))))
 
 returns-2 : tie.Need-returns-2 Inv-loop μ-loop
 returns-2 c = none-found (all-passed (none-below _ _) (c .before .loop .inv .0) (c .loop-test .left))
@@ -102,9 +115,12 @@ is-in-line-among-spec =
     loop-holds
     (λ c κs. search needs)
     slope-requires
-    array-read-if1
+    shl-bit
+    mul-word
+    array-read-word
     is-in-line-with-requires
     returns
+    mul-seen
     array-write-seen
     (λ c. search needs)
     (λ c. search needs)

@@ -3,8 +3,8 @@
 //! The boundary is the engine's: saved bytes in, numbers and lent lists out, soundness looked at in
 //! every call. Points and links stand in arrays, products are 64-bit, and the loops over points
 //! have no branches, so that the compiler can vectorise them. As in the engine, soundness compares
-//! every outline edge with every point, a new point every pair of points, and a later arrival every
-//! outline edge.
+//! every outline edge with every point, a new point the slopes of its lines to all points, which are
+//! kept as bits, and a later arrival looks at every outline edge. A map grows in place.
 
 const POINT_LIMIT: usize = 512;
 const DART_LIMIT: usize = 2 * POINT_LIMIT;
@@ -12,6 +12,7 @@ const NO_DART: usize = DART_LIMIT;
 const TEXT_LIMIT: usize = 65_536;
 const LIMIT: i64 = 1_000_000;
 const HEAD: usize = 9;
+const SLOPES: usize = 65_536;
 
 const NOT_SOUND: u32 = 1;
 const FULL: u32 = 2;
@@ -49,16 +50,28 @@ fn product(a: i32, b: i32) -> i64 {
     i64::from(a) * i64::from(b)
 }
 
-/// Whether two of these directions are the same or opposite. Products that are equal are equal in
-/// their low 32 bits, which are compared first: they are cheaper, and seldom equal by chance.
+/// Whether two of these directions, none of which is 0, are the same or opposite. Such directions
+/// have one slope, so products are compared only where the slope was seen before.
 fn is_in_line(across: &[i32], up: &[i32]) -> bool {
-    (1..across.len()).any(|j| {
+    let mut seen = [0_u64; SLOPES / 64];
+    (0..across.len()).any(|j| {
         let (u, v) = (across[j], up[j]);
-        let earlier = || across[..j].iter().zip(&up[..j]);
-        let may_be =
-            earlier().fold(false, |found, (s, t)| found | (s.wrapping_mul(v) == t.wrapping_mul(u)));
-        may_be && earlier().any(|(&s, &t)| product(s, v) == product(t, u))
+        let slope = slope(u, v);
+        let (word, bit) = (&mut seen[slope / 64], 1 << (slope % 64));
+        let was_seen = *word & bit != 0;
+        *word |= bit;
+        was_seen && (0..j).any(|i| product(across[i], v) == product(up[i], u))
     })
+}
+
+/// The slope of a direction, as one of so many numbers. Its parts are an odd number to 1, so that
+/// slopes that are whole numbers do not meet; with twice the limit more it is not negative.
+fn slope(across: i32, up: i32) -> usize {
+    if across == 0 {
+        return 0;
+    }
+    let (across, up) = (i64::from(across), i64::from(up));
+    ((LIMIT + 1) * (up + 2 * LIMIT * across) / across) as usize % SLOPES
 }
 
 /// What the links of a map lead to, from its reference.

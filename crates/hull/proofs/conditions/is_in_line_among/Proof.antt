@@ -63,9 +63,6 @@ slope-is c = c .slope .ensures ∙ ap (slope _) (c .before .point-at .ensures)
 in-table : (c : tie.After-slope Inv-loop μ-loop) → c .slope .result < slope-count
 in-table c = rw (c .slope .ensures) (slope-below _ _)
 
-shl-bit : tie.Need-shl-bit Inv-loop μ-loop
-shl-bit c = search needs
-
 mul-word : tie.Need-mul-word Inv-loop μ-loop
 mul-word c = omega (arith, in-table c)
 
@@ -115,7 +112,7 @@ is-in-line-among-spec =
     loop-holds
     (λ c κs. search needs)
     slope-requires
-    shl-bit
+    (λ c. search needs)
     mul-word
     array-read-word
     is-in-line-with-requires

@@ -34,7 +34,8 @@ not-sound {m} s = ap not (is-true (sound m) (sound-by m s))
 
 pub ranged-places : {m : Map} → Sound m → RangedPlaces (m .xs) (m .ys)
 unfolding point
-ranged-places s = record { places = place-ranged s }
+ranged-places s =
+    record { xs-whole = s .points .xs-whole; ys-whole = s .points .ys-whole; places = place-ranged s }
 
 module _ {m : Map} (s : Sound m) (p : Point) where
   pub admission-refused : (r : Refusal) →

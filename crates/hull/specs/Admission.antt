@@ -1,11 +1,13 @@
 -- Why a sound map refuses a point, by the map's coordinates alone, for code that is lent its
--- arrays, in the order of this page: places that all hold points in range; what the rules come to.
+-- arrays, in the order of this page: all places, which hold points in range; what the rules come to.
 -- Document 01, "The number on the returned sheet", 2 to 5. Assumes nothing.
+use mathlib.Core.Path.{_≡_}
 use mathlib.Core.Bool.{not}
 use mathlib.Core.List.{List, [], _∷_}
 use Prim.Native.Nat.{ℕ}
 use lib.Dec.{T, leb}
 use lib.IntN.{ℤ}
+use lib.ListN.{length}
 use Rattle.finite.specs.Bounded.{any}
 use Rattle.model.specs.declared.Refusal.{Refusal}
 use Rattle.model.specs.declared.Outcome.{Outcome}
@@ -18,6 +20,8 @@ use Rattle.hull.specs.Requires.{in-line-among}
 
 -- as the arrays of a sound map do, past its last point too
 pub record RangedPlaces (xs ys : List ℤ) : Type 0 where
+  pub xs-whole : length xs ≡ point-limit
+  pub ys-whole : length ys ≡ point-limit
   pub places : (k : ℕ) → T (in-range (point-at xs ys k))
 
 -- the rules of a map with these coordinates

@@ -5,9 +5,10 @@
 -- Assumes nothing.
 use mathlib.Core.Bool.{Bool, not, _&&_}
 use mathlib.Core.List.{List}
-use Prim.Native.Nat.{ℕ}
+use Prim.Native.Nat.{ℕ, _≤_}
 use lib.Dec.{ltb, leb, eqb}
 use lib.IntN.{ℤ}
+use lib.ListN.{length}
 use Rattle.finite.specs.Tests.{_⇒_}
 use Rattle.finite.specs.Bounded.{all}
 use Rattle.orbits.specs.declared.DartSet.{DartSet}
@@ -20,6 +21,11 @@ use Rattle.model.specs.Maps.{point-at}
 use Rattle.model.specs.Sound.{count-fits, points-in-range, points-differ, places-vacant}
 use Rattle.model.specs.Sound.{helpers-owned, absent-fixed, links-undo, edges-cross, lone-fixed}
 use Rattle.model.specs.Sound.{one-outline, reference-on-outline, others-left, no-outline}
+
+-- arrays that hold the coordinates of n points
+pub record PlacesFor (xs ys : List ℤ) (n : ℕ) : Type 0 where
+  pub xs-hold : n ≤ length xs
+  pub ys-hold : n ≤ length ys
 
 -- p is none of the first n points
 abbrev pub new-at : List ℤ → List ℤ → ℕ → Point → Bool

@@ -6,14 +6,17 @@ use model::Map;
 use model::POINT_LIMIT;
 use model::Point;
 use plane::in_range;
-use plane::is_same;
 ghost use mathlib.Core.Path.{_≡_};
+ghost use Prim.Native.Nat.{_+_};
+ghost use lib.Dec.{T};
 ghost use lib.IntN.{pos};
 ghost use lib.ListN.{drop};
 ghost use Rattle.integers.specs.Order.{eqZ};
 ghost use Rattle.finite.specs.Lists.{all-in};
+ghost use Rattle.model.specs.Plane.{same-point};
+ghost use Rattle.model.specs.Maps.{point-at};
 ghost use Rattle.model.specs.Sound.{count-fits, places-vacant, points-differ, points-in-range};
-ghost use Rattle.maps.specs.Checks.{first-at, new-at};
+ghost use Rattle.maps.specs.Checks.{PlacesFor, first-at, new-at};
 ghost use Rattle.maps.specs.Checks.{points-sound};
 
 // All of these tests.
@@ -45,6 +48,7 @@ fn points_in_range(m: Map) -> bool
 
 // No two points are equal.
 fn points_differ(m: Map) -> bool
+    requires { ⌜ T (count-fits m) ⌝ }
     ensures { λ r. ⌜ r ≡ points-differ m ⌝ }
 {
     let n = m.count;
@@ -58,6 +62,7 @@ fn points_differ(m: Map) -> bool
 
 // Whether no earlier point equals point k.
 fn is_first<'a>(xs: &'a [i64], ys: &'a [i64], k: usize) -> bool
+    requires { ⌜ PlacesFor (now xs) (now ys) k ⌝ }
     ensures { λ r. ⌜ r ≡ first-at (now (xs .entry)) (now (ys .entry)) k ⌝ }
 {
     is_new(xs, ys, k, point_at(xs, ys, k))
@@ -65,14 +70,23 @@ fn is_first<'a>(xs: &'a [i64], ys: &'a [i64], k: usize) -> bool
 
 // Whether p is none of the first n points.
 pub fn is_new<'a>(xs: &'a [i64], ys: &'a [i64], n: usize, p: Point) -> bool
+    requires { ⌜ PlacesFor (now xs) (now ys) n ⌝ }
     ensures { λ r. ⌜ r ≡ new-at (now (xs .entry)) (now (ys .entry)) n p ⌝ }
 {
     for j in 0..n {
-        if is_same(point_at(xs, ys, j), p) {
+        if is_at(xs, ys, j, p) {
             return false;
         }
     }
     true
+}
+
+// Whether point k, for which there is a place, is equal to p.
+fn is_at<'a>(xs: &'a [i64], ys: &'a [i64], k: usize, p: Point) -> bool
+    requires { ⌜ PlacesFor (now xs) (now ys) (k + 1) ⌝ }
+    ensures { λ r. ⌜ r ≡ same-point (point-at (now (xs .entry)) (now (ys .entry)) k) p ⌝ }
+{
+    xs[k] == p.x && ys[k] == p.y
 }
 
 // A place without a point holds 0, 0.

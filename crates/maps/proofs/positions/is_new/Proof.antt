@@ -1,7 +1,7 @@
 -- `maps::positions::is_new` meets its contract: the loop tests every point before the n-th.
 -- Assumes nothing.
 use borrow.Author.Needs.{needs}
-use mathlib.Core.Path.{ap, _∙_}
+use mathlib.Core.Path.{ap}
 use mathlib.Core.Bool.{Bool, not}
 use mathlib.Core.List.{List}
 use Prim.Native.Nat.{ℕ, _-_}
@@ -27,26 +27,29 @@ abbrev μ-loop : tie.MeasureT-loop
 loop-holds : tie.Need-loop-holds Inv-loop μ-loop
 loop-holds c = none-passed _ 0
 
-module _ (c : tie.After-is-same Inv-loop μ-loop) where
+is-at-requires : tie.Need-is-at-requires Inv-loop μ-loop
+is-at-requires c κs = search needs
+
+module _ (c : tie.After-is-at Inv-loop μ-loop) where
   abbrev at-loop : tie.At-loop Inv-loop μ-loop
-  at-loop = c .before .before .before
+  at-loop = c .before .before
 
   abbrev at-start : tie.Start Inv-loop μ-loop
   at-start = at-loop .before
 
   iteration : Iteration (here (at-start .args .xs .now) (at-start .args .ys .now) (at-start .args .p)) 0 (at-loop .loop .j)
-      (not (c .is-same .result))
-  iteration =
-      record {
-        passed = at-loop .loop .inv;
-        found =
-            ap not
-            (c .is-same .ensures ∙ ap (λ (q : Point). same-point q (at-start .args .p)) (c .before .point-at .ensures));
-      }
+      (not (c .is-at .result))
+  iteration = record { passed = at-loop .loop .inv; found = ap not (c .is-at .ensures) }
 
 returns : tie.Need-returns Inv-loop μ-loop
 returns c =
     one-failed (iteration (c .before)) (below (at-start (c .before) .args .n) _) (omega arith) (not-twice (c .if1 .taken))
+
+add-j : tie.Need-add-j Inv-loop μ-loop
+add-j c = omega arith
+
+loop-less : tie.Need-loop-less Inv-loop μ-loop
+loop-less c = omega arith
 
 loop-again : tie.Need-loop-again Inv-loop μ-loop
 loop-again c = one-passed (iteration (c .before)) (not-twice (c .if1 .left))
@@ -61,10 +64,9 @@ is-new-spec =
     Inv-loop
     μ-loop
     loop-holds
-    (λ c κs. search needs)
-    (λ c κs. search needs)
+    is-at-requires
     returns
-    (λ c. omega arith)
-    (λ c. omega arith)
+    add-j
+    loop-less
     loop-again
     returns-2)

@@ -1,11 +1,14 @@
 -- `maps::positions::points_differ` meets its contract: the loop tests every point.
 -- Assumes nothing.
 use borrow.Author.Needs.{needs}
+use mathlib.Core.Path.{_≡_}
 use mathlib.Core.Bool.{Bool, not}
+use lib.Dec.{leb→le}
+use lib.ListN.{length}
 use Rattle.finite.specs.Bounded.{all}
 use Rattle.model.specs.Plane.{same-point}
-use Rattle.model.specs.Maps.{point}
-use Rattle.model.specs.Sound.{points-differ}
+use Rattle.model.specs.Maps.{point-limit, point}
+use Rattle.model.specs.Sound.{count-fits, points-differ}
 use Prim.Native.Nat.{ℕ, _-_}
 use native.Mathlib.Omega.{arith}
 use Rattle.model.specs.declared.Map.{Map}
@@ -29,6 +32,23 @@ abbrev μ-loop : tie.MeasureT-loop
 loop-holds : tie.Need-loop-holds Inv-loop μ-loop
 loop-holds c = none-passed _ 0
 
+-- the declared lengths
+whole-xs : (c : tie.Start Inv-loop μ-loop) → length (c .args .t1 .xs) ≡ point-limit
+whole-xs c = search needs
+
+whole-ys : (c : tie.Start Inv-loop μ-loop) → length (c .args .t1 .ys) ≡ point-limit
+whole-ys c = search needs
+
+is-first-requires : tie.Need-is-first-requires Inv-loop μ-loop
+unfolding count-fits
+is-first-requires c κs =
+    let l = c .before .before .before .before .before in
+    let s = l .before .before in
+    let few = leb→le (s .args .t1 .count) point-limit (s .pre) in
+    let xs-whole : length (s .args .t1 .xs) ≡ point-limit = whole-xs s in
+    let ys-whole : length (s .args .t1 .ys) ≡ point-limit = whole-ys s in
+    record { xs-hold = omega (arith, l .loop-test .taken); ys-hold = omega (arith, l .loop-test .taken) }
+
 module _ (c : tie.After-is-first Inv-loop μ-loop) where
   abbrev at-loop : tie.At-loop Inv-loop μ-loop
   at-loop = c .before .before .before .before .before .before .before
@@ -43,6 +63,12 @@ module _ (c : tie.After-is-first Inv-loop μ-loop) where
 returns : tie.Need-returns Inv-loop μ-loop
 returns c = one-failed (iteration (c .before)) (tests (map (c .before))) (omega arith) (c .if1 .taken)
 
+add-k : tie.Need-add-k Inv-loop μ-loop
+add-k c = omega arith
+
+loop-less : tie.Need-loop-less Inv-loop μ-loop
+loop-less c = omega arith
+
 loop-again : tie.Need-loop-again Inv-loop μ-loop
 loop-again c = one-passed (iteration (c .before)) (c .if1 .left)
 
@@ -56,9 +82,9 @@ points-differ-spec =
     Inv-loop
     μ-loop
     loop-holds
-    (λ c κs. search needs)
+    is-first-requires
     returns
-    (λ c. omega arith)
-    (λ c. omega arith)
+    add-k
+    loop-less
     loop-again
     returns-2)

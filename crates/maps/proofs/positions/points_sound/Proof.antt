@@ -1,13 +1,23 @@
 -- `maps::positions::points_sound` meets its contract: after each `&&` stands the conjunction of the tests so far.
 -- Assumes nothing.
 use borrow.Author.Needs.{needs}
-use mathlib.Core.Path.{_≡_, _∙_}
+use mathlib.Core.Path.{_≡_, sym, _∙_}
 use mathlib.Core.Logic.{⊎-elim}
 use mathlib.Core.Bool.{_&&_}
+use Rattle.finite.specs.Tests.{and-left, of-true}
 use Rattle.model.specs.Sound.{count-fits, points-differ, points-in-range}
 use Rattle.finite.specs.Loops.{both-asked, one-asked}
 use Rattle.maps.proofs.positions.points_sound.Statement.{statement}
 use Rattle.maps.proofs.positions.points_sound.Tie as tie
+
+count-fits-requires : tie.Need-count-fits-requires
+count-fits-requires c κs = search needs
+
+points-in-range-requires : tie.Need-points-in-range-requires
+points-in-range-requires c κs = search needs
+
+places-vacant-requires : tie.Need-places-vacant-requires
+places-vacant-requires c κs = search needs
 
 first-two : (c : tie.Joined1) →
     let m = c .before .before .args .m in
@@ -18,6 +28,11 @@ first-two c =
     (λ w. w .2 ∙ both-asked found (w .0 .taken) (w .1 .ensures))
     (λ w. w .1 ∙ one-asked _ found (w .0 .left))
     (c .if1 .came)
+
+points-differ-requires : tie.Need-points-differ-requires
+points-differ-requires c κs =
+    let m = c .before .before .before .args .m in
+    and-left (count-fits m) (points-in-range m) (of-true _ (sym (first-two (c .before)) ∙ c .if2 .taken))
 
 first-three : (c : tie.Joined2) →
     let m = c .before .before .before .args .m in
@@ -39,9 +54,9 @@ pub points-sound-spec : {M : Type 1} → statement M
 points-sound-spec =
     tie.close
     (tie.spec
-    (λ c κs. search needs)
-    (λ c κs. search needs)
-    (λ c κs. search needs)
-    (λ c κs. search needs)
+    count-fits-requires
+    points-in-range-requires
+    points-differ-requires
+    places-vacant-requires
     returns
     returns-2)

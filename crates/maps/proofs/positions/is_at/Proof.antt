@@ -1,0 +1,64 @@
+-- `maps::positions::is_at` meets its contract: equal bits are equal coordinates. Assumes nothing.
+use borrow.Author.Needs.{needs}
+use mathlib.Core.Path.{_≡_}
+use lib.Dec.{eqb}
+use lib.IntN.{pos}
+use lib.ListN.{getD}
+use mir.Syntax.{w64}
+use mir.Val.{ofZ}
+use denote.Ref.{now}
+use borrow.Author.Tests.{eq-eqb, ne-eqb}
+use Rattle.integers.specs.Order.{eqZ}
+use Rattle.integers.specs.Range.{eqb-read}
+use Rattle.finite.specs.Loops.{both-asked, one-asked}
+use Rattle.model.specs.Plane.{same-point}
+use Rattle.maps.proofs.positions.is_at.Statement.{statement}
+use Rattle.maps.proofs.positions.is_at.Tie as tie
+
+mul-if1 : tie.Need-mul-if1
+mul-if1 c = search needs
+
+shared-slice-copy-out-if1 : tie.Need-shared-slice-copy-out-if1
+shared-slice-copy-out-if1 c = search needs
+
+mul-result : tie.Need-mul-result
+mul-result c = search needs
+
+shared-slice-copy-out-result : tie.Need-shared-slice-copy-out-result
+shared-slice-copy-out-result c = search needs
+
+-- what the tests compare
+first : (c : tie.After-struct-told) →
+    let s = c .before .before .before .args in
+    eqb (ofZ w64 (getD (now (s .xs)) (s .k) (pos 0))) (ofZ w64 (s .p .x)) ≡ eqZ (getD (now (s .xs)) (s .k) (pos 0)) (s .p .x)
+first c =
+    let s = c .before .before .before .args in
+    eqb-read {w = w64} {x = getD (now (s .xs)) (s .k) (pos 0)} {y = s .p .x} (record { sfits = c .before .before .if12 .given }) (record { sfits = c .struct-told .given .0 .1 })
+
+second : (c : tie.After-struct-told2) →
+    let s = c .before .before .before .before .before .before .before .args in
+    eqb (ofZ w64 (getD (now (s .ys)) (s .k) (pos 0))) (ofZ w64 (s .p .y)) ≡ eqZ (getD (now (s .ys)) (s .k) (pos 0)) (s .p .y)
+second c =
+    let s = c .before .before .before .before .before .before .before .args in
+    eqb-read {w = w64} {x = getD (now (s .ys)) (s .k) (pos 0)} {y = s .p .y} (record { sfits = c .before .before .result .given }) (record { sfits = c .struct-told2 .given .1 .0 .1 })
+
+returns : tie.Need-returns
+unfolding same-point
+returns c =
+    let test = c .before .before .before in
+    both-asked (first (test .before)) (eq-eqb _ _ (test .if1 .taken)) (second c)
+
+returns-2 : tie.Need-returns-2
+unfolding same-point
+returns-2 c = one-asked _ (first (c .before)) (ne-eqb _ _ (c .if1 .left))
+
+pub is-at-spec : {M : Type 1} → statement M
+is-at-spec =
+    tie.close
+    (tie.spec
+    mul-if1
+    shared-slice-copy-out-if1
+    mul-result
+    shared-slice-copy-out-result
+    returns
+    returns-2)

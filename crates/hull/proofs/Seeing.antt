@@ -81,6 +81,25 @@ module _ (m : Map) where
       rw (ne-eqb (next-corner m a) (owner (m .reference)) e)
       (ap (λ (j : ℕ). a ∷ corners-ahead j (next-corner m a)) one-less)
 
+-- ---- a corner whose two edges are both visible, or both hidden, is not sought
+
+pub tests-agree : (b c : Bool) → cond b (not c) c ≡ false → b ≡ c
+tests-agree true true e = refl
+tests-agree true false e = e
+tests-agree false true e = sym e
+tests-agree false false e = refl
+
+either : (t : Bool) (s : Sought) → s ≡ cond t s s
+either true s = refl
+either false s = refl
+
+not-sought : (s : Sought) (b : Bool) (a : ℕ) → s ≡ sought-at s b b a
+not-sought s true a = either (s .found) s
+not-sought s false a = either (s .found) s
+
+pub unsought : (s : Sought) (a : ℕ) {b c : Bool} → b ≡ c → s ≡ sought-at s b c a
+unsought s a {b} {c} e = subst (λ (t : Bool). s ≡ sought-at s b t a) e (not-sought s b a)
+
 -- ---- the invariant
 
 module _ (m : Map) (p : Point) where

@@ -6,6 +6,7 @@ use maps::reading::previous_corner;
 use model::Point;
 use plane::sees_edge;
 ghost use mathlib.Core.Path.{_≡_};
+ghost use mathlib.Core.Bool.{cond, not};
 ghost use Prim.Native.Nat.{_+_, _<_};
 ghost use Rattle.finite.specs.Bounded.{one-if};
 ghost use Rattle.model.specs.Maps.{point-limit};
@@ -50,14 +51,19 @@ pub fn seen_from<'a>(
     };
     let mut visible = 0;
     let mut a = start;
+    let mut from = point_at(xs, ys, start);
     for _ in 0..count {
         let b = next_corner(edge, a);
-        let leaving = is_visible(xs, ys, a, b, p);
-        left = sought_at(left, entering, leaving, a);
-        right = sought_at(right, leaving, entering, a);
+        let to = point_at(xs, ys, b);
+        let leaving = sees_edge(from, to, p);
+        if differ(entering, leaving) {
+            left = sought_at(left, entering, leaving, a);
+            right = sought_at(right, leaving, entering, a);
+        }
         visible = plus_one_if(visible, leaving);
         entering = leaving;
         a = b;
+        from = to;
         if b == start {
             break;
         }
@@ -75,6 +81,13 @@ fn is_visible<'a>(xs: &'a [i64], ys: &'a [i64], a: usize, b: usize, p: Point) ->
     ensures { λ r. ⌜ r ≡ visible-at (now (xs .entry)) (now (ys .entry)) a b p ⌝ }
 {
     sees_edge(point_at(xs, ys, a), point_at(xs, ys, b), p)
+}
+
+// Whether one of two tests passes and the other fails.
+fn differ(before: bool, after: bool) -> bool
+    ensures { λ r. ⌜ r ≡ cond before (not after) after ⌝ }
+{
+    if before { !after } else { after }
 }
 
 // The corner sought if it is found; else corner a, where a test that failed before it passes after it.

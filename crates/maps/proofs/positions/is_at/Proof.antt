@@ -15,18 +15,6 @@ use Rattle.model.specs.Plane.{same-point}
 use Rattle.maps.proofs.positions.is_at.Statement.{statement}
 use Rattle.maps.proofs.positions.is_at.Tie as tie
 
-mul-if1 : tie.Need-mul-if1
-mul-if1 c = search needs
-
-shared-slice-copy-out-if1 : tie.Need-shared-slice-copy-out-if1
-shared-slice-copy-out-if1 c = search needs
-
-mul-result : tie.Need-mul-result
-mul-result c = search needs
-
-shared-slice-copy-out-result : tie.Need-shared-slice-copy-out-result
-shared-slice-copy-out-result c = search needs
-
 -- what the tests compare
 first : (c : tie.After-struct-told) →
     let s = c .before .before .before .args in
@@ -56,9 +44,9 @@ pub is-at-spec : {M : Type 1} → statement M
 is-at-spec =
     tie.close
     (tie.spec
-    mul-if1
-    shared-slice-copy-out-if1
-    mul-result
-    shared-slice-copy-out-result
+    (λ c. search needs)
+    (λ c. search needs)
+    (λ c. search needs)
+    (λ c. search needs)
     returns
     returns-2)

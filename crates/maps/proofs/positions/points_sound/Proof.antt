@@ -10,15 +10,6 @@ use Rattle.finite.specs.Loops.{both-asked, one-asked}
 use Rattle.maps.proofs.positions.points_sound.Statement.{statement}
 use Rattle.maps.proofs.positions.points_sound.Tie as tie
 
-count-fits-requires : tie.Need-count-fits-requires
-count-fits-requires c κs = search needs
-
-points-in-range-requires : tie.Need-points-in-range-requires
-points-in-range-requires c κs = search needs
-
-places-vacant-requires : tie.Need-places-vacant-requires
-places-vacant-requires c κs = search needs
-
 first-two : (c : tie.Joined1) →
     let m = c .before .before .args .m in
     c .if1 .if2 ≡ (count-fits m && points-in-range m)
@@ -54,9 +45,9 @@ pub points-sound-spec : {M : Type 1} → statement M
 points-sound-spec =
     tie.close
     (tie.spec
-    count-fits-requires
-    points-in-range-requires
+    (λ c κs. search needs)
+    (λ c κs. search needs)
     points-differ-requires
-    places-vacant-requires
+    (λ c κs. search needs)
     returns
     returns-2)

@@ -18,11 +18,11 @@ const SLOPE_COUNT: usize = 65536;
 // The words that have a bit for each slope.
 const SLOPE_WORDS: usize = SLOPE_COUNT / 64;
 
-// How many parts make a slope of 1: an odd number, so that slopes that are whole numbers do not meet.
+// How many parts make a slope of 1: an odd number, so that whole-number slopes do not meet.
 const SLOPE_PARTS: i64 = COORDINATE_LIMIT + 1;
 
-// Whether p, which is none of the first points, is in line with two of them. Two points in line with
-// p have one slope from p, so a point is compared with those before it only if its slope was seen.
+// Whether p, which is none of the first points, is in line with two of them. Two points in line
+// with p have one slope from p: a point is compared with those before it only if its slope was seen.
 pub fn is_in_line_among<'a>(xs: &'a [i64], ys: &'a [i64], count: usize, p: Point) -> bool
     requires { ⌜ NewAmong (now xs) (now ys) count p ⌝ }
     ensures { λ r. ⌜ r ≡ in-line-among (now (xs .entry)) (now (ys .entry)) count p ⌝ }

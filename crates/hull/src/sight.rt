@@ -36,7 +36,8 @@ pub fn seen_from<'a>(
     p: Point,
 ) -> Seen
     requires { ⌜ OutlineIn (now xs) (now ys) (now edge) count reference p ⌝ }
-    ensures { λ r. ⌜ r ≡ seen (now (xs .entry)) (now (ys .entry)) (now (edge .entry)) count reference p ⌝ }
+    ensures { λ r. ⌜ r ≡ seen (now (xs .entry)) (now (ys .entry)) (now (edge .entry)) count
+        reference p ⌝ }
 {
     let start = reference / 2;
     let last = previous_corner(edge, start);
@@ -91,7 +92,6 @@ fn differ(before: bool, after: bool) -> bool
 }
 
 // The corner sought if it is found; else corner a, where a test that failed before it passes after it.
-// The answer is made of its fields: a struct that is handed on is copied with its padding, slowly.
 fn sought_at(sought: Sought, before: bool, after: bool, a: usize) -> Sought
     ensures { λ r. ⌜ r ≡ sought-at sought before after a ⌝ }
 {

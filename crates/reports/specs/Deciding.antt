@@ -43,14 +43,16 @@ pub record Stopped (text : List ℕ) (m : Map) (answers : List ℕ) (at : ℕ) (
       Verdict.Accepted (s .p) ≡ verdict-by (m .xs) (m .ys) (m .count) (line-at text (s .at))
 
 -- the same for code that is lent the coordinates of a map alone: of some map with them ..
-pub record ReportsSome (text : List ℕ) (xs ys : List ℤ) (count : ℕ) (answers : List ℕ) (n at : ℕ) : Type 0 where
+pub record ReportsSome (text : List ℕ) (xs ys : List ℤ) (count : ℕ) (answers : List ℕ) (n at : ℕ)
+    : Type 0 where
   pub helpers : List Bool
   pub edge : List ℕ
   pub reference : ℕ
   pub reports : Reports text (map-of xs ys helpers edge count reference) answers n at
 
 -- .. and of every such map
-pub record StopsAll (text : List ℕ) (xs ys : List ℤ) (count : ℕ) (before after : List ℕ) (n at : ℕ) (s : Stop) : Type 0 where
+pub record StopsAll (text : List ℕ) (xs ys : List ℤ) (count : ℕ) (before after : List ℕ) (n at : ℕ)
+    (s : Stop) : Type 0 where
   pub stops : (helpers : List Bool) (edge : List ℕ) (reference : ℕ) →
       Reports text (map-of xs ys helpers edge count reference) before n at →
       Stopped text (map-of xs ys helpers edge count reference) after at s

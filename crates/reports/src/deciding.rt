@@ -1,5 +1,5 @@
-// What becomes of the lines of a text, one after another. A refused line asks the map's coordinates,
-// and an accepted point is written into the map's arrays: no map is copied.
+// What becomes of the lines of a text, one after another. A refused line asks the coordinates of
+// the map, and an accepted point is written into the map's arrays: no map is copied.
 
 use super::packing::packed;
 use hull::admission::admission;
@@ -60,8 +60,8 @@ pub(crate) fn verdict_on<'a>(xs: &'a [i64], ys: &'a [i64], count: usize, line: L
     }
 }
 
-// Decides the refused lines from a place on, up to the first line whose point is accepted, for a map
-// with these coordinates.
+// Decides the refused lines from a place on, up to the first line whose point is accepted, for a
+// map with these coordinates.
 pub(crate) fn refuse_lines<'a>(
     text: &'a [u8],
     at: usize,

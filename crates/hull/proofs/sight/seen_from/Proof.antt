@@ -89,11 +89,15 @@ module _ (c : tie.Joined1 Inv-loop μ-loop) where
 
   left-sought : c .if1 .left
       ≡ sought-at (at-loop .loop .left) (at-loop .loop .entering) (c .before .before .sees-edge .result) (at-loop .loop .a)
-  left-sought = ⊎-elim (λ w. w .3 ∙ w .1 .ensures) (λ w. w .1 ∙ unsought (at-loop .loop .left) (at-loop .loop .a) (agree (w .0 .left))) (c .if1 .came)
+  left-sought =
+      ⊎-elim (λ w. w .3 ∙ w .1 .ensures)
+      (λ w. w .1 ∙ unsought (at-loop .loop .left) (at-loop .loop .a) (agree (w .0 .left))) (c .if1 .came)
 
   right-sought : c .if1 .right
       ≡ sought-at (at-loop .loop .right) (c .before .before .sees-edge .result) (at-loop .loop .entering) (at-loop .loop .a)
-  right-sought = ⊎-elim (λ w. w .4 ∙ w .2 .ensures) (λ w. w .2 ∙ unsought (at-loop .loop .right) (at-loop .loop .a) (sym (agree (w .0 .left)))) (c .if1 .came)
+  right-sought =
+      ⊎-elim (λ w. w .4 ∙ w .2 .ensures)
+      (λ w. w .2 ∙ unsought (at-loop .loop .right) (at-loop .loop .a) (sym (agree (w .0 .left)))) (c .if1 .came)
 
 plus-one-if-requires : tie.Need-plus-one-if-requires Inv-loop μ-loop
 plus-one-if-requires c κs =

@@ -18,17 +18,23 @@ use Rattle.maps.proofs.positions.is_at.Tie as tie
 -- what the tests compare
 first : (c : tie.After-struct-told) →
     let s = c .before .before .before .args in
-    eqb (ofZ w64 (getD (now (s .xs)) (s .k) (pos 0))) (ofZ w64 (s .p .x)) ≡ eqZ (getD (now (s .xs)) (s .k) (pos 0)) (s .p .x)
+    let x = getD (now (s .xs)) (s .k) (pos 0) in
+    eqb (ofZ w64 x) (ofZ w64 (s .p .x)) ≡ eqZ x (s .p .x)
 first c =
     let s = c .before .before .before .args in
-    eqb-read {w = w64} {x = getD (now (s .xs)) (s .k) (pos 0)} {y = s .p .x} (record { sfits = c .before .before .if12 .given }) (record { sfits = c .struct-told .given .0 .1 })
+    eqb-read {w = w64} {x = getD (now (s .xs)) (s .k) (pos 0)} {y = s .p .x}
+    (record { sfits = c .before .before .if12 .given })
+    (record { sfits = c .struct-told .given .0 .1 })
 
 second : (c : tie.After-struct-told2) →
     let s = c .before .before .before .before .before .before .before .args in
-    eqb (ofZ w64 (getD (now (s .ys)) (s .k) (pos 0))) (ofZ w64 (s .p .y)) ≡ eqZ (getD (now (s .ys)) (s .k) (pos 0)) (s .p .y)
+    let y = getD (now (s .ys)) (s .k) (pos 0) in
+    eqb (ofZ w64 y) (ofZ w64 (s .p .y)) ≡ eqZ y (s .p .y)
 second c =
     let s = c .before .before .before .before .before .before .before .args in
-    eqb-read {w = w64} {x = getD (now (s .ys)) (s .k) (pos 0)} {y = s .p .y} (record { sfits = c .before .before .result .given }) (record { sfits = c .struct-told2 .given .1 .0 .1 })
+    eqb-read {w = w64} {x = getD (now (s .ys)) (s .k) (pos 0)} {y = s .p .y}
+    (record { sfits = c .before .before .result .given })
+    (record { sfits = c .struct-told2 .given .1 .0 .1 })
 
 returns : tie.Need-returns
 unfolding same-point

@@ -95,13 +95,12 @@ fn differ(before: bool, after: bool) -> bool
 fn sought_at(sought: Sought, before: bool, after: bool, a: usize) -> Sought
     ensures { λ r. ⌜ r ≡ sought-at sought before after a ⌝ }
 {
-    let corner = sought.corner;
     let found = sought.found;
     if found {
-        return Sought { corner, found };
+        return sought;
     }
     if before {
-        return Sought { corner, found };
+        return sought;
     }
     if after {
         Sought {
@@ -109,7 +108,7 @@ fn sought_at(sought: Sought, before: bool, after: bool, a: usize) -> Sought
             found: true,
         }
     } else {
-        Sought { corner, found }
+        sought
     }
 }
 

@@ -1,5 +1,6 @@
 -- Laws of ℤ that the kit lacks. Nothing is assumed; each file opens with what it holds and ends
--- with its laws in use. Each uses those above it.
+-- with its laws in use. Each uses those above it. This is a library: a family of laws stands here whole,
+-- also where the crates above cite only some of it.
 --     Ring      associativity, distributivity, negation through products, cancelling
 --     Solver    every polynomial identity, by one computation: identity n (λ x y .. . e ≐ f) tt
 --     Order     comparisons and tests as `omega` reads them, omega (arith, order); cases by sign

@@ -1,7 +1,7 @@
 -- Two permutations f and g of the darts, in the order of this page: the statement, with vertices,
 -- edges, faces and parts for the classes of g, of f, of f and then g, and of both; what a transposition
 -- of two darts of two edges does to each; and the theorem:
--- vertices + edges + faces + 2 × genus = darts + 2 × parts.
+-- vertices + edges + faces + 2 × genus = darts + 2 × parts. For request #113.
 -- Assumes nothing.
 --
 -- A transposition joins two edges. If the two darts lie in two parts, it joins these and their faces,

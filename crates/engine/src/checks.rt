@@ -1,10 +1,10 @@
 // What entries check before they call an inner function.
 
-use maps::is_sound;
 use maps::reading::is_present;
 use model::Map;
 use model::Outcome;
 use model::Refusal;
+use soundness::is_sound;
 ghost use mathlib.Core.Path.{_≡_};
 ghost use Rattle.model.specs.Answers.{outcome-by};
 ghost use Rattle.model.specs.Reading.{dart-rules};

@@ -1,16 +1,16 @@
 // Saving a map into a lent list, and loading the map of a file.
 
+use layout::is_in_form;
+use layout::saved_length;
 use maps::empty_map;
-use maps::is_sound;
 use model::Loaded;
 use model::Map;
 use model::Outcome;
 use model::Refusal;
 use model::Written;
-use saved::is_in_form;
 use saved::map_in;
-use saved::saved_length;
 use saved::write_map;
+use soundness::is_sound;
 ghost use mathlib.Core.List.{[], _∷_};
 ghost use Rattle.model.specs.Answers.{Answered};
 ghost use Rattle.model.specs.Reading.{unsound};

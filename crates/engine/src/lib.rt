@@ -7,19 +7,18 @@ pub mod files;
 pub mod texts;
 
 use crate::checks::check_dart;
+use corners::listing::corners_of;
+use corners::listing::write_corners;
+use corners::query::placed;
 use hull::admitted;
-use hull::listing::corners_of;
-use hull::listing::write_corners;
-use hull::query::placed;
-use maps::is_sound;
 use maps::traversal::counts_of;
-use maps::traversal::moved_by_edge;
-use maps::traversal::moved_by_point;
+use maps::traversal::moved;
 use maps::traversal::orbit_of;
 use maps::traversal::walk_of;
 use model::Arrival;
 use model::Counted;
 use model::Kind;
+use model::Link;
 use model::Map;
 use model::Moved;
 use model::Offered;
@@ -33,8 +32,8 @@ use model::Written;
 use orbits::DartSet;
 use orbits::Walker;
 use plane::in_range;
+use soundness::is_sound;
 ghost use mathlib.Core.List.{[], _∷_};
-ghost use Rattle.model.specs.Maps.{edge-link, point-link};
 ghost use Rattle.model.specs.Outline.{corners};
 ghost use Rattle.model.specs.Answers.{Answered};
 ghost use Rattle.model.specs.Reading.{counts-call, orbit-call, unsound, walk-call, walker-call};
@@ -94,36 +93,15 @@ pub fn walk(map: Map, dart: usize) -> Walked
     }
 }
 
-// A walker started at a dart: numbers 1 and 6.
-pub fn walker_at(map: Map, dart: usize) -> Moved
-    ensures { λ r. ⌜ Answered (walker-call (λ d. d) map dart) r ⌝ }
-{
-    let checked = check_dart(map, dart);
-    match checked {
-        Outcome::Refused(refusal) => Moved::Refused(refusal),
-        Outcome::Served => Moved::At(Walker::starting_at(dart)),
-    }
-}
-
-// A walker moved by the edge link; the dart where it stands is checked: numbers 1 and 6.
-pub fn walker_by_edge(map: Map, walker: Walker) -> Moved
-    ensures { λ r. ⌜ Answered (walker-call (edge-link map) map (walker .dart)) r ⌝ }
+// A walker moved by a link, or started where it stands, by none; the dart where it stands is checked:
+// numbers 1 and 6.
+pub fn move_walker(map: Map, link: Link, walker: Walker) -> Moved
+    ensures { λ r. ⌜ Answered (walker-call map link (walker .dart)) r ⌝ }
 {
     let checked = check_dart(map, walker.dart);
     match checked {
         Outcome::Refused(refusal) => Moved::Refused(refusal),
-        Outcome::Served => Moved::At(moved_by_edge(map, walker)),
-    }
-}
-
-// A walker moved by the point link; the dart where it stands is checked: numbers 1 and 6.
-pub fn walker_by_point(map: Map, walker: Walker) -> Moved
-    ensures { λ r. ⌜ Answered (walker-call (point-link map) map (walker .dart)) r ⌝ }
-{
-    let checked = check_dart(map, walker.dart);
-    match checked {
-        Outcome::Refused(refusal) => Moved::Refused(refusal),
-        Outcome::Served => Moved::At(moved_by_point(map, walker)),
+        Outcome::Served => Moved::At(moved(map, link, walker)),
     }
 }
 

@@ -16,7 +16,7 @@ use Rattle.model.specs.declared.Outcome.{Outcome}
 use Rattle.model.specs.declared.Point.{Point}
 use Rattle.model.specs.declared.Map.{Map}
 use Rattle.model.specs.Maps.{point-limit, owner, point}
-use Rattle.model.specs.Sound.{sound, Sound}
+use Rattle.model.specs.Sound.{sound, Shaped}
 use Rattle.model.specs.Outline.{next-corner, outline, corners-from, visible-edges, sees}
 use Rattle.model.specs.Refusals.{nor}
 use Rattle.model.specs.Reading.{unsound}
@@ -29,15 +29,15 @@ use Rattle.hull.specs.Requires.{RoomFor}
 use Rattle.hull.proofs.Indices.{spliceable}
 use Rattle.hull.proofs.Outcomes.{Accepted, accepted-by}
 
-not-sound : {m : Map} → Sound m → not (sound m) ≡ false
+not-sound : {m : Map} → Shaped m → not (sound m) ≡ false
 not-sound {m} s = ap not (is-true (sound m) (sound-by m s))
 
-pub ranged-places : {m : Map} → Sound m → RangedPlaces (m .xs) (m .ys)
+pub ranged-places : {m : Map} → Shaped m → RangedPlaces (m .xs) (m .ys)
 unfolding point
 ranged-places s =
     record { xs-whole = s .points .xs-whole; ys-whole = s .points .ys-whole; places = place-ranged s }
 
-module _ {m : Map} (s : Sound m) (p : Point) where
+module _ {m : Map} (s : Shaped m) (p : Point) where
   pub admission-refused : (r : Refusal) →
       Outcome.Refused r ≡ admission-by (m .xs) (m .ys) (m .count) p →
       offer m p ≡ refusing m r

@@ -18,7 +18,7 @@ use Rattle.model.specs.declared.Offered.{Offered}
 use Rattle.model.specs.Plane.{beside}
 use Rattle.model.specs.Maps.{point}
 use Rattle.model.specs.Outline.{next-corner, previous-corner, outline, sees, visible-edges}
-use Rattle.model.specs.Sound.{Sound}
+use Rattle.model.specs.Sound.{Shaped}
 use Rattle.model.specs.Arrival.{left-corner, right-corner, spliced, arrive}
 use Rattle.model.specs.Offers.{offer}
 use Rattle.plane.proofs.Convex.{Convex}
@@ -32,7 +32,7 @@ use Rattle.maps.proofs.Spliced.{spliced-sound, spliced-left, spliced-outline}
 use Rattle.hull.proofs.Outcomes.{Accepted, Decided, accepted, refused, Arrives, first, second, inside, outside, arrive-arrives, offer-decided}
 
 -- the outline of a sound map is a convex outline of its points
-pub sound-convex : {m : Map} → Sound m → 2 ≤ m .count →
+pub sound-convex : {m : Map} → Shaped m → 2 ≤ m .count →
     Convex (m .count) (point m) (next-corner m) (previous-corner m) (outline m)
 unfolding beside
 sound-convex s two =
@@ -99,7 +99,7 @@ module _ {m : Map} {p : Point} (a : Accepted m p) (two : 2 ≤ m .count) where
         (elem-append-left c (remaining split-is) (split-is .inner)
         (elem-append-left c (right-corner m p ∷ split-is .middle) (left-corner m p ∷ []) h))
 
-    pub outside-sound : Sound (spliced m p (left-corner m p) (right-corner m p))
+    pub outside-sound : Shaped (spliced m p (left-corner m p) (right-corner m p))
     unfolding sees beside
     outside-sound =
         let l = left-corner m p in
@@ -112,7 +112,7 @@ module _ {m : Map} {p : Point} (a : Accepted m p) (two : 2 ≤ m .count) where
 
 -- ---- every arrival
 
-pub arrival-sound : (m : Map) (p : Point) → Accepted m p → (o : Offered) → Arrives m p o → Sound (o .map)
+pub arrival-sound : (m : Map) (p : Point) → Accepted m p → (o : Offered) → Arrives m p o → Shaped (o .map)
 arrival-sound m p a o (first e) =
     alone-sound p (a .is-sound) (a .room) (λ one. omega arith) (a .ranged) (a .fresh) (λ two. absurd (omega arith))
 arrival-sound m p a o (second e) = pair-sound p (a .is-sound) e (a .ranged) (a .fresh)
@@ -122,9 +122,9 @@ arrival-sound m p a o (outside two some) = outside-sound a two some
 
 -- ---- every offer: an accepted one gives a sound map, and a refused one gives the same map
 
-pub offer-sound : (m : Map) (p : Point) → Sound m → Sound (offer m p .map)
+pub offer-sound : (m : Map) (p : Point) → Shaped m → Shaped (offer m p .map)
 offer-sound m p s = decided-sound (offer m p) (offer-decided m p)
   where
-    decided-sound : (o : Offered) → Decided m p o → Sound (o .map)
+    decided-sound : (o : Offered) → Decided m p o → Shaped (o .map)
     decided-sound o (accepted a) = arrival-sound m p a (arrive m p) (arrive-arrives m p)
     decided-sound o (refused r first-rule) = s

@@ -15,7 +15,7 @@ use Rattle.model.specs.declared.Map.{Map}
 use Rattle.model.specs.declared.Offered.{Offered}
 use Rattle.model.specs.Maps.{own, helper, owner, other-dart, point, has-helper, edge-link, point-link}
 use Rattle.model.specs.Outline.{visible-edges}
-use Rattle.model.specs.Sound.{Sound}
+use Rattle.model.specs.Sound.{Shaped}
 use Rattle.model.specs.Arrival.{left-corner, right-corner, with-point, alone, pair, spliced, arrive}
 use Rattle.model.specs.Offers.{offer}
 use Rattle.model.specs.Changes.{joined, parted, with-helper, Grown, FirstGrown, SecondGrown, InsideGrown, Lone, OutsideGrown, Changes, first, second, inside, outside, refused}
@@ -95,7 +95,7 @@ module _ {m : Map} {p : Point} (a : Accepted m p) where
   -- ---- the second point
 
   module _ (one : m .count ≡ 1) where
-    abbrev s : Sound m
+    abbrev s : Shaped m
     s = a .is-sound
 
     second-helpers : (k : ℕ) → has-helper (pair m p) k ≡ ltb k 2
@@ -246,7 +246,7 @@ nothing-else-changes m p = decided (offer m p) (offer-decided m p)
 -- ---- the changes fix the map
 
 pub grown-only : {m : Map} {p : Point} {helped : ℕ → Bool} {point-links edge-links : ℕ → ℕ} {dart : ℕ}
-    {m₁ m₂ : Map} → Sound m₁ → Sound m₂ → Grown m p helped point-links edge-links dart m₁ →
+    {m₁ m₂ : Map} → Shaped m₁ → Shaped m₂ → Grown m p helped point-links edge-links dart m₁ →
     Grown m p helped point-links edge-links dart m₂ → m₁ ≡ m₂
 grown-only {m} {m₁ = m₁} {m₂} s t g h =
     same-map s t (g .count ∙ sym (h .count)) points (λ k. g .helpers k ∙ sym (h .helpers k))

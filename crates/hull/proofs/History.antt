@@ -18,7 +18,7 @@ use Rattle.model.specs.declared.Map.{Map}
 use Rattle.model.specs.declared.Offered.{Offered}
 use Rattle.model.specs.Maps.{point, empty-map}
 use Rattle.model.specs.Outline.{outline, sees, visible-edges}
-use Rattle.model.specs.Sound.{Sound}
+use Rattle.model.specs.Sound.{Shaped}
 use Rattle.model.specs.Arrival.{with-point, alone, pair, spliced, arrive}
 use Rattle.model.specs.Offers.{offer}
 use Rattle.model.specs.History.{Entry, Run, is-accepted, extended, run-from, run, offered-point, reported, reported-edges, edges-seen, is-outside, outside-arrivals, Balanced}
@@ -38,7 +38,7 @@ seen-in-all h = total (map reported-edges h)
 
 -- what every offer keeps
 record Invariant (r : Run) : Type 0 where
-  is-sound : Sound (r .map)
+  is-sound : Shaped (r .map)
   same-points : map offered-point (r .history) ≡ table (r .map .count) (point (r .map))
   reports : map reported-edges (r .history) ≡ map edges-seen (r .history)
   few-seen : r .map .count < 2 → seen-in-all (r .history) ≡ 0
@@ -95,7 +95,7 @@ points-more {m} {p} a helpers edge reference =
 
 -- what an arrival has to show, for the run with its entry to keep the invariant
 record Adds (m : Map) (p : Point) (o : Offered) : Type 0 where
-  is-sound : Sound (o .map)
+  is-sound : Shaped (o .map)
   count-grows : o .map .count ≡ suc (m .count)
   points : table (o .map .count) (point (o .map)) ≡ table (m .count) (point m) ++ p ∷ []
   reports : reported (o .arrival) ≡ visible-edges m p
@@ -230,7 +230,7 @@ unfolding run
 invariant-run ps = invariant-from (record { map = empty-map; history = [] }) invariant-start ps
 
 -- every list of offers from the empty map ends in a sound map (for request #107)
-pub run-sound : (ps : List Point) → Sound (run ps .map)
+pub run-sound : (ps : List Point) → Shaped (run ps .map)
 run-sound ps = invariant-run ps .is-sound
 
 -- ---- the claims

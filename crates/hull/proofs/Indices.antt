@@ -21,7 +21,7 @@ use Rattle.model.specs.declared.Map.{Map}
 use Rattle.model.specs.Plane.{in-range}
 use Rattle.model.specs.Maps.{point-limit, point, is-present, edge-link}
 use Rattle.model.specs.Outline.{outline}
-use Rattle.model.specs.Sound.{Sound}
+use Rattle.model.specs.Sound.{Shaped}
 use Rattle.model.specs.Arrival.{cut, left-corner, right-corner}
 use Rattle.model.proofs.Sound.{place-ranged, present-below}
 use Rattle.model.specs.Maps.{point-at}
@@ -51,7 +51,7 @@ cut-below n edge below d e h k =
         subst (λ (s : List ℕ). getD s v v < n) (sym (set-out edge v v l)) (below v (below d h)))
         (lt-or-ge v (length edge))
 
-module _ {m : Map} (s : Sound m) where
+module _ {m : Map} (s : Shaped m) where
   -- the links of a dart are darts
   pub link-below : (d : ℕ) → d < dart-limit → edge-link m d < dart-limit
   link-below d h =

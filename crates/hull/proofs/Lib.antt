@@ -9,10 +9,6 @@
 --     Seeing         the way round an outline on which a point looks for its corners
 --     Cases          from the answer that the code makes to the definition, case by case
 --     Admissions     from a sound map's coordinates to the offer of a point
---     Corners        the listing is the rotated outline; the lowest corner is the only one
---     CornerLoops    the loops that look for, list and write the corners
---     Views          placing by one look at each edge
---     Placing        what each verdict on a query point means
 pub mod Outcomes
 pub mod Arrivals
 pub mod Changes
@@ -23,7 +19,3 @@ pub mod Slopes
 pub mod Seeing
 pub mod Cases
 pub mod Admissions
-pub mod Corners
-pub mod CornerLoops
-pub mod Views
-pub mod Placing

@@ -18,7 +18,7 @@ use Rattle.model.specs.Refusals.{number, unless, Refuses, NoneApplies, none, no
 use Rattle.model.specs.Answers.{arrival-answer}
 use Rattle.model.specs.Plane.{in-range, in-line}
 use Rattle.model.specs.Maps.{point-limit, point}
-use Rattle.model.specs.Sound.{sound, Sound}
+use Rattle.model.specs.Sound.{sound, Shaped}
 use Rattle.model.specs.Outline.{visible-edges}
 use Rattle.model.specs.Arrival.{left-corner, right-corner, alone, pair, spliced, arrived, later-point, arrive, is-repeated, is-in-line, refusing}
 use Rattle.model.specs.Offers.{offer-rules, offer}
@@ -28,7 +28,7 @@ use Rattle.model.proofs.Answers.{RulesDecide, refuses, serves, unless-decides, 
 
 -- a point that no condition refuses
 pub record Accepted (m : Map) (p : Point) : Type 0 where
-  pub is-sound : Sound m
+  pub is-sound : Shaped m
   pub room : m .count < point-limit
   pub ranged : T (in-range p)
   pub fresh : (k : ℕ) → k < m .count → point m k ≢ p

@@ -18,7 +18,7 @@ use Rattle.model.specs.declared.Point.{Point}
 use Rattle.model.specs.declared.Map.{Map}
 use Rattle.model.specs.Maps.{own, helper, owner, point, edge-link}
 use Rattle.model.specs.Outline.{next-corner, previous-corner, corners-from, outline, sees, visible-edges}
-use Rattle.model.specs.Sound.{Sound}
+use Rattle.model.specs.Sound.{Shaped}
 use Rattle.model.specs.Arrival.{left-corner, right-corner}
 use Rattle.maps.proofs.Links.{sound-linked}
 use Rattle.maps.proofs.Circuits.{edge-next, edge-previous}
@@ -125,7 +125,7 @@ module _ (m : Map) (p : Point) where
   leaves a b to e = rw to at e
 
   module _ (o : OutlineFor m p) where
-    abbrev s : Sound m
+    abbrev s : Shaped m
     s = o .is-sound
 
     -- nothing is found at first, and all of the outline is ahead

@@ -11,7 +11,7 @@ use Rattle.model.specs.declared.Point.{Point}
 use Rattle.model.specs.declared.Map.{Map}
 use Rattle.model.specs.Maps.{point}
 use Rattle.model.specs.Outline.{next-corner, previous-corner, outline, sees, visible-edges}
-use Rattle.model.specs.Sound.{sound, Sound}
+use Rattle.model.specs.Sound.{sound, Shaped}
 use Rattle.model.specs.Arrival.{left-corner, right-corner}
 use Rattle.model.specs.Offers.{offer}
 use Rattle.model.proofs.Sound.{sound-holds, sound-by}
@@ -40,7 +40,7 @@ module _ {m : Map} {p : Point} (a : Accepted m p) (two : 2 ≤ m .count) (some :
   right-corner-only c r =
       right-corner-unique (sound-convex (a .is-sound) two) p (a .general) c (right-corner m p) r (right-is a two some)
 
-pub not-all-visible : {m : Map} → Sound m → 2 ≤ m .count → (p : Point) →
+pub not-all-visible : {m : Map} → Shaped m → 2 ≤ m .count → (p : Point) →
     (c : ℕ) × T (elem c (outline m)) × ¬ T (sees m p c)
 unfolding sees
 not-all-visible s two p = some-hidden (sound-convex s two) p
@@ -48,6 +48,6 @@ not-all-visible s two p = some-hidden (sound-convex s two) p
 -- ---- the outline is the hull: (a, b) is an outline edge if and only if a and b are different points of
 -- the map and every other point has positive orientation with them
 
-pub outline-is-hull : {m : Map} → Sound m → 2 ≤ m .count → (a b : ℕ) →
+pub outline-is-hull : {m : Map} → Shaped m → 2 ≤ m .count → (a b : ℕ) →
     (T (elem a (outline m)) × (next-corner m a ≡ b)) ↔ Supports (m .count) (point m) a b
 outline-is-hull s two = plane-hull.outline-is-hull (sound-convex s two)

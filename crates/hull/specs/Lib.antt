@@ -3,11 +3,7 @@
 --     Admission    why a sound map refuses a point, by its coordinates
 --     Slopes       the slope of a line, by which lines through a point are told apart
 --     Sight        a corner that is sought; what is seen of an outline
---     Listing      a list of corners, and a lent list with room for it
---     Viewing      how a query point lies to an edge, and what is found in turn
 pub mod Requires
 pub mod Admission
 pub mod Slopes
 pub mod Sight
-pub mod Listing
-pub mod Viewing

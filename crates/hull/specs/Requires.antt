@@ -13,7 +13,7 @@ use Rattle.model.specs.declared.Point.{Point}
 use Rattle.model.specs.declared.Map.{Map}
 use Rattle.model.specs.Plane.{in-range, same-point, in-line, sees-edge}
 use Rattle.model.specs.Maps.{point-limit}
-use Rattle.model.specs.Sound.{Sound}
+use Rattle.model.specs.Sound.{Shaped}
 use Rattle.model.specs.Maps.{point-at}
 
 -- places that hold points in range, as those of a sound map do past its last point too, and a point in range
@@ -54,13 +54,13 @@ pub record Spliceable (edge : List ℕ) (k left right : ℕ) : Type 0 where
 
 -- a sound map that has an outline, and a point in range
 pub record OutlineFor (m : Map) (p : Point) : Type 0 where
-  pub is-sound : Sound m
+  pub is-sound : Shaped m
   pub two : 2 ≤ m .count
   pub offered : T (in-range p)
 
 -- a sound map with room for one more point, and a point in range
 pub record RoomFor (m : Map) (p : Point) : Type 0 where
-  pub is-sound : Sound m
+  pub is-sound : Shaped m
   pub room : m .count < point-limit
   pub offered : T (in-range p)
 

@@ -1,7 +1,7 @@
 // Why a sound map refuses a point, asked of the map's coordinates: no map is copied for it.
 
 use super::conditions::is_in_line_among;
-use maps::positions::is_new;
+use maps::places::is_new;
 use model::Outcome;
 use model::POINT_LIMIT;
 use model::Point;

@@ -1,11 +1,8 @@
-// The arrival of a point in a map, and the outline that it leaves: why an offered point is refused, or
-// how it arrives.
+// The arrival of a point in a map: why an offered point is refused, or how it arrives.
 
 pub mod admission;
 mod change;
 mod conditions;
-pub mod listing;
-pub mod query;
 mod sight;
 
 use crate::admission::admission;
@@ -23,7 +20,7 @@ use model::Refusal;
 use orbits::DART_LIMIT;
 ghost use mathlib.Core.Path.{_≡_};
 ghost use Prim.Native.Nat.{_+_, _≤_};
-ghost use Rattle.model.specs.Sound.{Sound};
+ghost use Rattle.model.specs.Sound.{Shaped};
 ghost use Rattle.model.specs.Arrival.{admitted, arrive, arrived, later-point, refusing};
 ghost use Rattle.hull.specs.Requires.{RoomFor, map-of};
 
@@ -36,7 +33,7 @@ pub struct Growth {
 // A point offered to a sound map: the map after it and what became of the point. Where the point is
 // refused, the map is as it was.
 pub fn admitted(map: Map, p: Point) -> Offered
-    requires { ⌜ Sound map ⌝ }
+    requires { ⌜ Shaped map ⌝ }
     ensures { λ r. ⌜ r ≡ admitted map p ⌝ }
 {
     let count = map.count;

@@ -17,7 +17,7 @@ use Rattle.model.specs.Plane.{in-range, beside}
 use Rattle.model.specs.Maps.{point-limit, own, owner, point, has-helper, is-present, edge-link, point-link}
 use Rattle.model.specs.Outline.{next-corner, outline}
 use Rattle.model.specs.Arrival.{with-point, alone}
-use Rattle.model.specs.Sound.{Sound, SoundPoints, SoundLinks, AllLeft}
+use Rattle.model.specs.Sound.{Shaped, ShapedPoints, ShapedLinks, AllLeft}
 use Rattle.maps.proofs.Darts.{by-present, own-present, helper-present, present-owner, present-dart}
 use Rattle.maps.proofs.Links.{DartOf}
 use Rattle.maps.proofs.Circuits.{Circuit, circuit-outline}
@@ -41,7 +41,7 @@ module _ (m : Map) (p : Point) where
 
 -- ---- soundness
 
-module _ {m : Map} (s : Sound m) (p : Point) where
+module _ {m : Map} (s : Shaped m) (p : Point) where
   -- no dart is present but these
   pub alone-present : (d : ℕ) → T (is-present (alone m p) d) → T (is-present m d) ⊎ (d ≡ own (m .count))
   unfolding alone with-point has-helper
@@ -56,7 +56,7 @@ module _ {m : Map} (s : Sound m) (p : Point) where
   pub alone-new-fixed : edge-link m (own (m .count)) ≡ own (m .count)
   alone-new-fixed = s .links .absent (own (m .count)) (λ t. omega (arith, present-owner m (own (m .count)) t))
 
-  alone-links : m .count < point-limit → SoundLinks (alone m p)
+  alone-links : m .count < point-limit → ShapedLinks (alone m p)
   unfolding alone with-point edge-link has-helper
   alone-links room =
       record {
@@ -116,10 +116,10 @@ module _ {m : Map} (s : Sound m) (p : Point) where
           (λ (e : c ≡ m .count). rw (e, point-new s room p (m .helpers) (m .edge) (m .reference)) (new-left a on))
           (below-suc (m .count) c h))
 
-pub alone-sound : {m : Map} (p : Point) → Sound m → m .count < point-limit → m .count ≢ 1 → T (in-range p) →
+pub alone-sound : {m : Map} (p : Point) → Shaped m → m .count < point-limit → m .count ≢ 1 → T (in-range p) →
     ((k : ℕ) → k < m .count → point m k ≢ p) →
     (2 ≤ m .count → (a : ℕ) → T (elem a (outline m)) → T (beside (point m a) (point m (next-corner m a)) p)) →
-    Sound (alone m p)
+    Shaped (alone m p)
 unfolding alone with-point has-helper
 alone-sound {m} p s room not-one ranged differs left =
     ⊎-elim
@@ -132,5 +132,5 @@ alone-sound {m} p s room not-one ranged differs left =
     (alone-left s p two room (left two)))
     (lt-or-ge (m .count) 2)
   where
-    points : SoundPoints (alone m p)
+    points : ShapedPoints (alone m p)
     points = with-point-sound s room p (m .helpers) (m .edge) (m .reference) ranged differs

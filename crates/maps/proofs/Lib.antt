@@ -1,5 +1,4 @@
 -- The theory of sound maps, and what the functions of this crate cite. Nothing is assumed.
---     Checked      the three groups of tests are the definition
 --     Darts        own darts and helpers, present darts, the point link
 --     Links        both links are involutions of the present darts; the counts balance
 --     Tables       link arrays for `orbits`, made from a map
@@ -16,7 +15,6 @@
 --     Empty        the empty map is the sound map without points
 --     Orbits       orbits of a sound map: members, size; they part the present darts
 --     Walks        walks in a sound map: home on the outline, else loose
-pub mod Checked
 pub mod Darts
 pub mod Links
 pub mod Tables

@@ -18,7 +18,7 @@ use Rattle.model.specs.declared.Map.{Map}
 use Rattle.model.specs.Maps.{own, helper, owner, has-helper, is-present, edge-link, point-link, face-link, dart-bound}
 use Rattle.model.specs.Outline.{next-corner}
 use Rattle.model.specs.Reading.{links-of, number-of, darts}
-use Rattle.model.specs.Sound.{Sound}
+use Rattle.model.specs.Sound.{Shaped}
 use Rattle.maps.proofs.Darts.{own-or-helper, present-helper, present-dart, point-twice, point-present}
 
 -- the edge link undoes itself and keeps the present darts
@@ -26,7 +26,7 @@ pub record Linked (m : Map) : Type 0 where
   pub present : (d : ℕ) → T (is-present m d) → T (is-present m (edge-link m d))
   pub undone : (d : ℕ) → edge-link m (edge-link m d) ≡ d
 
-pub sound-linked : {m : Map} → Sound m → Linked m
+pub sound-linked : {m : Map} → Shaped m → Linked m
 sound-linked s = record { present = s .links .present; undone = s .links .undone }
 
 -- the darts that lie one link away
@@ -63,7 +63,7 @@ module _ {m : Map} (l : Linked m) where
 
 -- ---- in a sound map
 
-module _ {m : Map} (s : Sound m) where
+module _ {m : Map} (s : Shaped m) where
   -- vertices + edges + faces = darts + 2 × parts
   pub counts-balance :
       number-of m Kind.Vertex + number-of m Kind.Edge + number-of m Kind.Face ≡ darts m + 2 * number-of m Kind.Part

@@ -22,12 +22,12 @@ use Rattle.orbits.proofs.Parts.{reached-set-bound}
 use Rattle.model.specs.declared.Kind.{Kind}
 use Rattle.model.specs.declared.Map.{Map}
 use Rattle.model.specs.Maps.{is-present, edge-link, point-link, face-link, dart-bound}
-use Rattle.model.specs.Sound.{Sound}
+use Rattle.model.specs.Sound.{Shaped}
 use Rattle.model.specs.Reading.{links-of, orbit-set}
 use Rattle.maps.proofs.Darts.{present-dart}
 use Rattle.maps.proofs.Links.{DartOf, sound-linked, edge-involutes, point-involutes, links-symmetric}
 
-module _ {m : Map} (s : Sound m) where
+module _ {m : Map} (s : Shaped m) where
   edge-permutes : Permutes (dart-bound m) (is-present m) (edge-link m)
   edge-permutes = involution-permutes (edge-involutes (sound-linked s))
 

@@ -28,7 +28,7 @@ use Rattle.orbits.proofs.ClosedWalks.{ClosedPart, OneClosed, one-closed-at}
 use Rattle.model.specs.declared.Map.{Map}
 use Rattle.model.specs.Maps.{own, helper, owner, is-present, edge-link, point-link, dart-bound}
 use Rattle.model.specs.Outline.{next-corner, previous-corner, outline}
-use Rattle.model.specs.Sound.{Sound}
+use Rattle.model.specs.Sound.{Shaped}
 use Rattle.maps.proofs.Darts.{owner-own, own-dart, own-injective, present-owner, present-dart, point-helper}
 use Rattle.maps.proofs.Links.{Linked, sound-linked, links, DartOf, links-keep, links-symmetric, edge-injective, moved-own, moved-own-owned, next-owned, next-another}
 use Rattle.maps.proofs.Circuits.{Edge, Circuit, circuit-next, circuit-previous, circuit-both-ways, circuit-rotate, circuit-outline, circuit-iff, circuit-dart, circuit-closed-part}
@@ -41,7 +41,7 @@ two-or-more f x [] h on = absurd h
 two-or-more f x (a ∷ []) h on = let n = on a (elem-head a []) in absurd (n .1 (elem-one (f a) a (n .0)))
 two-or-more f x (a ∷ b ∷ t) h on = omega arith
 
-module _ {m : Map} (s : Sound m) (two : 2 ≤ m .count) where
+module _ {m : Map} (s : Shaped m) (two : 2 ≤ m .count) where
   linked : Linked m
   linked = sound-linked s
 

@@ -19,7 +19,7 @@ use Rattle.model.specs.Plane.{in-range}
 use Rattle.model.specs.Maps.{point-limit, own, helper, owner, point, has-helper, is-present, edge-link}
 use Rattle.model.specs.Outline.{next-corner, outline}
 use Rattle.model.specs.Arrival.{join, with-point, pair}
-use Rattle.model.specs.Sound.{Sound, AllLeft}
+use Rattle.model.specs.Sound.{Shaped, AllLeft}
 use Rattle.maps.proofs.Darts.{each-dart, present-owner, present-helper}
 use Rattle.maps.proofs.Edges.{length-join, join-first, join-second, join-other}
 use Rattle.maps.proofs.Circuits.{Circuit, circuit-outline}
@@ -28,13 +28,13 @@ use Rattle.maps.proofs.Points.{with-point-sound}
 use Rattle.maps.proofs.Splice.{Splices, splice-links, splice-next-left, splice-next-new}
 
 -- with fewer than two points every dart is fixed
-pub all-fixed : {m : Map} → Sound m → m .count < 2 → (d : ℕ) → edge-link m d ≡ d
+pub all-fixed : {m : Map} → Shaped m → m .count < 2 → (d : ℕ) → edge-link m d ≡ d
 all-fixed {m} s few =
     each-dart (λ d. edge-link m d ≡ d) (λ k. s .links .lone k (s .bare few .no-helper k))
     (λ k. s .links .absent (helper k) (λ t. s .bare few .no-helper k (present-helper m k t)))
 
 -- the helpers of points 0 and 1
-pub pair-helper : {m : Map} (p : Point) → Sound m → (j : ℕ) → j < 2 → T (has-helper (pair m p) j)
+pub pair-helper : {m : Map} (p : Point) → Shaped m → (j : ℕ) → j < 2 → T (has-helper (pair m p) j)
 unfolding pair with-point has-helper
 pair-helper {m} p s j h =
     of-true (has-helper (pair m p) j)
@@ -50,7 +50,7 @@ pair-helper {m} p s j h =
     (same-or-not j 1))
 
 -- and no other
-pub pair-owned : {m : Map} (p : Point) → Sound m → m .count ≡ 1 → (j : ℕ) → T (has-helper (pair m p) j) → j < 2
+pub pair-owned : {m : Map} (p : Point) → Shaped m → m .count ≡ 1 → (j : ℕ) → T (has-helper (pair m p) j) → j < 2
 unfolding pair with-point has-helper
 pair-owned {m} p s one j t =
     ⊎-elim (λ (e : j ≡ 1). omega arith)
@@ -63,7 +63,7 @@ pair-owned {m} p s one j t =
     (same-or-not j 0))
     (same-or-not j 1)
 
-module _ {m : Map} (s : Sound m) (one : m .count ≡ 1) (p : Point) where
+module _ {m : Map} (s : Shaped m) (one : m .count ≡ 1) (p : Point) where
   few : m .count < 2
   few = omega arith
 
@@ -142,8 +142,8 @@ module _ {m : Map} (s : Sound m) (one : m .count ≡ 1) (p : Point) where
       absurd (omega (arith, pair-splices .count-grows)))
       (elem-cases a 1 (0 ∷ []) h)
 
-pub pair-sound : {m : Map} (p : Point) → Sound m → m .count ≡ 1 → T (in-range p) →
-    ((k : ℕ) → k < m .count → point m k ≢ p) → Sound (pair m p)
+pub pair-sound : {m : Map} (p : Point) → Shaped m → m .count ≡ 1 → T (in-range p) →
+    ((k : ℕ) → k < m .count → point m k ≢ p) → Shaped (pair m p)
 unfolding pair with-point
 pair-sound {m} p s one ranged differs =
     let room : m .count < point-limit = omega arith in

@@ -17,9 +17,9 @@ use Rattle.model.specs.declared.Map.{Map}
 use Rattle.model.specs.Plane.{in-range}
 use Rattle.model.specs.Maps.{point-limit, point}
 use Rattle.model.specs.Arrival.{with-point}
-use Rattle.model.specs.Sound.{Sound, SoundPoints}
+use Rattle.model.specs.Sound.{Shaped, ShapedPoints}
 
-module _ {m : Map} (s : Sound m) (room : m .count < point-limit) (p : Point)
+module _ {m : Map} (s : Shaped m) (room : m .count < point-limit) (p : Point)
     (helpers : List Bool) (edge : List ℕ) (reference : ℕ) where
   pub point-new : point (with-point m p helpers edge reference) (m .count) ≡ p
   unfolding point with-point
@@ -40,7 +40,7 @@ module _ {m : Map} (s : Sound m) (room : m .count < point-limit) (p : Point)
       λ i. record { x = x i; y = y i }
 
   pub with-point-sound : T (in-range p) → ((k : ℕ) → k < m .count → point m k ≢ p) →
-      SoundPoints (with-point m p helpers edge reference)
+      ShapedPoints (with-point m p helpers edge reference)
   unfolding with-point
   with-point-sound ranged differs =
       record {

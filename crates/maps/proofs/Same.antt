@@ -13,7 +13,7 @@ use Rattle.orbits.specs.Links.{link-of}
 use Rattle.model.specs.declared.Point.{Point}
 use Rattle.model.specs.declared.Map.{Map}
 use Rattle.model.specs.Maps.{point, has-helper, edge-link}
-use Rattle.model.specs.Sound.{Sound}
+use Rattle.model.specs.Sound.{Shaped}
 
 -- lists of links that lead alike are the same
 same-links : (s t : List ℕ) → length s ≡ length t → ((d : ℕ) → link-of s d ≡ link-of t d) → s ≡ t
@@ -26,7 +26,7 @@ pub same-fields : {m n : Map} → m .xs ≡ n .xs → m .ys ≡ n .ys → m .hel
 same-fields x y h e c r =
     λ i. record { xs = x i; ys = y i; helpers = h i; edge = e i; count = c i; reference = r i }
 
-pub same-map : {m n : Map} → Sound m → Sound n → m .count ≡ n .count → ((k : ℕ) → point m k ≡ point n k) →
+pub same-map : {m n : Map} → Shaped m → Shaped n → m .count ≡ n .count → ((k : ℕ) → point m k ≡ point n k) →
     ((k : ℕ) → has-helper m k ≡ has-helper n k) → ((d : ℕ) → edge-link m d ≡ edge-link n d) →
     m .reference ≡ n .reference → m ≡ n
 unfolding point has-helper edge-link

@@ -22,7 +22,7 @@ use Rattle.orbits.proofs.ClosedWalks.{ClosedPart, one-closed-at, agree-reach, a
 use Rattle.model.specs.declared.Map.{Map}
 use Rattle.model.specs.Maps.{point-limit, own, helper, owner, has-helper, is-present, edge-link, point-link}
 use Rattle.model.specs.Outline.{next-corner}
-use Rattle.model.specs.Sound.{Sound, SoundLinks}
+use Rattle.model.specs.Sound.{Shaped, ShapedLinks}
 use Rattle.maps.proofs.Darts.{owner-own, owner-helper, own-differs, own-injective, helper-injective, by-present, own-present, helper-present, present-owner, present-dart}
 use Rattle.maps.proofs.Links.{Linked, sound-linked, links, DartOf, links-symmetric}
 use Rattle.maps.proofs.Circuits.{Edge, Circuit, edge-next, circuit-dart, circuit-stays, circuit-closed-part}
@@ -104,7 +104,7 @@ module _ {m m′ : Map} {l r : ℕ} (z : Splices m m′ l r) where
 abbrev pub arc : ℕ → List ℕ → ℕ → List ℕ
 arc r between l = r ∷ between ++ l ∷ []
 
-module _ {m m′ : Map} (s : Sound m) (room : m .count < point-limit) {l r : ℕ}
+module _ {m m′ : Map} (s : Shaped m) (room : m .count < point-limit) {l r : ℕ}
     (left-old : l < m .count) (right-old : r < m .count) (z : Splices m m′ l r) where
   -- the old edge link fixes the new darts, for they were absent
   new-fixed : (d : ℕ) → m .count ≤ owner d → edge-link m d ≡ d
@@ -182,7 +182,7 @@ module _ {m m′ : Map} (s : Sound m) (room : m .count < point-limit) {l r : ℕ
       no-own : (k : ℕ) → T (has-helper m′ k) → own k ≢ own j
       no-own k t i = none (subst (λ (e : ℕ). T (has-helper m′ e)) (own-injective i) t)
 
-  pub splice-links : SoundLinks m′
+  pub splice-links : ShapedLinks m′
   splice-links =
       record {
         helpers-whole = z .helpers-whole;

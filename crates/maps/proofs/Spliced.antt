@@ -22,7 +22,7 @@ use Rattle.model.specs.Plane.{in-range, beside}
 use Rattle.model.specs.Maps.{point-limit, own, helper, owner, point, has-helper, is-present, edge-link}
 use Rattle.model.specs.Outline.{next-corner, outline}
 use Rattle.model.specs.Arrival.{cut, join, with-point, spliced}
-use Rattle.model.specs.Sound.{Sound, SoundLinks, AllLeft}
+use Rattle.model.specs.Sound.{Shaped, ShapedLinks, AllLeft}
 use Rattle.maps.proofs.Darts.{owner-own, is-own-own, own-differs, own-present, helper-present, present-owner}
 use Rattle.maps.proofs.Edges.{length-cut, cut-same, cut-other, length-join, join-first, join-second, join-other}
 use Rattle.maps.proofs.Circuits.{Circuit, circuit-outline}
@@ -46,7 +46,7 @@ spliced-link : (m : Map) (p : Point) (l r d : ℕ) →
 unfolding spliced with-point edge-link
 spliced-link m p l r d = refl
 
-module _ {m : Map} (s : Sound m) (l r : ℕ) where
+module _ {m : Map} (s : Shaped m) (l r : ℕ) where
   link-is : (d : ℕ) → link-of (m .edge) d ≡ edge-link m d
   unfolding edge-link
   link-is d = refl
@@ -99,7 +99,7 @@ module _ {m : Map} (s : Sound m) (l r : ℕ) where
 
 -- ---- the helpers
 
-module _ {m : Map} (s : Sound m) (room : m .count < point-limit) (p : Point) (l r : ℕ) where
+module _ {m : Map} (s : Shaped m) (room : m .count < point-limit) (p : Point) (l r : ℕ) where
   pub spliced-helper-new : T (has-helper (spliced m p l r) (m .count))
   unfolding spliced with-point has-helper
   spliced-helper-new =
@@ -183,7 +183,7 @@ module _ {m : Map} (s : Sound m) (room : m .count < point-limit) (p : Point) (l 
 
 -- ---- the outline
 
-module _ {m : Map} (s : Sound m) (two : 2 ≤ m .count) (room : m .count < point-limit) (p : Point) (l r : ℕ)
+module _ {m : Map} (s : Shaped m) (two : 2 ≤ m .count) (room : m .count < point-limit) (p : Point) (l r : ℕ)
     (between lost : List ℕ) (c : Circuit m (r ∷ between ++ l ∷ lost)) where
   left-helped : T (has-helper m l)
   left-helped = c .helped l (elem-append-right l (r ∷ between) (l ∷ lost) (elem-head l lost))
@@ -200,7 +200,7 @@ module _ {m : Map} (s : Sound m) (two : 2 ≤ m .count) (room : m .count < point
   between-corners : Splices m (spliced m p l r) l r
   between-corners = spliced-splices s room p l r left-helped right-helped
 
-  pub spliced-links : SoundLinks (spliced m p l r)
+  pub spliced-links : ShapedLinks (spliced m p l r)
   spliced-links = splice-links s room left-below right-below between-corners
 
   pub spliced-circuit : Circuit (spliced m p l r) (m .count ∷ arc r between l)
@@ -224,7 +224,7 @@ module _ {m : Map} (s : Sound m) (two : 2 ≤ m .count) (room : m .count < point
       splice-next s room left-below right-below between-corners between lost c
 
   pub spliced-sound : T (in-range p) → ((k : ℕ) → k < m .count → point m k ≢ p) →
-      AllLeft (spliced m p l r) (m .count ∷ arc r between l) → Sound (spliced m p l r)
+      AllLeft (spliced m p l r) (m .count ∷ arc r between l) → Shaped (spliced m p l r)
   unfolding spliced with-point
   spliced-sound ranged differs left =
       sound-with-outline

@@ -34,7 +34,7 @@ use Rattle.model.specs.declared.Map.{Map}
 use Rattle.model.specs.Maps.{own, helper, owner, has-helper, is-present, edge-link, point-link}
 use Rattle.model.specs.Outline.{outline}
 use Rattle.model.specs.Reading.{darts}
-use Rattle.model.specs.Sound.{Sound}
+use Rattle.model.specs.Sound.{Shaped}
 use Rattle.maps.proofs.Darts.{own-differs, own-injective, helper-injective, own-or-helper, by-present, present-dart, point-own, point-helper, point-lone}
 use Rattle.maps.proofs.Links.{Linked, sound-linked, edge-involutes, point-involutes, links-keep}
 use Rattle.maps.proofs.Circuits.{Edge, Circuit, edge-back, circuit-dart}
@@ -101,7 +101,7 @@ module _ {m : Map} (l : Linked m) (a : ℕ) (t : List ℕ) (c : Circuit m (a ∷
 
 -- ---- in a sound map
 
-module _ {m : Map} (s : Sound m) where
+module _ {m : Map} (s : Shaped m) where
   -- the point link fixes only what the edge link fixes: a point without helper has a fixed own dart
   open-ends : (d : ℕ) → T (is-present m d) → OpenEnds (edge-link m) (point-link m) d
   open-ends d there =

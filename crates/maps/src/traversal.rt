@@ -6,6 +6,7 @@ use super::arrays::present_darts;
 use super::reading::is_present;
 use model::Counts;
 use model::Kind;
+use model::Link;
 use model::Map;
 use orbits::DartSet;
 use orbits::Walk;
@@ -23,13 +24,13 @@ ghost use Rattle.finite.specs.Bounded.{count};
 ghost use Rattle.orbits.specs.Walks.{walk, walker-at};
 ghost use Rattle.orbits.specs.Links.{test-of};
 ghost use Rattle.model.specs.Maps.{point-limit, own, is-present, edge-link, point-link};
-ghost use Rattle.model.specs.Sound.{Sound};
-ghost use Rattle.model.specs.Reading.{orbit-set, counts, darts};
+ghost use Rattle.model.specs.Sound.{Shaped};
+ghost use Rattle.model.specs.Reading.{along, orbit-set, counts, darts};
 ghost use Rattle.model.specs.Maps.{present-by};
 
 // The orbit of a present dart: its edge, its vertex, its face, or its connected part.
 pub fn orbit_of(m: Map, kind: Kind, d: usize) -> DartSet
-    requires { ⌜ Sound m × T (is-present m d) ⌝ }
+    requires { ⌜ Shaped m × T (is-present m d) ⌝ }
     ensures { λ r. ⌜ r ≡ orbit-set m kind d ⌝ }
 {
     let edge = m.edge;
@@ -47,7 +48,7 @@ pub fn orbit_of(m: Map, kind: Kind, d: usize) -> DartSet
 
 // The numbers of darts, vertices, edges, faces and connected parts.
 pub fn counts_of(m: Map) -> Counts
-    requires { ⌜ Sound m ⌝ }
+    requires { ⌜ Shaped m ⌝ }
     ensures { λ r. ⌜ r ≡ counts m ⌝ }
 {
     let n = m.count;
@@ -88,15 +89,26 @@ pub fn walk_of(m: Map, d: usize) -> Walk
     walk(&edge, &point, dart_count(&m.helpers, n), d)
 }
 
+// A walker moved by a link of the map, or by none.
+pub fn moved(m: Map, link: Link, walker: Walker) -> Walker
+    ensures { λ r. ⌜ r ≡ walker-at (along link m (walker .dart)) ⌝ }
+{
+    match link {
+        Link::None => walker,
+        Link::Edge => moved_by_edge(m, walker),
+        Link::Point => moved_by_point(m, walker),
+    }
+}
+
 // The walker moved by the edge link.
-pub fn moved_by_edge(m: Map, walker: Walker) -> Walker
+fn moved_by_edge(m: Map, walker: Walker) -> Walker
     ensures { λ r. ⌜ r ≡ walker-at (edge-link m (walker .dart)) ⌝ }
 {
     walker.moved(&m.edge)
 }
 
 // The walker moved by the point link.
-pub fn moved_by_point(m: Map, walker: Walker) -> Walker
+fn moved_by_point(m: Map, walker: Walker) -> Walker
     ensures { λ r. ⌜ r ≡ walker-at (point-link m (walker .dart)) ⌝ }
 {
     let point = point_links(&m.helpers);

@@ -23,7 +23,7 @@ use Rattle.model.specs.declared.Map.{Map}
 use Rattle.model.specs.Plane.{origin, coordinate-in-range, in-range, same-point, beside}
 use Rattle.model.specs.Maps.{point-limit, no-dart, own, owner, is-own, point, has-helper, is-present, edge-link, point-link, dart-bound}
 use Rattle.model.specs.Outline.{next-corner, outline}
-use Rattle.model.specs.Sound.{arrays-whole, count-fits, points-in-range, points-differ, places-vacant, helpers-owned, absent-fixed, links-undo, edges-cross, lone-fixed, one-outline, reference-on-outline, others-left, no-outline, sound, Sound, SoundLinks}
+use Rattle.model.specs.Sound.{arrays-whole, count-fits, points-in-range, points-differ, places-vacant, helpers-owned, absent-fixed, links-undo, edges-cross, lone-fixed, one-outline, reference-on-outline, others-left, no-outline, sound, Shaped, ShapedLinks}
 
 -- equal points, as a test and as an equation
 pub same-point-eq : (p q : Point) → T (same-point p q) → p ≡ q
@@ -41,7 +41,7 @@ same-point-by p q e =
     (of-true _ (eq-eqZ (ap (λ (r : Point). r .y) e)))
 
 -- the points of a sound map are in range, and so is a place without a point, which holds 0, 0
-pub place-ranged : {m : Map} → Sound m → (k : ℕ) → T (in-range (point m k))
+pub place-ranged : {m : Map} → Shaped m → (k : ℕ) → T (in-range (point m k))
 unfolding in-range coordinate-in-range
 place-ranged {m} s k =
     ⊎-elim (s .points .ranged k) (λ l. subst (λ p. T (in-range p)) (sym (s .points .vacant k l)) tt)
@@ -219,7 +219,7 @@ module _ (m : Map) (t : EachTest m) where
     unfolding has-helper
     no-helper k = T-not (has-helper m k) (from-place not (m .helpers) 0 false tt (bare-is .helpers) k zero-le)
 
-sound-links : (m : Map) → EachTest m → SoundLinks m
+sound-links : (m : Map) → EachTest m → ShapedLinks m
 unfolding count-fits
 sound-links m t =
     let l = lengths m t in
@@ -242,7 +242,7 @@ sound-links m t =
       lone = lone-is-fixed m t;
     }
 
-pub sound-holds : (m : Map) → T (sound m) → Sound m
+pub sound-holds : (m : Map) → T (sound m) → Shaped m
 unfolding points-in-range points-differ one-outline
 sound-holds m s =
     let t = each-test m s in
@@ -278,7 +278,7 @@ sound-holds m s =
           };
     }
 
-module _ (m : Map) (s : Sound m) where
+module _ (m : Map) (s : Shaped m) where
   zero-by : (l : List ℤ) → ((k : ℕ) → m .count ≤ k → getD l k (pos 0) ≡ pos 0) → T (all-in (eqZ (pos 0)) (drop (m .count) l))
   zero-by l f = from-places (eqZ (pos 0)) l (m .count) (pos 0) (λ k h. of-true _ (eq-eqZ (sym (f k h))))
 
@@ -392,7 +392,7 @@ module _ (m : Map) (s : Sound m) where
       all-by k _
       (λ j lt. not-T (same-point (point m j) (point m k)) (λ t. s .points .distinct j k lt l (same-point-eq (point m j) (point m k) t))))
 
-pub sound-by : (m : Map) → Sound m → T (sound m)
+pub sound-by : (m : Map) → Shaped m → T (sound m)
 unfolding count-fits points-in-range
 sound-by m s =
     sound-of-each m

@@ -7,6 +7,7 @@ use Prim.Native.Nat.{ℕ}
 use Rattle.model.specs.declared.Point.{Point}
 use Rattle.model.specs.declared.Map.{Map}
 use Rattle.model.specs.declared.Kind.{Kind}
+use Rattle.model.specs.declared.Link.{Link}
 use Rattle.model.specs.Refusals.{number, Rule}
 use Rattle.model.specs.Plane.{orientation-call}
 use Rattle.model.specs.Outline.{corners}
@@ -21,7 +22,7 @@ use Rattle.model.specs.Report.{report-rules, report}
 abbrev numbers-of : List Rule → List ℕ
 numbers-of rules = map (λ rule. number (rule .refusal)) rules
 
-module _ (m : Map) (p q r : Point) (kind : Kind) (d : ℕ) (f : ℕ → ℕ) (s lent : List ℕ) where
+module _ (m : Map) (p q r : Point) (kind : Kind) (link : Link) (d : ℕ) (s lent : List ℕ) where
   pub orientation-order : numbers-of (orientation-call p q r .rules) ≡ 3 ∷ []
   unfolding number
   orientation-order = refl
@@ -42,7 +43,7 @@ module _ (m : Map) (p q r : Point) (kind : Kind) (d : ℕ) (f : ℕ → ℕ) (s 
   unfolding number
   walk-order = refl
 
-  pub walker-order : numbers-of (walker-call f m d .rules) ≡ 1 ∷ 6 ∷ []
+  pub walker-order : numbers-of (walker-call m link d .rules) ≡ 1 ∷ 6 ∷ []
   unfolding number
   walker-order = refl
 

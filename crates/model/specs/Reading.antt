@@ -18,6 +18,7 @@ use Rattle.model.specs.declared.Outcome.{Outcome}
 use Rattle.model.specs.declared.Counts.{Counts}
 use Rattle.model.specs.declared.Counted.{Counted}
 use Rattle.model.specs.declared.Walked.{Walked}
+use Rattle.model.specs.declared.Link.{Link}
 use Rattle.model.specs.declared.Moved.{Moved}
 use Rattle.model.specs.Refusals.{Rule, _when_}
 use Rattle.model.specs.Answers.{Call, answer-of, orbit-answer, counted-answer, walked-answer, moved-answer}
@@ -105,13 +106,19 @@ walk-call m d =
 unfoldable pub walked : Map → ℕ → Walked
 walked m d = answer-of (walk-call m d)
 
--- "A walker can be moved by one link and shows the dart it has reached." A walker starts at a dart
--- (f the identity) or is moved by a link; one that stands at an absent dart is refused.
-abbrev pub walker-call : (ℕ → ℕ) → Map → ℕ → Call Moved
-walker-call f m d =
+-- where a walker comes that is moved by a link, or by none
+abbrev pub along : Link → Map → ℕ → ℕ
+along Link.None m d = d
+along Link.Edge m d = edge-link m d
+along Link.Point m d = point-link m d
+
+-- "A walker can be moved by one link and shows the dart it has reached." Moved by none, it is only
+-- started; one that stands at an absent dart is refused.
+abbrev pub walker-call : Map → Link → ℕ → Call Moved
+walker-call m link d =
     record {
       meaning = moved-answer;
       refuse = Moved.Refused;
       rules = dart-rules m d;
-      value = Moved.At (walker-at (f d));
+      value = Moved.At (walker-at (along link m d));
     }

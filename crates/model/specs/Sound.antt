@@ -1,5 +1,5 @@
 -- A sound map, in the order of this page: as tests, each a sentence of document 01, "A sound map",
--- in its order, with `sound` their conjunction; as statements, the record `Sound` of the points, the
+-- in its order, with `sound` their conjunction; as statements, the record `Shaped` of the points, the
 -- links and the outline. That the two agree is `sound-holds` and `sound-by` of proofs/Sound. Sound is
 -- wider than what offers can build: the reference may be any own dart of the outline, inner chains
 -- are arbitrary, and inner points may be in line.
@@ -118,7 +118,7 @@ sound m =
 -- ---- the same as statements
 
 -- the points
-pub record SoundPoints (m : Map) : Type 0 where
+pub record ShapedPoints (m : Map) : Type 0 where
   pub xs-whole : length (m .xs) ≡ point-limit
   pub ys-whole : length (m .ys) ≡ point-limit
   pub ranged : (k : ℕ) → k < m .count → T (in-range (point m k))
@@ -126,7 +126,7 @@ pub record SoundPoints (m : Map) : Type 0 where
   pub vacant : (k : ℕ) → m .count ≤ k → point m k ≡ origin
 
 -- the helpers and the links
-pub record SoundLinks (m : Map) : Type 0 where
+pub record ShapedLinks (m : Map) : Type 0 where
   pub helpers-whole : length (m .helpers) ≡ point-limit
   pub edge-whole : length (m .edge) ≡ dart-limit
   pub fits : m .count ≤ point-limit
@@ -145,7 +145,7 @@ AllLeft m s =
     T (beside (point m a) (point m (next-corner m a)) (point m c))
 
 -- the outline of two points or more
-pub record SoundOutline (m : Map) : Type 0 where
+pub record ShapedOutline (m : Map) : Type 0 where
   pub one-walk : closed-walks (edge-link m) (point-link m) (dart-bound m) (is-present m) ≡ 1
   pub reference-own : T (is-own (m .reference))
   pub reference-present : T (is-present m (m .reference))
@@ -157,8 +157,8 @@ pub record Bare (m : Map) : Type 0 where
   pub no-helper : (k : ℕ) → ¬ T (has-helper m k)
   pub unreferenced : m .reference ≡ no-dart
 
-pub record Sound (m : Map) : Type 0 where
-  pub points : SoundPoints m
-  pub links : SoundLinks m
-  pub outlined : 2 ≤ m .count → SoundOutline m
+pub record Shaped (m : Map) : Type 0 where
+  pub points : ShapedPoints m
+  pub links : ShapedLinks m
+  pub outlined : 2 ≤ m .count → ShapedOutline m
   pub bare : m .count < 2 → Bare m

@@ -1,9 +1,12 @@
-// The declared types of the engine: what goes in and what comes out. Their meaning is in specs/.
+// The declared types of the engine: what goes in and what comes out. Their meaning is in specs/. The
+// one function is the number of a refusal.
 
 use orbits::DART_LIMIT;
 use orbits::DartSet;
 use orbits::Walk;
 use orbits::Walker;
+ghost use mathlib.Core.Path.{_≡_};
+ghost use Rattle.model.specs.Refusals.{number};
 
 // The most points that a map has.
 pub const POINT_LIMIT: usize = 512;
@@ -41,6 +44,24 @@ pub enum Refusal {
     BadLine,
     LongText,
     ShortList,
+}
+
+// The number of a refusal.
+pub fn refusal_number(r: Refusal) -> usize
+    ensures { λ n. ⌜ n ≡ number r ⌝ }
+{
+    match r {
+        Refusal::NotSound => 1,
+        Refusal::Full => 2,
+        Refusal::OutOfRange => 3,
+        Refusal::Repeated => 4,
+        Refusal::InLine => 5,
+        Refusal::NoDart => 6,
+        Refusal::BadFile => 7,
+        Refusal::BadLine => 8,
+        Refusal::LongText => 9,
+        Refusal::ShortList => 10,
+    }
 }
 
 // The orientation of three points.
@@ -105,6 +126,13 @@ pub enum Counted {
 pub enum Walked {
     Ended(Walk),
     Refused(Refusal),
+}
+
+// By which link a walker is moved.
+pub enum Link {
+    None,
+    Edge,
+    Point,
 }
 
 // The walker that was moved.

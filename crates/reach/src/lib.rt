@@ -3,59 +3,54 @@
 // where the call is served; values are written into lent lists. Each function loads, checks,
 // computes its values, and then writes them where there is room.
 
-mod opening;
-mod values;
-mod writing;
-
-use crate::opening::load_at;
-use crate::opening::load_near;
-use crate::values::placed_values;
-use crate::values::point;
-use crate::values::walk_values;
-use crate::writing::code;
-use crate::writing::uncounted;
-use crate::writing::write_admitted;
-use crate::writing::write_corner_list;
-use crate::writing::write_darts;
-use crate::writing::write_number;
-use crate::writing::write_point;
-use crate::writing::write_values;
+use corners::query::placed;
 use engine::files::load;
 use engine::texts::report;
-use hull::query::placed;
+use layout::saved_length;
 use maps::empty_map;
 use maps::traversal::counts_of;
-use maps::traversal::moved_by_edge;
-use maps::traversal::moved_by_point;
+use maps::traversal::moved;
 use maps::traversal::orbit_of;
 use maps::traversal::walk_of;
 use model::Kind;
 use model::Line;
-use model::Map;
+use model::Link;
 use model::Oriented;
 use model::Outcome;
 use model::Point;
 use model::Written;
 use orbits::Walker;
 use plane::orientation_of;
-use saved::saved_length;
+use replies::opening::load_at;
+use replies::opening::load_near;
+use replies::values::placed_values;
+use replies::values::point;
+use replies::values::walk_values;
+use replies::writing::code;
+use replies::writing::uncounted;
+use replies::writing::write_admitted;
+use replies::writing::write_corner_list;
+use replies::writing::write_darts;
+use replies::writing::write_number;
+use replies::writing::write_point;
+use replies::writing::write_values;
 use saved::write_map;
 use survey::lines::read_line;
 ghost use mathlib.Core.Path.{_≡_};
 ghost use mathlib.Core.List.{[], _∷_};
+ghost use Rattle.model.specs.declared.Link.{Link};
 ghost use Rattle.model.specs.Plane.{at, orientation-call};
-ghost use Rattle.orbits.specs.Walks.{walker-at};
-ghost use Rattle.model.specs.Maps.{edge-link, empty-map, point-link};
+ghost use Rattle.model.specs.Maps.{empty-map};
 ghost use Rattle.model.specs.Outline.{corners};
 ghost use Rattle.model.specs.Reading.{unsound};
 ghost use Rattle.model.specs.Saved.{load-call, map-in, saved};
 ghost use Rattle.model.specs.Text.{line-call};
 ghost use Rattle.model.specs.Report.{report, report-rules};
-ghost use Rattle.reach.specs.Served.{Served, ServedBoth, number-by, only};
-ghost use Rattle.reach.specs.Opened.{of-file};
-ghost use Rattle.reach.specs.Replies.{Offering, along, counts-reply, from-file, length-told};
-ghost use Rattle.reach.specs.Replies.{orbit-reply, place-reply, reply, signed};
-ghost use Rattle.reach.specs.Replies.{walk-reply, walker-reply};
+ghost use Rattle.replies.specs.Served.{Served, ServedBoth, number-by, only};
+ghost use Rattle.replies.specs.Opened.{of-file};
+ghost use Rattle.replies.specs.Replies.{Offering, counts-reply, from-file, length-told};
+ghost use Rattle.replies.specs.Replies.{orbit-reply, place-reply, reply, signed};
+ghost use Rattle.replies.specs.Replies.{walk-reply, walker-reply};
 
 // The orientation of three points: numbers 3 and 10.
 #[no_mangle]
@@ -230,16 +225,9 @@ pub extern "C" fn reach_walk(map: &[u8], dart: usize, out: &mut [u64]) -> u32
     }
 }
 
-// By which link a walker is moved.
-enum Link {
-    None,
-    Edge,
-    Point,
-}
-
 // A walker started at a dart and moved: numbers 7, 1, 6 and 10.
 fn write_walker(map: &[u8], link: Link, dart: usize, out: &mut [u64]) -> u32
-    ensures { λ r. ⌜ Served (from-file (walker-reply (along link) dart) (now (map .entry)))
+    ensures { λ r. ⌜ Served (from-file (walker-reply link dart) (now (map .entry)))
         (now (out .entry)) (now (out .exit)) r ⌝ }
 {
     let loaded = load_at(map, dart);
@@ -247,29 +235,17 @@ fn write_walker(map: &[u8], link: Link, dart: usize, out: &mut [u64]) -> u32
     match outcome {
         Outcome::Refused(refusal) => code(refusal),
         Outcome::Served => {
-            let walker = moved(loaded.map, link, dart);
+            let walker = moved(loaded.map, link, Walker { dart });
             let values = [walker.dart as u64];
             write_values(&values, out)
         }
     }
 }
 
-// A walker started at a dart and moved.
-fn moved(map: Map, link: Link, dart: usize) -> Walker
-    ensures { λ r. ⌜ r ≡ walker-at (along link map dart) ⌝ }
-{
-    let walker = Walker { dart };
-    match link {
-        Link::None => walker,
-        Link::Edge => moved_by_edge(map, walker),
-        Link::Point => moved_by_point(map, walker),
-    }
-}
-
 // A walker started at a dart: numbers 7, 1, 6 and 10.
 #[no_mangle]
 pub extern "C" fn reach_walker(map: &[u8], dart: usize, out: &mut [u64]) -> u32
-    ensures { λ r. ⌜ Served (from-file (walker-reply (λ m d. d) dart) (now (map .entry)))
+    ensures { λ r. ⌜ Served (from-file (walker-reply Link.None dart) (now (map .entry)))
         (now (out .entry)) (now (out .exit)) r ⌝ }
 {
     write_walker(map, Link::None, dart, out)
@@ -278,7 +254,7 @@ pub extern "C" fn reach_walker(map: &[u8], dart: usize, out: &mut [u64]) -> u32
 // A walker started at a dart and moved by the edge link: numbers 7, 1, 6 and 10.
 #[no_mangle]
 pub extern "C" fn reach_walker_edge(map: &[u8], dart: usize, out: &mut [u64]) -> u32
-    ensures { λ r. ⌜ Served (from-file (walker-reply edge-link dart) (now (map .entry)))
+    ensures { λ r. ⌜ Served (from-file (walker-reply Link.Edge dart) (now (map .entry)))
         (now (out .entry)) (now (out .exit)) r ⌝ }
 {
     write_walker(map, Link::Edge, dart, out)
@@ -287,7 +263,7 @@ pub extern "C" fn reach_walker_edge(map: &[u8], dart: usize, out: &mut [u64]) ->
 // A walker started at a dart and moved by the point link: numbers 7, 1, 6 and 10.
 #[no_mangle]
 pub extern "C" fn reach_walker_point(map: &[u8], dart: usize, out: &mut [u64]) -> u32
-    ensures { λ r. ⌜ Served (from-file (walker-reply point-link dart) (now (map .entry)))
+    ensures { λ r. ⌜ Served (from-file (walker-reply Link.Point dart) (now (map .entry)))
         (now (out .entry)) (now (out .exit)) r ⌝ }
 {
     write_walker(map, Link::Point, dart, out)

@@ -18,15 +18,15 @@ use Rattle.model.specs.declared.Map.{Map}
 use Rattle.model.specs.declared.Line.{Line}
 use Rattle.model.specs.declared.Offered.{Offered}
 use Rattle.model.specs.Maps.{empty-map}
-use Rattle.model.specs.Sound.{Sound}
+use Rattle.model.specs.Sound.{Shaped}
 use Rattle.model.specs.Arrival.{arrive, refusing}
 use Rattle.model.specs.Text.{lines}
 use Rattle.model.specs.Report.{text-limit, arrivals, closing, offer-line}
 use Rattle.maps.proofs.Empty.{empty-sound}
 use Rattle.survey.specs.Places.{at-end, line-at, next-line}
-use Rattle.survey.specs.Printing.{arrival-line}
+use Rattle.printing.specs.Printing.{arrival-line}
 use Rattle.survey.proofs.Texts.{next-further}
-use Rattle.survey.proofs.Reports.{report-ended, report-goes-on}
+use Rattle.printing.proofs.Reports.{report-ended, report-goes-on}
 use Rattle.hull.proofs.Outcomes.{Accepted}
 use Rattle.reports.specs.declared.deciding.Verdict.{Verdict}
 use Rattle.reports.specs.declared.deciding.Stop.{Stop}
@@ -82,7 +82,7 @@ module _ {text answers : List ℕ} {m : Map} {n at : ℕ} (r : Reports text m an
 
     -- with the answer of this line, and the map that it leaves
     reports-more : (o : Offered) → offer-line m (line-at text at) ≡ o → Packable (o .arrival) →
-        Sound (o .map) →
+        Shaped (o .map) →
         Reports text (o .map) (set answers n (packed (o .arrival))) (n + 1) (next-line text at)
     reports-more o e p s =
         record {

@@ -19,7 +19,7 @@ use Rattle.model.specs.History.{Entry, Run, is-accepted, extended, run-from, ru
 use Rattle.model.specs.Text.{line-read, lines}
 use Rattle.model.specs.Report.{text-limit, printed, offer-line, closing, arrivals, report}
 use Rattle.hull.proofs.History.{always-balanced}
-use Rattle.survey.specs.Printing.{arrival-line}
+use Rattle.printing.specs.Printing.{arrival-line}
 use Rattle.reports.specs.Lines.{header}
 use Rattle.reports.specs.Histories.{named, points-named, answers-on, map-after, numbered, accepted-in, arrivals-of, ReportsHistory}
 

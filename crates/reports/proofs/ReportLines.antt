@@ -17,12 +17,12 @@ use Rattle.model.specs.Spelling.{bytes}
 use Rattle.model.specs.Maps.{point-limit}
 use Rattle.model.specs.Answers.{refused}
 use Rattle.model.specs.Report.{text-limit, printed}
-use Rattle.survey.specs.Printing.{answer-line, values-spaced}
-use Rattle.survey.specs.Writing.{Room, Wrote}
-use Rattle.survey.proofs.Values.{spaced-length}
-use Rattle.survey.proofs.Overwriting.{wrote-none, wrote-as, wrote-then, wrote-length}
-use Rattle.survey.proofs.Printed.{line-length, refused-most, arrival-line-most}
-use Rattle.reports.specs.declared.printing.Ends.{Ends}
+use Rattle.printing.specs.Printing.{answer-line, values-spaced}
+use Rattle.printing.specs.Writing.{Room, Wrote}
+use Rattle.printing.proofs.Values.{spaced-length}
+use Rattle.printing.proofs.Overwriting.{wrote-none, wrote-as, wrote-then, wrote-length}
+use Rattle.printing.proofs.Printed.{line-length, refused-most, arrival-line-most}
+use Rattle.reports.specs.declared.positions.Ends.{Ends}
 use Rattle.reports.specs.Packing.{unpacked}
 use Rattle.reports.specs.Lines.{header, answer-at, answer-lines, counts-values, report-line, lines-from, line-count}
 use Rattle.reports.specs.Printing.{Printable, PutLines}

@@ -13,7 +13,7 @@ use Rattle.model.specs.declared.Map.{Map}
 use Rattle.model.specs.declared.Line.{Line}
 use Rattle.model.specs.declared.Offered.{Offered}
 use Rattle.model.specs.Maps.{point-limit}
-use Rattle.model.specs.Sound.{Sound}
+use Rattle.model.specs.Sound.{Shaped}
 use Rattle.model.specs.Arrival.{arrive, refusing}
 use Rattle.model.specs.Outline.{visible-edges}
 use Rattle.model.specs.Offers.{offer}
@@ -39,7 +39,7 @@ unfolding verdict-on
 outcome-served p q Outcome.Served e = (cc, cc)
 outcome-served p q (Outcome.Refused r) e = absurd (let z : _≡_ {A = ℕ} 0 1 = cc in omega arith)
 
-module _ {m : Map} (s : Sound m) where
+module _ {m : Map} (s : Shaped m) where
   pub line-refused : (line : Line) (r : Refusal) →
       Verdict.Refused r ≡ verdict-by (m .xs) (m .ys) (m .count) line →
       offer-line m line ≡ refusing m r
@@ -60,7 +60,7 @@ module _ {m : Map} (s : Sound m) where
 
 -- ---- the arrival of an accepted point
 
-pub arrive-sound : {m : Map} {p : Point} → Accepted m p → Sound (arrive m p .map)
+pub arrive-sound : {m : Map} {p : Point} → Accepted m p → Shaped (arrive m p .map)
 arrive-sound {m} {p} a = arrival-sound m p a (arrive m p) (arrive-arrives m p)
 
 packable-by : {m : Map} {p : Point} → Accepted m p → (o : Offered) → Arrives m p o →

@@ -21,15 +21,15 @@ use Rattle.model.specs.Reading.{counts}
 use Rattle.model.specs.Text.{lines}
 use Rattle.model.specs.Lent.{lent-after}
 use Rattle.model.specs.Report.{text-limit, printed, arrivals, report}
-use Rattle.hull.specs.declared.listing.CornerList.{CornerList}
-use Rattle.hull.specs.Listing.{ListsCorners}
-use Rattle.survey.specs.Writing.{overwritten}
-use Rattle.survey.proofs.Overwriting.{wrote-length}
-use Rattle.survey.proofs.Reports.{closing-lines, written-from-start}
+use Rattle.corners.specs.declared.listing.CornerList.{CornerList}
+use Rattle.corners.specs.Listing.{ListsCorners}
+use Rattle.printing.specs.Writing.{overwritten}
+use Rattle.printing.proofs.Overwriting.{wrote-length}
+use Rattle.printing.proofs.Reports.{closing-lines, written-from-start}
 use Rattle.reports.specs.declared.Decided.{Decided}
 use Rattle.reports.specs.declared.deciding.Surveyed.{Surveyed}
-use Rattle.reports.specs.declared.printing.Ends.{Ends}
-use Rattle.reports.specs.declared.printing.Piece.{Piece}
+use Rattle.reports.specs.declared.positions.Ends.{Ends}
+use Rattle.reports.specs.declared.positions.Piece.{Piece}
 use Rattle.reports.specs.Lines.{header, corners-in, report-line, lines-from, line-count, report-of}
 use Rattle.reports.specs.Printing.{Printable, PutLines}
 use Rattle.reports.specs.Pieces.{WroteLines, line-limit, Pieces, begun, continued}

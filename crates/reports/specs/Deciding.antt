@@ -9,7 +9,7 @@ use lib.IntN.{ℤ}
 use lib.ListN.{length, drop}
 use Rattle.model.specs.declared.Map.{Map}
 use Rattle.model.specs.Maps.{point-limit, empty-map}
-use Rattle.model.specs.Sound.{Sound}
+use Rattle.model.specs.Sound.{Shaped}
 use Rattle.model.specs.Text.{lines}
 use Rattle.model.specs.Report.{text-limit, arrivals, closing, report}
 use Rattle.survey.specs.Places.{at-end, line-at}
@@ -23,7 +23,7 @@ use Rattle.reports.specs.Lines.{answer-lines, report-of}
 
 -- the answers of the lines before number n, and the lines from a place on, offered to the map
 pub record Reports (text : List ℕ) (m : Map) (answers : List ℕ) (n at : ℕ) : Type 0 where
-  pub is-sound : Sound m
+  pub is-sound : Shaped m
   pub together :
       answer-lines answers n ++ arrivals m n (lines (drop at text))
       ≡ arrivals empty-map 0 (lines text)
@@ -64,7 +64,7 @@ pub record Readable (text answers : List ℕ) : Type 0 where
 
 -- the answers of all lines, and the last two lines on the map, make up the report
 pub record Surveys (text answers : List ℕ) (s : Surveyed) : Type 0 where
-  pub is-sound : Sound (s .map)
+  pub is-sound : Shaped (s .map)
   pub whole : length answers ≡ text-limit
   pub lines-fit : s .lines ≤ text-limit
   pub together : answer-lines answers (s .lines) ++ closing (s .map)

@@ -14,8 +14,8 @@ use Rattle.model.specs.declared.Counts.{Counts}
 use Rattle.model.specs.Spelling.{bytes}
 use Rattle.model.specs.Answers.{refused}
 use Rattle.model.specs.Report.{printed}
-use Rattle.survey.specs.Printing.{answer-line, arrival-line}
-use Rattle.reports.specs.declared.printing.Ends.{Ends}
+use Rattle.printing.specs.Printing.{answer-line, arrival-line}
+use Rattle.reports.specs.declared.positions.Ends.{Ends}
 use Rattle.reports.specs.declared.Decided.{Decided}
 use Rattle.reports.specs.Packing.{unpacked}
 

@@ -5,7 +5,7 @@ use mathlib.Core.List.{List, [], _++_}
 use Prim.Native.Nat.{ℕ}
 use lib.ListN.{take}
 use Rattle.reports.specs.declared.Decided.{Decided}
-use Rattle.reports.specs.declared.printing.Piece.{Piece}
+use Rattle.reports.specs.declared.positions.Piece.{Piece}
 use Rattle.reports.specs.Lines.{corners-in}
 use Rattle.reports.specs.Printing.{PutLines}
 

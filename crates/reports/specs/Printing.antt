@@ -4,9 +4,9 @@ use mathlib.Core.List.{List}
 use Prim.Native.Nat.{ℕ, _+_, _-_, _≤_, _<_}
 use lib.ListN.{length}
 use Rattle.model.specs.Report.{text-limit}
-use Rattle.survey.specs.Writing.{Wrote}
-use Rattle.reports.specs.declared.printing.Ends.{Ends}
-use Rattle.reports.specs.declared.printing.Piece.{Piece}
+use Rattle.printing.specs.Writing.{Wrote}
+use Rattle.reports.specs.declared.positions.Ends.{Ends}
+use Rattle.reports.specs.declared.positions.Piece.{Piece}
 use Rattle.reports.specs.Lines.{report-line, lines-from, line-count}
 
 pub record Printable (ends : Ends) : Type 0 where

@@ -3,15 +3,15 @@
 
 pub mod deciding;
 mod packing;
-pub mod printing;
+pub mod positions;
 
 use crate::deciding::TEXT_LIMIT;
 use crate::deciding::decide_lines;
-use crate::printing::Ends;
-use crate::printing::Piece;
-use crate::printing::put_lines;
-use crate::printing::total_length;
-use hull::listing::corners_of;
+use crate::positions::Ends;
+use crate::positions::Piece;
+use crate::positions::put_lines;
+use crate::positions::total_length;
+use corners::listing::corners_of;
 use maps::traversal::counts_of;
 use model::Counts;
 use model::POINT_LIMIT;

@@ -3,7 +3,7 @@
 use model::Arrival;
 use model::POINT_LIMIT;
 use model::Refusal;
-use survey::answers::refusal_number;
+use model::refusal_number;
 ghost use mathlib.Core.Path.{_≡_};
 ghost use Rattle.reports.specs.Packing.{Packable, packed, refusal-of, unpacked};
 

@@ -25,7 +25,7 @@ use Rattle.model.specs.declared.Loaded.{Loaded}
 use Rattle.model.specs.Plane.{coordinate-limit, at}
 use Rattle.model.specs.Maps.{point-limit, own, point, has-helper, is-present, edge-link}
 use Rattle.model.specs.Refusals.{unless}
-use Rattle.model.specs.Sound.{Sound, sound}
+use Rattle.model.specs.Sound.{Shaped, sound}
 use Rattle.model.specs.Saved.{Bytes, big-endian, number-at, complement, signed, field}
 use Rattle.model.specs.Saved.{version-place, count-place, reference-place, header-length}
 use Rattle.model.specs.Saved.{coordinates-place, helpers-place, links-place}
@@ -34,18 +34,18 @@ use Rattle.model.specs.Saved.{helper-in-file, link-in-file, coordinates-in-file
 use Rattle.model.specs.Saved.{links-in-file, file-in-form, map-in, loaded}
 use Rattle.model.proofs.Sound.{place-ranged, present-below, sound-holds}
 use Rattle.plane.proofs.Bounds.{x-near, y-near}
-use Rattle.saved.proofs.Digits.{number-small, complement-small, signed-complement}
-use Rattle.saved.proofs.Digits.{complement-signed, bytes-back}
-use Rattle.saved.proofs.Blocks.{block-same, block-back}
+use Rattle.layout.proofs.Digits.{number-small, complement-small, signed-complement}
+use Rattle.layout.proofs.Digits.{complement-signed, bytes-back}
+use Rattle.layout.proofs.Blocks.{block-same, block-back}
 use Rattle.saved.proofs.Tables.{until-table, until-at}
-use Rattle.saved.proofs.Form.{Form, form-holds, form-by}
+use Rattle.layout.proofs.Form.{Form, form-holds, form-by}
 use Rattle.maps.proofs.Same.{same-fields}
 use Rattle.saved.proofs.Places.{length-saved, length-read, version-read, count-read}
 use Rattle.saved.proofs.Places.{reference-read, coordinate-read, helper-read, link-read}
 
 -- ---- what a sound map holds fits its fields
 
-module _ {m : Map} (s : Sound m) where
+module _ {m : Map} (s : Shaped m) where
   pub coordinate-small : (i : ℕ) → natAbs (coordinate m i) ≤ coordinate-limit
   unfolding coordinate
   coordinate-small i =
@@ -88,7 +88,7 @@ y-coordinate m k =
     let e : (2 * k + 1) / 2 ≡ k = omega arith in
     rw (ne-eqb ((2 * k + 1) % 2) 0 (λ z. omega arith), e)
 
-module _ {m : Map} (s : Sound m) where
+module _ {m : Map} (s : Shaped m) where
   count-back : count-in-file (saved m) ≡ m .count
   count-back = count-read m (s .links .fits)
 

@@ -14,7 +14,7 @@ use Rattle.model.specs.Saved.{version-place, count-place, reference-place, head
 use Rattle.model.specs.Saved.{coordinates-place, helpers-place, links-place, saved-length}
 use Rattle.model.specs.Saved.{following}
 use Rattle.model.specs.Saved.{coordinate, header, saved, count-in-file}
-use Rattle.saved.proofs.Blocks.{length-block, number-placed, block-placed}
+use Rattle.layout.proofs.Blocks.{length-block, number-placed, block-placed}
 
 module _ (m : Map) where
   abbrev n : ℕ

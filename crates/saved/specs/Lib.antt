@@ -1,5 +1,3 @@
 -- What the functions of this crate answer. Nothing is assumed.
---     Writing    what is written into a lent list
---     Fields     a map's fields as the file has them, read from its arrays
-pub mod Writing
+--     Fields    a map's fields as the file has them, read from its arrays
 pub mod Fields

@@ -1,19 +1,18 @@
 // Reading the parts of a file that is as long as the form asks.
 
-use super::HEADER_LENGTH;
-use super::helpers_place;
-use super::links_place;
-use super::numbers::number_at;
-use super::numbers::signed;
+use layout::HEADER_LENGTH;
+use layout::helper_byte;
+use layout::links_place;
+use layout::numbers::number_at;
+use layout::numbers::signed;
 use model::POINT_LIMIT;
 use orbits::DART_LIMIT;
 ghost use mathlib.Core.Path.{_≡_};
 ghost use mathlib.Core.Bool.{false};
-ghost use Prim.Native.Nat.{_+_, _*_, _≤_, _<_};
-ghost use lib.Dec.{eqb, leb};
+ghost use Prim.Native.Nat.{_+_, _*_, _≤_};
+ghost use lib.Dec.{eqb};
 ghost use lib.IntN.{pos};
 ghost use lib.ListN.{length};
-ghost use Rattle.finite.specs.Bounded.{all};
 ghost use Rattle.model.specs.Maps.{own, point-limit};
 ghost use Rattle.model.specs.Saved.{coordinate-in-file, helper-in-file, link-in-file};
 ghost use Rattle.model.specs.Saved.{saved-length, until};
@@ -67,27 +66,6 @@ fn helper_in(file: &[u8], count: usize, k: usize) -> bool
     } else {
         false
     }
-}
-
-// The helper byte of point k.
-fn helper_byte(file: &[u8], count: usize, k: usize) -> usize
-    requires { ⌜ (count ≤ point-limit) × (saved-length count ≤ length (now file)) × (k < count) ⌝ }
-    ensures { λ r. ⌜ r ≡ helper-in-file (now (file .entry)) count k ⌝ }
-{
-    number_at(file, helpers_place(count) + k, 1)
-}
-
-// Whether every helper byte is 0 or 1.
-pub fn helpers_in_form(file: &[u8], count: usize) -> bool
-    requires { ⌜ (count ≤ point-limit) × (saved-length count ≤ length (now file)) ⌝ }
-    ensures { λ r. ⌜ r ≡ all count (λ k. leb (helper-in-file (now (file .entry)) count k) 1) ⌝ }
-{
-    for k in 0..count {
-        if 1 < helper_byte(file, count, k) {
-            return false;
-        }
-    }
-    true
 }
 
 // The edge links of all darts.

@@ -1,12 +1,12 @@
 // Writing the parts of a file, each over the front of a lent list.
 
-use super::COUNT_PLACE;
-use super::REFERENCE_PLACE;
-use super::VERSION;
-use super::VERSION_PLACE;
-use super::numbers::complement;
-use super::numbers::put_number;
-use super::saved_length;
+use layout::COUNT_PLACE;
+use layout::REFERENCE_PLACE;
+use layout::VERSION;
+use layout::VERSION_PLACE;
+use layout::numbers::complement;
+use layout::numbers::put_number;
+use layout::saved_length;
 use maps::reading::coordinate;
 use maps::reading::has_helper;
 use orbits::link_of;
@@ -20,7 +20,7 @@ ghost use Rattle.model.specs.Saved.{block, header, header-length};
 ghost use Rattle.orbits.specs.Links.{link-of};
 ghost use Rattle.model.specs.Maps.{point-at};
 ghost use Rattle.saved.specs.Fields.{coordinate-field, helper-field};
-ghost use Rattle.saved.specs.Writing.{over};
+ghost use Rattle.layout.specs.Writing.{over};
 
 // The header of a map of so many points with a reference.
 pub fn write_header(count: usize, reference: usize, lent: &mut [u8])

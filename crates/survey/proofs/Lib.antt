@@ -1,25 +1,11 @@
--- Reading and writing texts, and the laws that the functions cite. Nothing is assumed.
+-- Reading texts, and the laws that the functions cite. Nothing is assumed.
 --     Digits         digits read one after another
 --     Signs          a number is a sign and a magnitude
 --     Separators     before and after the first of a byte
 --     Fronts         the number at the front of a list
 --     Texts          the lines of a text by their places
---     Overwriting    writing at a place of a lent list, one thing after another
---     Decimals       numbers in decimal
---     Magnitudes     the magnitude of a signed machine number
---     Values         values printed one after another
---     Printed        the printed lines of answers, and their lengths
---     RoundTrip      numbers are read as they are written, and written as they are read
---     Reports        the report by places of the text
 pub mod Digits
 pub mod Signs
 pub mod Separators
 pub mod Fronts
 pub mod Texts
-pub mod Overwriting
-pub mod Decimals
-pub mod Magnitudes
-pub mod Values
-pub mod Printed
-pub mod RoundTrip
-pub mod Reports

@@ -1,8 +1,5 @@
-// The survey text: its numbers and lines are read from places of the text, and what the report
-// prints is written at places of a lent list.
+// The survey text: its numbers and lines, read from places of the text.
 
-pub mod answers;
 pub mod lines;
 pub mod numbers;
 pub mod reader;
-pub mod writing;

@@ -3,7 +3,7 @@
 use borrow.Author.Needs.{needs}
 use mathlib.Core.Path.{_∙_}
 use native.Mathlib.Omega.{arith}
-use Rattle.hull.proofs.CornerLoops.{corners-written}
+use Rattle.corners.proofs.CornerLoops.{corners-written}
 use Rattle.engine.proofs.Rules.{tested, found-sound}
 use Rattle.engine.proofs.Entries.{rule-refused, short-refused, result-written}
 use Rattle.engine.proofs.list_corners.Statement.{statement}

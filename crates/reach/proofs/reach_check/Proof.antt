@@ -2,7 +2,7 @@
 use mathlib.Core.Path.{sym, _∙_}
 use Rattle.model.specs.Refusals.{number}
 use Rattle.model.proofs.Answers.{outcome-refuses, outcome-serves}
-use Rattle.reach.proofs.OpenedFiles.{loads}
+use Rattle.replies.proofs.OpenedFiles.{loads}
 use borrow.Author.Needs.{needs}
 use Rattle.reach.proofs.reach_check.Statement.{statement}
 use Rattle.reach.proofs.reach_check.Tie as tie

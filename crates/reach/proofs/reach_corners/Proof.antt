@@ -6,8 +6,8 @@ use lib.ListN.{length}
 use Rattle.model.specs.declared.Map.{Map}
 use Rattle.model.specs.Answers.{written-answer}
 use Rattle.model.specs.Outline.{corners}
-use Rattle.reach.proofs.OpenedFiles.{loads, opened-sound}
-use Rattle.reach.proofs.Serving.{both-refused-before, both-served-after, both-at}
+use Rattle.replies.proofs.OpenedFiles.{loads, opened-sound}
+use Rattle.replies.proofs.Serving.{both-refused-before, both-served-after, both-at}
 use borrow.Author.Needs.{needs}
 use Rattle.reach.proofs.reach_corners.Statement.{statement}
 use Rattle.reach.proofs.reach_corners.Tie as tie

@@ -4,8 +4,8 @@ use mathlib.Core.Path.{ap}
 use mathlib.Core.List.{[], _∷_}
 use Rattle.model.specs.declared.Counts.{Counts}
 use Rattle.model.specs.Answers.{counted-answer}
-use Rattle.reach.specs.Replies.{counts-reply}
-use Rattle.reach.proofs.OpenedFiles.{loads, opened-sound, opened-refused, opened-served}
+use Rattle.replies.specs.Replies.{counts-reply}
+use Rattle.replies.proofs.OpenedFiles.{loads, opened-sound, opened-refused, opened-served}
 use borrow.Author.Needs.{needs}
 use Rattle.reach.proofs.reach_counts.Statement.{statement}
 use Rattle.reach.proofs.reach_counts.Tie as tie

@@ -7,11 +7,11 @@ use denote.Ref.{now}
 use lib.ListN.{length, drop}
 use Rattle.model.specs.declared.Map.{Map}
 use Rattle.model.specs.Maps.{empty-map}
-use Rattle.model.specs.Sound.{Sound}
+use Rattle.model.specs.Sound.{Shaped}
 use Rattle.model.specs.Saved.{saved}
 use Rattle.maps.proofs.Empty.{empty-sound}
 use Rattle.saved.proofs.Places.{length-saved}
-use Rattle.reach.proofs.Serving.{short-list, with-room}
+use Rattle.replies.proofs.Serving.{short-list, with-room}
 use borrow.Author.Needs.{needs}
 use Rattle.reach.proofs.reach_empty.Statement.{statement}
 use Rattle.reach.proofs.reach_empty.Tie as tie
@@ -27,7 +27,7 @@ unfolding empty-map
 write-map-requires c κs =
     let e = c .before .empty-map .ensures in
     let d = c .before .before in (
-      subst Sound (sym e) empty-sound,
+      subst Shaped (sym e) empty-sound,
       omega (arith, ap (λ (m : Map). m .count) e, d .before .saved-length .ensures, d .if1 .left),
     )
 

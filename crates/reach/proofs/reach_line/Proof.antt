@@ -6,8 +6,8 @@ use Rattle.model.specs.declared.Line.{Line}
 use Rattle.model.specs.declared.Outcome.{Outcome}
 use Rattle.model.specs.Answers.{line-answer}
 use Rattle.model.specs.Text.{line-call, line-read}
-use Rattle.reach.specs.Replies.{signed}
-use Rattle.reach.proofs.Serving.{served-as, answer-refused, answer-written}
+use Rattle.replies.specs.Replies.{signed}
+use Rattle.replies.proofs.Serving.{served-as, answer-refused, answer-written}
 use borrow.Author.Needs.{needs}
 use Rattle.reach.proofs.reach_line.Statement.{statement}
 use Rattle.reach.proofs.reach_line.Tie as tie

@@ -5,9 +5,9 @@ use Rattle.model.specs.Answers.{arrival-answer}
 use Rattle.model.specs.Arrival.{arrive}
 use Rattle.model.specs.Offers.{offer-rules}
 use Rattle.model.specs.Saved.{map-in, saved}
-use Rattle.reach.specs.Opened.{of-file}
-use Rattle.reach.specs.Replies.{arrival-told}
-use Rattle.reach.proofs.Serving.{both-at, point-made}
+use Rattle.replies.specs.Opened.{of-file}
+use Rattle.replies.specs.Replies.{arrival-told}
+use Rattle.replies.proofs.Serving.{both-at, point-made}
 use borrow.Author.Needs.{needs}
 use Rattle.reach.proofs.reach_offer.Statement.{statement}
 use Rattle.reach.proofs.reach_offer.Tie as tie

@@ -2,8 +2,8 @@
 -- Assumes nothing.
 use Rattle.model.specs.declared.Point.{Point}
 use Rattle.model.specs.Plane.{at, orientation-call}
-use Rattle.reach.specs.Replies.{reply, signed}
-use Rattle.reach.proofs.Serving.{served-at, point-made}
+use Rattle.replies.specs.Replies.{reply, signed}
+use Rattle.replies.proofs.Serving.{served-at, point-made}
 use borrow.Author.Needs.{needs}
 use Rattle.reach.proofs.reach_orientation.Statement.{statement}
 use Rattle.reach.proofs.reach_orientation.Tie as tie

@@ -1,8 +1,8 @@
 -- `reach::reach_place` meets its contract: the point is that of the coordinates. Assumes nothing.
 use denote.Ref.{now}
 use Rattle.model.specs.declared.Point.{Point}
-use Rattle.reach.specs.Replies.{from-file, place-reply}
-use Rattle.reach.proofs.Serving.{served-at, point-made}
+use Rattle.replies.specs.Replies.{from-file, place-reply}
+use Rattle.replies.proofs.Serving.{served-at, point-made}
 use borrow.Author.Needs.{needs}
 use Rattle.reach.proofs.reach_place.Statement.{statement}
 use Rattle.reach.proofs.reach_place.Tie as tie

@@ -3,7 +3,7 @@
 use denote.Ref.{now}
 use Rattle.model.specs.Answers.{written-answer}
 use Rattle.model.specs.Report.{report, report-rules}
-use Rattle.reach.proofs.Reported.{no-room-for-length, result-refused, result-written}
+use Rattle.replies.proofs.Reported.{no-room-for-length, result-refused, result-written}
 use borrow.Author.Needs.{needs}
 use Rattle.reach.proofs.reach_report.Statement.{statement}
 use Rattle.reach.proofs.reach_report.Tie as tie

@@ -4,8 +4,8 @@ use mathlib.Core.Path.{ap, _∙_}
 use Rattle.orbits.specs.declared.Walk.{Walk}
 use Rattle.model.specs.declared.Walked.{Walked}
 use Rattle.model.specs.Answers.{walked-answer}
-use Rattle.reach.specs.Replies.{walk-told, walk-reply}
-use Rattle.reach.proofs.OpenedFiles.{opened-sound, opened-refused, opened-served}
+use Rattle.replies.specs.Replies.{walk-told, walk-reply}
+use Rattle.replies.proofs.OpenedFiles.{opened-sound, opened-refused, opened-served}
 use borrow.Author.Needs.{needs}
 use Rattle.reach.proofs.reach_walk.Statement.{statement}
 use Rattle.reach.proofs.reach_walk.Tie as tie

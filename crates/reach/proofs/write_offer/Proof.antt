@@ -6,9 +6,9 @@ use Rattle.model.specs.declared.Map.{Map}
 use Rattle.model.specs.Answers.{arrival-answer}
 use Rattle.model.specs.Arrival.{admission-rules, arrive}
 use Rattle.model.specs.Saved.{map-in, saved}
-use Rattle.reach.specs.Replies.{arrival-told}
-use Rattle.reach.proofs.OpenedFiles.{loads, opened-sound}
-use Rattle.reach.proofs.Serving.{both-refused-before, both-served-after, both-at}
+use Rattle.replies.specs.Replies.{arrival-told}
+use Rattle.replies.proofs.OpenedFiles.{loads, opened-sound}
+use Rattle.replies.proofs.Serving.{both-refused-before, both-served-after, both-at}
 use borrow.Author.Needs.{needs}
 use Rattle.reach.proofs.write_offer.Statement.{statement}
 use Rattle.reach.proofs.write_offer.Tie as tie

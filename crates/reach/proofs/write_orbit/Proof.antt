@@ -8,10 +8,10 @@ use lib.ListN.{length}
 use Rattle.finite.specs.Bounded.{length-table}
 use Rattle.orbits.specs.declared.DartSet.{DartSet}
 use Rattle.orbits.specs.Sets.{bits, set-of}
-use Rattle.reach.specs.Replies.{orbit-reply}
-use Rattle.reach.proofs.Told.{set-told}
-use Rattle.reach.proofs.OpenedFiles.{opened-sound, opened-present}
-use Rattle.reach.proofs.OpenedFiles.{opened-refused, opened-served}
+use Rattle.replies.specs.Replies.{orbit-reply}
+use Rattle.replies.proofs.Told.{set-told}
+use Rattle.replies.proofs.OpenedFiles.{opened-sound, opened-present}
+use Rattle.replies.proofs.OpenedFiles.{opened-refused, opened-served}
 use borrow.Author.Needs.{needs}
 use Rattle.reach.proofs.write_orbit.Statement.{statement}
 use Rattle.reach.proofs.write_orbit.Tie as tie

@@ -9,8 +9,8 @@ use Rattle.model.specs.declared.Oriented.{Oriented}
 use Rattle.model.specs.declared.Outcome.{Outcome}
 use Rattle.model.specs.Answers.{oriented-answer}
 use Rattle.model.specs.Plane.{orientation-call}
-use Rattle.reach.specs.Replies.{signed}
-use Rattle.reach.proofs.Serving.{served-as, answer-refused, answer-written}
+use Rattle.replies.specs.Replies.{signed}
+use Rattle.replies.proofs.Serving.{served-as, answer-refused, answer-written}
 use borrow.Author.Needs.{needs}
 use Rattle.reach.proofs.write_orientation.Statement.{statement}
 use Rattle.reach.proofs.write_orientation.Tie as tie

@@ -3,9 +3,9 @@
 use mathlib.Core.Path.{ap, _∙_}
 use Rattle.model.specs.declared.Placed.{Placed}
 use Rattle.model.specs.Answers.{placed-answer}
-use Rattle.reach.specs.Replies.{place-told, place-reply}
-use Rattle.reach.proofs.OpenedFiles.{opened-sound, opened-near}
-use Rattle.reach.proofs.OpenedFiles.{opened-refused, opened-served}
+use Rattle.replies.specs.Replies.{place-told, place-reply}
+use Rattle.replies.proofs.OpenedFiles.{opened-sound, opened-near}
+use Rattle.replies.proofs.OpenedFiles.{opened-refused, opened-served}
 use borrow.Author.Needs.{needs}
 use Rattle.reach.proofs.write_placed.Statement.{statement}
 use Rattle.reach.proofs.write_placed.Tie as tie

@@ -4,8 +4,8 @@ use mathlib.Core.Path.{ap}
 use mathlib.Core.List.{[], _∷_}
 use Rattle.orbits.specs.declared.Walker.{Walker}
 use Rattle.model.specs.Answers.{moved-answer}
-use Rattle.reach.specs.Replies.{along, walker-reply}
-use Rattle.reach.proofs.OpenedFiles.{opened-refused, opened-served}
+use Rattle.replies.specs.Replies.{walker-reply}
+use Rattle.replies.proofs.OpenedFiles.{opened-refused, opened-served}
 use borrow.Author.Needs.{needs}
 use Rattle.reach.proofs.write_walker.Statement.{statement}
 use Rattle.reach.proofs.write_walker.Tie as tie
@@ -27,7 +27,7 @@ returns-2 c =
     let o = l .load-at .ensures in
     let e = t .enum-told .given .1 in
     let s = l .before .before .before .args in
-    opened-served (walker-reply (along (s .link)) (s .dart)) o e
+    opened-served (walker-reply (s .link) (s .dart)) o e
     (ap (λ (v : Walker). v .dart ∷ []) (n .moved .ensures))
     (w .write-values .ensures)
 

@@ -4,7 +4,7 @@ use mathlib.Core.Path.{ap, _∙_}
 use Prim.Native.Nat.{ℕ}
 use native.Mathlib.Omega.{arith}
 use Rattle.model.specs.Saved.{coordinates-in-file, helpers-in-file, links-in-file, map-in}
-use Rattle.saved.proofs.Form.{Form, form-holds}
+use Rattle.layout.proofs.Form.{Form, form-holds}
 use Rattle.maps.proofs.Same.{same-fields}
 use Rattle.saved.proofs.map_in.Statement.{statement}
 use Rattle.saved.proofs.map_in.Tie as tie

@@ -10,7 +10,7 @@ use Rattle.model.specs.declared.Map.{Map}
 use Rattle.model.specs.Maps.{point, has-helper, edge-link}
 use Rattle.model.specs.Saved.{header, header-length, helpers-place, links-place, block, complement}
 use Rattle.model.specs.Saved.{coordinate, saved}
-use Rattle.saved.proofs.Blocks.{length-block, piece-written}
+use Rattle.layout.proofs.Blocks.{length-block, piece-written}
 use Rattle.saved.proofs.Places.{length-header}
 use Rattle.model.proofs.Sound.{place-ranged}
 use borrow.Author.Needs.{needs}

@@ -17,7 +17,7 @@ use Rattle.orbits.proofs.Links.{permuted-first, permuted-second, permuted-compo
 use Rattle.model.specs.declared.Map.{Map}
 use Rattle.model.specs.Maps.{point-limit, has-helper, is-present, edge-link, point-link, face-link, dart-bound}
 use Rattle.model.specs.Reading.{links-of, number-of, darts, counts}
-use Rattle.model.specs.Sound.{Sound}
+use Rattle.model.specs.Sound.{Shaped}
 use Rattle.maps.proofs.Links.{sound-linked, edge-involutes}
 use Rattle.maps.proofs.Tables.{point-table, present-table, tables-permuted}
 use Rattle.maps.proofs.traversal.counts_of.Statement.{statement}
@@ -40,7 +40,7 @@ module _ (c : tie.After-present) where
   abbrev map : Map
   map = start .args .t1
 
-  abbrev sound : Sound map
+  abbrev sound : Shaped map
   sound = start .pre
 
   helpers-whole : length (map .helpers) ≡ point-limit

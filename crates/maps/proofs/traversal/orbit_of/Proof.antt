@@ -12,7 +12,7 @@ use Rattle.model.specs.declared.Kind.{Kind}
 use Rattle.model.specs.declared.Map.{Map}
 use Rattle.model.specs.Maps.{point-limit, has-helper, is-present, edge-link, point-link, face-link}
 use Rattle.model.specs.Reading.{links-of, orbit-set}
-use Rattle.model.specs.Sound.{Sound}
+use Rattle.model.specs.Sound.{Shaped}
 use Rattle.maps.proofs.Tables.{point-table}
 use Rattle.maps.proofs.Orbits.{read-stays, read-orbit}
 use Rattle.maps.proofs.traversal.orbit_of.Statement.{statement}
@@ -26,7 +26,7 @@ module _ (c : tie.After-point-links) where
   abbrev map : Map
   map = start .args .t1
 
-  abbrev sound : Sound map
+  abbrev sound : Shaped map
   sound = start .pre .0
 
   abbrev there : T (is-present map (start .args .d))

@@ -10,7 +10,7 @@ use denote.Ref.{now}
 use lib.ListN.{length, set}
 use Rattle.model.specs.declared.Map.{Map}
 use Rattle.model.specs.declared.Offered.{Offered}
-use Rattle.model.specs.Sound.{Sound}
+use Rattle.model.specs.Sound.{Shaped}
 use Rattle.hull.specs.Requires.{map-of}
 use Rattle.hull.proofs.Outcomes.{Accepted}
 use Rattle.hull.proofs.Admissions.{accepted-room}
@@ -57,9 +57,9 @@ grown c =
     let l = in-loop c .before .before in
     map-of (last .0) (last .1 .0) (last .1 .1 .0) (last .1 .1 .1 .0) (l .loop .count + 1) (c .grow .result .reference)
 
-grown-sound : (c : tie.After-grow Inv-loop μ-loop) → Sound (grown c)
+grown-sound : (c : tie.After-grow Inv-loop μ-loop) → Shaped (grown c)
 grown-sound c =
-    subst (λ (o : Offered). Sound (o .map)) (sym (c .grow .ensures)) (arrive-sound (accepted (in-loop c)))
+    subst (λ (o : Offered). Shaped (o .map)) (sym (c .grow .ensures)) (arrive-sound (accepted (in-loop c)))
 
 -- .. and the report with the line of the arrival
 grown-reports : (c : tie.After-next-from Inv-loop μ-loop) →

@@ -6,8 +6,8 @@ use Prim.Native.Nat.{ℕ, _-_}
 use native.Mathlib.Omega.{arith}
 use Rattle.model.specs.Saved.{version, big-endian, version-place, count-place, reference-place}
 use Rattle.model.specs.Saved.{following, header}
-use Rattle.saved.specs.Writing.{over}
-use Rattle.saved.proofs.Blocks.{piece-written}
+use Rattle.layout.specs.Writing.{over}
+use Rattle.layout.proofs.Blocks.{piece-written}
 use borrow.Author.Needs.{needs}
 use Rattle.saved.proofs.writing.write_header.Statement.{statement}
 use Rattle.saved.proofs.writing.write_header.Tie as tie

@@ -4,7 +4,7 @@ use borrow.Author.Needs.{needs}
 use Prim.Native.Nat.{_-_}
 use native.Mathlib.Omega.{arith}
 use Rattle.saved.specs.Fields.{helper-field}
-use Rattle.saved.proofs.Loops.{BlockPut, no-field-put, one-field-put, all-fields-put}
+use Rattle.layout.proofs.Loops.{BlockPut, no-field-put, one-field-put, all-fields-put}
 use Rattle.saved.proofs.writing.write_helpers.Statement.{statement}
 use Rattle.saved.proofs.writing.write_helpers.Tie as tie
 

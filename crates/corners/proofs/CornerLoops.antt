@@ -1,0 +1,181 @@
+-- The loops that look for the lowest corner, list the corners and write them into a lent list, in this
+-- order, each with its invariant and the laws of its start, of a step and of the end. Round the
+-- outline, what is found and what is still ahead make up the answer together.
+-- Assumes nothing.
+use mathlib.Core.Path.{_≡_, refl, sym, ap, ap₂, subst, _∙_}
+use mathlib.Core.Logic.{_≢_}
+use mathlib.Core.List.{List, [], _∷_, _++_, append-assoc, append-nil}
+use Prim.Native.Nat.{ℕ, zero, suc, _+_, _-_, _≤_, _<_}
+use native.Mathlib.Nat.{le-antisymm}
+use native.Mathlib.Numerals.{add-one}
+use native.Mathlib.Omega.{arith}
+use lib.ListN.{length, getD, take, drop, set, replicate, length-append, length-take, length-drop, length-replicate, length-set}
+use lib.Seq.{take-suc, take-suc-set, drop-cons, append-snoc, set-at, length-take-le}
+use borrow.Author.Tests.{le-ltb}
+use Rattle.finite.specs.Bounded.{table}
+use Rattle.finite.specs.Lists.{ring}
+use Rattle.finite.specs.Rotations.{ring-last, ring-more}
+use Rattle.model.specs.declared.Map.{Map}
+use Rattle.model.specs.Maps.{point-limit, owner, point}
+use Rattle.model.specs.Outline.{next-corner, corners-from, outline, lowest-corner, corners}
+use Rattle.model.specs.Sound.{Shaped}
+use Rattle.corners.specs.declared.listing.CornerList.{CornerList}
+use Rattle.corners.specs.Listing.{ListsCorners, lower-at, written-over}
+use Rattle.corners.proofs.Corners.{lowest-of, lowest-found, corners-lowest, few-listed}
+
+-- ---- the lowest corner
+
+module _ (m : Map) where
+  -- the lower of `lowest` and of what is ahead, at most so many from corner a, is the lowest of all
+  pub record Seeking (lowest a ahead : ℕ) : Type 0 where
+    pub so-far :
+        lowest-of (point m) lowest (ring (next-corner m) (owner (m .reference)) ahead a) ≡
+        lowest-of (point m) (owner (m .reference)) (outline m)
+
+  pub seeking-first : {ahead : ℕ} → ahead ≡ m .count → 2 ≤ m .count →
+      Seeking (owner (m .reference)) (owner (m .reference)) ahead
+  unfolding outline corners-from
+  seeking-first all two = rw all (record { so-far = rw (le-ltb (m .count) 2 two) })
+
+  module _ {lowest lowest′ a b ahead : ℕ} (u : Seeking lowest a ahead) (more : 0 < ahead)
+      (l : lowest′ ≡ lower-at (m .xs) (m .ys) lowest a) (to : b ≡ next-corner m a) where
+    step : (on : ℕ) →
+        ring (next-corner m) (owner (m .reference)) ahead a ≡ a ∷ ring (next-corner m) (owner (m .reference)) on b →
+        Seeking lowest′ b on
+    unfolding lowest-of point
+    step on is = record { so-far = rw l (ap (lowest-of (point m) lowest) (sym is) ∙ u .so-far) }
+
+    -- the next corner is the first ..
+    pub seeking-last : b ≡ owner (m .reference) → Seeking lowest′ b 0
+    seeking-last e = step 0 (rw to (ring-last (next-corner m) (owner (m .reference)) ahead a more (sym to ∙ e)))
+
+    -- .. or another one
+    pub seeking-more : {on : ℕ} → on ≡ ahead - 1 → b ≢ owner (m .reference) → Seeking lowest′ b on
+    seeking-more one-less n =
+        rw one-less
+        (step (ahead - 1)
+        (rw to (ring-more (next-corner m) (owner (m .reference)) ahead a more (λ e. n (to ∙ e)))))
+
+  pub seeking-end : Shaped m → 2 ≤ m .count → {lowest a ahead : ℕ} → Seeking lowest a ahead → ahead ≤ 0 →
+      lowest ≡ lowest-corner m
+  unfolding ring lowest-of
+  seeking-end s two {lowest} {a} {ahead} u h =
+      let none : ahead ≡ 0 = omega arith in subst (Seeking lowest a) none u .so-far ∙ lowest-found s two
+
+-- ---- the list
+
+module _ (m : Map) (start : ℕ) where
+  -- what is listed and what is ahead are the corners from `start`
+  pub record Listing (places : List ℕ) (listed a ahead : ℕ) : Type 0 where
+    pub whole : length places ≡ point-limit
+    pub few : listed + ahead ≤ m .count
+    pub so-far : take listed places ++ ring (next-corner m) start ahead a ≡ corners-from m start
+
+  pub listing-first : {places : List ℕ} {ahead : ℕ} → length places ≡ point-limit → ahead ≡ m .count →
+      Listing places 0 start ahead
+  unfolding corners-from
+  listing-first e all = rw all (record { whole = e; few = omega arith; so-far = refl })
+
+  module _ {places : List ℕ} {listed a b ahead : ℕ} (u : Listing places listed a ahead) (more : 0 < ahead)
+      (room : listed < point-limit) (to : b ≡ next-corner m a) where
+    grown : (on : ℕ) → on < ahead → ring (next-corner m) start ahead a ≡ a ∷ ring (next-corner m) start on b →
+        Listing (set places listed a) (listed + 1) b on
+    grown on h is =
+        record {
+          whole = length-set places listed a ∙ u .whole;
+          few = omega (arith, u .few);
+          so-far =
+              let inside : listed < length places = omega (arith, u .whole) in
+              ap (λ (j : ℕ). take j (set places listed a) ++ ring (next-corner m) start on b) (add-one listed)
+              ∙ ap (λ (t : List ℕ). t ++ ring (next-corner m) start on b) (take-suc-set places listed a inside)
+              ∙ append-assoc (take listed places) (a ∷ []) (ring (next-corner m) start on b)
+              ∙ ap (λ (t : List ℕ). take listed places ++ t) (sym is)
+              ∙ u .so-far;
+        }
+
+    pub listing-last : b ≡ start → Listing (set places listed a) (listed + 1) b 0
+    listing-last e = grown 0 more (rw to (ring-last (next-corner m) start ahead a more (sym to ∙ e)))
+
+    pub listing-more : {on : ℕ} → on ≡ ahead - 1 → b ≢ start → Listing (set places listed a) (listed + 1) b on
+    listing-more one-less n =
+        rw one-less
+        (grown (ahead - 1) (omega arith) (rw to (ring-more (next-corner m) start ahead a more (λ e. n (to ∙ e)))))
+
+pub listing-end : {m : Map} → Shaped m → 2 ≤ m .count → {start : ℕ} → start ≡ lowest-corner m →
+    {places : List ℕ} {listed a ahead : ℕ} → Listing m start places listed a ahead → ahead ≤ 0 →
+    ListsCorners m (record { places = places; count = listed })
+unfolding ring
+listing-end {m} s two {start} is {places} {listed} {a} {ahead} u h =
+    let none : ahead ≡ 0 = omega arith in
+    let w = subst (Listing m start places listed a) none u in
+    let fits : listed ≤ point-limit = omega (arith, u .few, s .links .fits) in
+    let members : take listed places ≡ corners m =
+    sym (append-nil (take listed places)) ∙ w .so-far ∙ ap (corners-from m) is ∙ sym (corners-lowest s two) in
+    record {
+      members = members;
+      number = sym (length-take-le listed places (omega (arith, u .whole))) ∙ ap length members;
+      whole = u .whole;
+      fits = fits;
+    }
+
+-- one point or none
+pub listing-few : {m : Map} → m .count < 2 → {n : ℕ} → n ≡ m .count →
+    ListsCorners m (record { places = replicate point-limit 0; count = n })
+unfolding table
+listing-few {m} few {n} e =
+    let members : take n (replicate point-limit 0) ≡ corners m =
+    rw e (own-numbers (m .count) few ∙ sym (few-listed m few)) in
+    record {
+      members = members;
+      number =
+          sym
+          (length-take-le n (replicate point-limit 0) (omega (arith, length-replicate {A = ℕ} point-limit 0)))
+          ∙ ap length members;
+      whole = length-replicate {A = ℕ} point-limit 0;
+      fits = omega arith;
+    }
+  where
+    own-numbers : (k : ℕ) → k < 2 → take k (replicate point-limit 0) ≡ table k (λ j. j)
+    own-numbers zero h = refl
+    own-numbers (suc zero) h = refl
+    own-numbers (suc (suc k)) h = absurd (omega arith)
+
+-- ---- the lent list
+
+-- the first `written` places hold those of the list, and the others what they held
+pub record Writing (places lent now : List ℕ) (written : ℕ) : Type 0 where
+  pub so-far : now ≡ take written places ++ drop written lent
+
+module _ (places lent : List ℕ) where
+  pub writing-first : Writing places lent lent 0
+  writing-first = record { so-far = refl }
+
+  module _ {now : List ℕ} {i : ℕ} (u : Writing places lent now i) (h : i ≤ length places) (l : i ≤ length lent) where
+    pub writing-length : length now ≡ length lent
+    writing-length =
+        ap length (u .so-far)
+        ∙ omega (arith, length-append (take i places) (drop i lent), length-take i places, length-drop i lent)
+
+  module _ {now : List ℕ} {i : ℕ} (u : Writing places lent now i) (h : i < length places) (l : i < length lent) where
+    pub writing-more : Writing places lent (set now i (getD places i 0)) (i + 1)
+    writing-more =
+        record {
+          so-far =
+              ap (λ (s : List ℕ). set s i v) (u .so-far ∙ ap (λ (s : List ℕ). take i places ++ s) (drop-cons lent i 0 l))
+              ∙ set-at (take i places) (getD lent i 0) (drop (suc i) lent) v i (length-take-le i places (omega arith))
+              ∙ sym (append-snoc (take i places) v (drop (suc i) lent))
+              ∙ ap (λ (s : List ℕ). s ++ drop (suc i) lent) (sym (take-suc places i 0 h))
+              ∙ ap (λ (j : ℕ). take j places ++ drop j lent) (sym (add-one i));
+        }
+      where
+        v : ℕ
+        v = getD places i 0
+
+  pub writing-end : {now : List ℕ} {i n : ℕ} → Writing places lent now i → i ≤ n → n ≤ i →
+      now ≡ take n places ++ drop n lent
+  writing-end {now} u h l = subst (λ (j : ℕ). now ≡ take j places ++ drop j lent) (le-antisymm h l) (u .so-far)
+
+-- so the corners of a map stand before what a lent list held past them
+pub corners-written : {m : Map} {r : CornerList} → ListsCorners m r → (lent : List ℕ) →
+    written-over r lent ≡ corners m ++ drop (length (corners m)) lent
+corners-written {m} l lent = ap₂ (λ (s : List ℕ) (n : ℕ). s ++ drop n lent) (l .members) (l .number)

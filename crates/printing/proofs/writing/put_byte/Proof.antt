@@ -1,0 +1,11 @@
+-- `survey::writing::put_byte` meets its contract: it is one store. Assumes nothing.
+use Rattle.printing.proofs.Overwriting.{wrote-byte}
+use borrow.Author.Needs.{needs}
+use Rattle.printing.proofs.writing.put_byte.Statement.{statement}
+use Rattle.printing.proofs.writing.put_byte.Tie as tie
+
+returns : tie.Need-returns
+returns c = wrote-byte (c .pre)
+
+pub put-byte-spec : {M : Type 1} → statement M
+put-byte-spec = tie.close (tie.spec (λ c. search needs) (λ c. search needs) (λ c. search needs) returns)

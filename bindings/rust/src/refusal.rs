@@ -1,34 +1,38 @@
 use std::fmt;
 
 /// Why a call is refused. A refused call changes nothing.
+///
+/// Later engines may refuse for more reasons, and withdraw some: match with a last arm `_`.
 #[derive(Clone, Copy, Debug, PartialEq, Eq, PartialOrd, Ord, Hash)]
-#[repr(u32)]
+#[non_exhaustive]
 pub enum Refusal {
     /// The map is not sound.
-    NotSound = 1,
+    NotSound,
     /// The map has 512 points already.
-    Full = 2,
+    Full,
     /// A coordinate is below -1,000,000 or above 1,000,000.
-    OutOfRange = 3,
+    OutOfRange,
     /// The offered point equals an accepted point.
-    Repeated = 4,
+    Repeated,
     /// The offered point is in line with two accepted points.
-    InLine = 5,
+    InLine,
     /// The dart is absent or above 1,023.
-    NoDart = 6,
+    NoDart,
     /// The bytes are not in the saved form.
-    BadFile = 7,
+    BadFile,
     /// The text line is not in form.
-    BadLine = 8,
+    BadLine,
     /// The text has more than 65,536 bytes.
-    LongText = 9,
+    LongText,
     /// A lent list is shorter than the result.
-    ShortList = 10,
+    ShortList,
+    /// A number that is new to this crate: the archive it is linked with is of a later engine.
+    Unknown(u32),
 }
 
 impl Refusal {
-    /// Every refusal, in the order of the numbers.
-    pub const ALL: [Refusal; 10] = [
+    /// Every refusal that this crate knows, in the order of the numbers.
+    pub const ALL: &'static [Refusal] = &[
         Refusal::NotSound,
         Refusal::Full,
         Refusal::OutOfRange,
@@ -44,22 +48,32 @@ impl Refusal {
     /// The number of the refusal.
     ///
     /// ```
-    /// assert_eq!(reach::Refusal::InLine.number(), 5);
+    /// assert_eq!(reach::Refusal::NoDart.number(), 6);
     /// ```
     pub fn number(self) -> u32 {
-        self as u32
+        match self {
+            Refusal::NotSound => 1,
+            Refusal::Full => 2,
+            Refusal::OutOfRange => 3,
+            Refusal::Repeated => 4,
+            Refusal::InLine => 5,
+            Refusal::NoDart => 6,
+            Refusal::BadFile => 7,
+            Refusal::BadLine => 8,
+            Refusal::LongText => 9,
+            Refusal::ShortList => 10,
+            Refusal::Unknown(number) => number,
+        }
     }
 
-    /// The refusal of a number, or none where the call is served.
-    ///
-    /// # Panics
-    ///
-    /// Panics where the number is above 10: the engine answers no such number.
+    /// The refusal of the number that a call returns, or none where it is served. The number is
+    /// looked up: the numbers need not follow each other.
     pub(crate) fn of(number: u32) -> Result<(), Refusal> {
-        match number {
-            0 => Ok(()),
-            _ => Err(Refusal::ALL[number as usize - 1]),
+        if number == 0 {
+            return Ok(());
         }
+        let known = Refusal::ALL.iter().find(|refusal| refusal.number() == number);
+        Err(known.copied().unwrap_or(Refusal::Unknown(number)))
     }
 }
 
@@ -81,8 +95,33 @@ impl fmt::Display for Refusal {
             Refusal::BadLine => "text line not in form",
             Refusal::LongText => "text above 65,536 bytes",
             Refusal::ShortList => "lent list shorter than the result; a longer one keeps its tail",
+            Refusal::Unknown(number) => return write!(f, "refusal {number}, new to this crate"),
         })
     }
 }
 
 impl std::error::Error for Refusal {}
+
+#[cfg(test)]
+mod tests {
+    use super::Refusal;
+
+    #[test]
+    fn a_number_is_looked_up() {
+        assert_eq!(Refusal::of(0), Ok(()));
+        for &refusal in Refusal::ALL {
+            assert_eq!(Refusal::of(refusal.number()), Err(refusal));
+        }
+        let numbers: Vec<u32> = Refusal::ALL.iter().map(|refusal| refusal.number()).collect();
+        assert!(numbers.is_sorted_by(|a, b| a < b) && !numbers.contains(&0));
+    }
+
+    #[test]
+    fn a_new_number_is_kept() {
+        for number in [11, 18, u32::MAX] {
+            assert_eq!(Refusal::of(number), Err(Refusal::Unknown(number)));
+            assert_eq!(Refusal::Unknown(number).number(), number);
+        }
+        assert_eq!(Refusal::Unknown(18).to_string(), "refusal 18, new to this crate");
+    }
+}

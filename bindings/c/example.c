@@ -29,7 +29,7 @@ int main(void) {
             printf("%zu refused %" PRIu32 "\n", i, refusal);
             continue;
         }
-        bytes += 13;
+        bytes += REACH_POINT_BYTES;
         memcpy(map, next, bytes);
         printf("%zu %s", i, arrival_words[arrival[0]]);
         if (arrival[0] == REACH_OUTSIDE) {

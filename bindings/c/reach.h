@@ -1,11 +1,11 @@
 /*
  * The proved engine for the convex outline of marks, as C functions: link
- * target/staticlib/libreach.a.
+ * target/staticlib/libreach.a. It is code for x86-64 under Linux and needs memcpy and memset alone.
  *
- * A map crosses the boundary as its saved bytes, 9 + 13 * n of them for n points, at most
- * REACH_MAP_BYTES. Coordinates are whole numbers from -1,000,000 to 1,000,000; points are numbered
- * from 0 in the order of their acceptance; point k owns dart 2k and may have the helper dart 2k +
- * 1.
+ * A map crosses the boundary as its saved bytes, REACH_BYTES(n) of them for n points, at most
+ * REACH_MAP_BYTES; what stands where is said below. Coordinates are whole numbers from -1,000,000
+ * to 1,000,000; points are numbered from 0 in the order of their acceptance; point k owns dart 2k
+ * and may have the helper dart 2k + 1.
  *
  * Every function returns 0 where the call is served, else the number of its refusal. Values go into
  * lists that the caller lends, each a pointer with its number of elements. A list shorter than the
@@ -13,14 +13,27 @@
  * list: where two are lent and either is too short, both stay as they were. The comment of each
  * function names its refusals in the order in which their conditions are looked at.
  *
- * A list that is lent may not overlap another of the same call. The pointer of a list of no
- * elements may be null. The functions keep no state and may be called from several threads.
+ * The length that goes with a map is the map's own number of bytes, not that of the buffer it lies
+ * in: bytes after the map are refused as REACH_BAD_FILE.
+ *
+ * A list may not overlap another of the same call. A map, a line and a text are lists too: the
+ * bytes after an offer go into another buffer than the map that is offered to. The pointer of a
+ * list of no elements may be null. The functions keep no state and may be called from several
+ * threads, whose stacks have the sizes below.
  */
 #ifndef REACH_H
 #define REACH_H
 
 #include <stddef.h>
 #include <stdint.h>
+
+#if !defined(__x86_64__) || defined(__ILP32__)
+#error "libreach.a is code for x86-64, with pointers of 64 bits"
+#endif
+
+/* The version of this header: it grows with each change of a function, a number or the saved form.
+ */
+#define REACH_HEADER_VERSION 1
 
 #ifdef __cplusplus
 extern "C" {
@@ -57,13 +70,61 @@ enum {
     REACH_PLACED_OUTSIDE = 4
 };
 
-/* Lengths that suffice: the bytes of a map, its corners, the words of an orbit and its size. */
+/* The limits of points, darts, coordinates (from -REACH_COORDINATE_LIMIT to REACH_COORDINATE_LIMIT)
+   and bytes of a text. */
+enum {
+    REACH_POINTS = 512,
+    REACH_DARTS = 2 * REACH_POINTS,
+    REACH_COORDINATE_LIMIT = 1000000,
+    REACH_TEXT_LIMIT = 65536
+};
+
+/* Lengths that suffice: the bytes of the map without points, what each point adds to them, the
+   bytes of any map, the words of an orbit and its size. */
 enum {
     REACH_EMPTY_BYTES = 9,
-    REACH_MAP_BYTES = 9 + 13 * 512,
-    REACH_POINTS = 512,
+    REACH_POINT_BYTES = 13,
+    REACH_MAP_BYTES = REACH_EMPTY_BYTES + REACH_POINT_BYTES * REACH_POINTS,
     REACH_ORBIT_WORDS = 17
 };
+
+/* The bytes of a map of n points, and a length that suffices for the report on a text of n bytes.
+ */
+#define REACH_BYTES(n) (REACH_EMPTY_BYTES + REACH_POINT_BYTES * (n))
+#define REACH_REPORT_BYTES(n) (16 * (n) + 4096)
+
+/* The bytes of stack that reach_report needs, and those that every other function needs. The tests
+   call them in threads of these sizes. */
+enum { REACH_REPORT_STACK = 1048576, REACH_CALL_STACK = 262144 };
+
+/*
+ * The saved form of a map of n points. Numbers are big-endian.
+ *
+ *     place              bytes
+ *     0                  4      the length of all that follows, 5 + 13 * n
+ *     4                  1      the version, REACH_FILE_VERSION
+ *     5                  2      n
+ *     7                  2      the reference, a dart, or REACH_NO_REFERENCE where there is none
+ *     9 + 8 * k          4      x of point k, in two's complement
+ *     13 + 8 * k         4      y of point k, in two's complement
+ *     9 + 8 * n + k      1      1 where point k has a helper dart, else 0
+ *     9 + 9 * n + 2 * d  2      the edge link of dart d, for each d below 2 * n
+ *
+ * The point link has no place: it joins darts 2k and 2k + 1 where point k has a helper, and fixes
+ * 2k where it has none.
+ */
+enum {
+    REACH_FILE_VERSION = 1,
+    REACH_NO_REFERENCE = REACH_DARTS,
+    REACH_LENGTH_PLACE = 0,
+    REACH_VERSION_PLACE = 4,
+    REACH_COUNT_PLACE = 5,
+    REACH_REFERENCE_PLACE = 7
+};
+#define REACH_X_PLACE(k) (REACH_EMPTY_BYTES + 8 * (k))
+#define REACH_Y_PLACE(k) (REACH_EMPTY_BYTES + 8 * (k) + 4)
+#define REACH_HELPER_PLACE(n, k) (REACH_EMPTY_BYTES + 8 * (n) + (k))
+#define REACH_EDGE_PLACE(n, dart) (REACH_EMPTY_BYTES + 9 * (n) + 2 * (dart))
 
 /* Writes the orientation of (a, b, c) to out[0]: positive where c is left of the line from a to b,
    zero where it is in line, negative where it is right. Refusals: 3, 10. */
@@ -84,7 +145,7 @@ uint32_t reach_offer(const uint8_t *map, size_t n, int64_t x, int64_t y, uint8_t
 uint32_t reach_edge_orbit(const uint8_t *map, size_t n, uint64_t dart, uint64_t *out, size_t m);
 
 /* Writes the orbit of a dart under the point link, as reach_edge_orbit does. Refusals: 7, 1, 6, 10.
-   */
+ */
 uint32_t reach_vertex_orbit(const uint8_t *map, size_t n, uint64_t dart, uint64_t *out, size_t m);
 
 /* Writes the orbit of a dart under "edge link, then point link", as reach_edge_orbit does.
@@ -129,8 +190,8 @@ uint32_t reach_check(const uint8_t *map, size_t n);
    range or not. Refusals: 8, 10. */
 uint32_t reach_line(const uint8_t *line, size_t n, int64_t *out, size_t m);
 
-/* Writes what the program prints for a survey text, and how many bytes it is to length[0]. It is
-   never more than 16 bytes for each byte of the text and 4,096 more. Refusals: 9, 10. */
+/* Writes what the program prints for a survey text, and how many bytes it is to length[0]: never
+   more than 16 bytes for each byte of the text and 4,096 more. Refusals: 9, 10. */
 uint32_t reach_report(const uint8_t *text, size_t n, uint8_t *out, size_t m, uint64_t *length,
                       size_t k);
 

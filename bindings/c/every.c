@@ -1,0 +1,229 @@
+/*
+ * Calls every function of reach.h, and holds what it returns and writes to the header's numbers and
+ * places. It is C11 and C++11 alike; `run` compiles it as both.
+ *
+ *     cc -std=c11 -Wall -Wextra -o every every.c ../../target/staticlib/libreach.a && ./every
+ */
+#include "reach.h"
+
+#include <inttypes.h>
+#include <stdio.h>
+#include <string.h>
+
+static int values, differences;
+
+/* Holds a value to what it should be. */
+#define IS(got, expected) is(__LINE__, #got, (int64_t)(got), (int64_t)(expected))
+
+static void is(int line, const char *what, int64_t got, int64_t expected) {
+    values++;
+    if (got != expected) {
+        differences++;
+        printf("every.c:%d: %s is %" PRId64 ", not %" PRId64 "\n", line, what, got, expected);
+    }
+}
+
+/* The map that the calls read, and how many bytes it has. */
+static uint8_t map[REACH_MAP_BYTES];
+static size_t bytes;
+
+/* What the calls write. */
+static uint64_t out[REACH_POINTS], length[1];
+static int64_t number[2];
+static uint8_t text[REACH_TEXT_LIMIT + 1], printed[REACH_REPORT_BYTES(REACH_TEXT_LIMIT)];
+
+/* Offers a point; the map is then the one after it. Its arrival is in out. */
+static uint32_t offer(int64_t x, int64_t y) {
+    uint8_t next[REACH_MAP_BYTES];
+    uint32_t refusal = reach_offer(map, bytes, x, y, next, sizeof next, out, 4);
+    if (refusal == 0) {
+        bytes += REACH_POINT_BYTES;
+        memcpy(map, next, bytes);
+    }
+    return refusal;
+}
+
+/* The number in so many bytes from a place of the map on. */
+static uint32_t at(size_t place, size_t width) {
+    uint32_t value = 0;
+    for (size_t i = 0; i < width; i++) {
+        value = value << 8 | map[place + i];
+    }
+    return value;
+}
+
+/* The coordinate at a place of the map. */
+static int64_t coordinate(size_t place) {
+    int64_t value = at(place, 4);
+    return value < INT64_C(1) << 31 ? value : value - (INT64_C(1) << 32);
+}
+
+static void without_points(void) {
+    bytes = REACH_EMPTY_BYTES;
+    IS(reach_empty(map, bytes - 1), REACH_SHORT_LIST);
+    IS(reach_empty(map, sizeof map), 0);
+    IS(at(REACH_REFERENCE_PLACE, 2), REACH_NO_REFERENCE);
+    IS(at(REACH_COUNT_PLACE, 2), 0);
+    IS(reach_place(map, bytes, 0, 0, out, 3), 0);
+    IS(out[0], REACH_PLACED_NONE);
+    IS(reach_corners(map, bytes, NULL, 0, length, 1), 0);
+    IS(length[0], 0);
+}
+
+static void arrivals(void) {
+    IS(offer(0, 0), 0);
+    IS(out[0], REACH_FIRST);
+    IS(offer(4, 0), 0);
+    IS(out[0], REACH_SECOND);
+    IS(offer(1, 3), 0);
+    IS(offer(5, 4), 0);
+    IS(offer(2, 2), REACH_IN_LINE);
+    IS(offer(4, 0), REACH_REPEATED);
+    IS(offer(REACH_COORDINATE_LIMIT + 1, 0), REACH_OUT_OF_RANGE);
+    IS(offer(2, 1), 0);
+    IS(out[0], REACH_INSIDE);
+    IS(offer(6, 7), 0);
+    IS(out[0], REACH_OUTSIDE);
+    IS(out[1], 1);
+    IS(out[2], 2);
+    IS(out[3], 2);
+}
+
+static void saved_form(void) {
+    static const int64_t session[][2] = {{0, 0}, {4, 0}, {1, 3}, {5, 4}, {2, 1}, {6, 7}};
+    static const uint32_t links[][2] = {{2, 11}, {11, 2}, {10, 5}, {5, 10}, {6, 6}, {7, 7}};
+    const size_t n = sizeof session / sizeof session[0];
+    IS(bytes, REACH_BYTES(n));
+    IS(at(REACH_LENGTH_PLACE, 4), bytes - 4);
+    IS(at(REACH_VERSION_PLACE, 1), REACH_FILE_VERSION);
+    IS(at(REACH_COUNT_PLACE, 2), n);
+    IS(at(REACH_REFERENCE_PLACE, 2), 10);
+    for (size_t k = 0; k < n; k++) {
+        IS(coordinate(REACH_X_PLACE(k)), session[k][0]);
+        IS(coordinate(REACH_Y_PLACE(k)), session[k][1]);
+        IS(at(REACH_HELPER_PLACE(n, k), 1), k != 4);
+    }
+    for (size_t i = 0; i < sizeof links / sizeof links[0]; i++) {
+        IS(at(REACH_EDGE_PLACE(n, links[i][0]), 2), links[i][1]);
+    }
+    IS(REACH_EDGE_PLACE(n, 2 * n), bytes);
+    IS(reach_check(map, bytes), 0);
+    IS(reach_check(map, sizeof map), REACH_BAD_FILE);
+    map[REACH_REFERENCE_PLACE + 1] = 6;
+    IS(reach_check(map, bytes), REACH_NOT_SOUND);
+    map[REACH_REFERENCE_PLACE + 1] = 10;
+}
+
+static void orbits(void) {
+    static const uint64_t counts[] = {11, 6, 7, 4, 3};
+    IS(reach_edge_orbit(map, bytes, 2, out, REACH_ORBIT_WORDS - 1), REACH_SHORT_LIST);
+    IS(reach_edge_orbit(map, bytes, 2, out, REACH_ORBIT_WORDS), 0);
+    IS(out[0], 1 << 2 | 1 << 11);
+    IS(out[REACH_ORBIT_WORDS - 1], 2);
+    IS(reach_vertex_orbit(map, bytes, 2, out, REACH_ORBIT_WORDS), 0);
+    IS(out[0], 1 << 2 | 1 << 3);
+    IS(out[REACH_ORBIT_WORDS - 1], 2);
+    IS(reach_face_orbit(map, bytes, 0, out, REACH_ORBIT_WORDS), 0);
+    IS(out[0], 1 << 0 | 1 << 2 | 1 << 4 | 1 << 10);
+    IS(out[REACH_ORBIT_WORDS - 1], 4);
+    IS(reach_part_orbit(map, bytes, 8, out, REACH_ORBIT_WORDS), 0);
+    IS(out[0], 1 << 8);
+    IS(out[REACH_ORBIT_WORDS - 1], 1);
+    IS(reach_part_orbit(map, bytes, 9, out, REACH_ORBIT_WORDS), REACH_NO_DART);
+    IS(reach_counts(map, bytes, out, 5), 0);
+    for (size_t i = 0; i < 5; i++) {
+        IS(out[i], counts[i]);
+    }
+}
+
+static void walks(void) {
+    IS(reach_walk(map, bytes, 0, out, 3), 0);
+    IS(out[0], 0);
+    IS(out[1], REACH_HOME);
+    IS(out[2], 8);
+    IS(reach_walk(map, bytes, 6, out, 3), 0);
+    IS(out[0], 6);
+    IS(out[1], REACH_LOOSE);
+    IS(out[2], 0);
+    IS(reach_walker(map, bytes, 2, out, 1), 0);
+    IS(out[0], 2);
+    IS(reach_walker_edge(map, bytes, 2, out, 1), 0);
+    IS(out[0], 11);
+    IS(reach_walker_point(map, bytes, 2, out, 1), 0);
+    IS(out[0], 3);
+}
+
+static void places(void) {
+    static const uint64_t corners[] = {0, 1, 5, 2};
+    IS(reach_place(map, bytes, 4, 0, out, 3), 0);
+    IS(out[0], REACH_PLACED_CORNER);
+    IS(out[1], 1);
+    IS(reach_place(map, bytes, 2, 0, out, 3), 0);
+    IS(out[0], REACH_PLACED_EDGE);
+    IS(out[1], 0);
+    IS(out[2], 1);
+    IS(reach_place(map, bytes, 2, 1, out, 3), 0);
+    IS(out[0], REACH_PLACED_INSIDE);
+    IS(reach_place(map, bytes, 5, 0, out, 3), 0);
+    IS(out[0], REACH_PLACED_OUTSIDE);
+    IS(out[1], 1);
+    IS(reach_corners(map, bytes, out, REACH_POINTS, length, 1), 0);
+    IS(length[0], 4);
+    for (size_t i = 0; i < 4; i++) {
+        IS(out[i], corners[i]);
+    }
+}
+
+static void numbers(void) {
+    const int64_t most = REACH_COORDINATE_LIMIT;
+    IS(reach_orientation(0, 0, 4, 0, 1, 3, number, 1), 0);
+    IS(number[0], 12);
+    IS(reach_orientation(-most, -most, most, -most, most, most, number, 1), 0);
+    IS(number[0], 4 * most * most);
+    IS(reach_orientation(0, 0, 4, 0, 0, -most - 1, number, 1), REACH_OUT_OF_RANGE);
+    IS(reach_line((const uint8_t *)"-3 40", 5, number, 2), 0);
+    IS(number[0], -3);
+    IS(number[1], 40);
+    IS(reach_line((const uint8_t *)"-3  40", 6, number, 2), REACH_BAD_LINE);
+}
+
+static void reports(void) {
+    static const char report[] = "OUTLINE 1\n0 first\ncorners 0\ncounts 1 1 1 1 1\n";
+    IS(reach_report((const uint8_t *)"7 7", 3, printed, sizeof printed, length, 1), 0);
+    IS(length[0], sizeof report - 1);
+    IS(memcmp(printed, report, sizeof report - 1), 0);
+    memset(text, '\n', sizeof text);
+    IS(reach_report(text, REACH_TEXT_LIMIT, printed, sizeof printed, length, 1), 0);
+    IS(length[0] <= REACH_REPORT_BYTES(REACH_TEXT_LIMIT), 1);
+    IS(reach_report(text, REACH_TEXT_LIMIT, printed, length[0] - 1, length, 1), REACH_SHORT_LIST);
+    IS(reach_report(text, sizeof text, printed, sizeof printed, length, 1), REACH_LONG_TEXT);
+}
+
+/* A map of so many points as there may be, each a corner. */
+static void full(void) {
+    bytes = REACH_EMPTY_BYTES;
+    IS(reach_empty(map, sizeof map), 0);
+    for (int64_t k = 0; k < REACH_POINTS; k++) {
+        IS(offer(k, k * k), 0);
+    }
+    IS(bytes, REACH_MAP_BYTES);
+    IS(offer(-1, 0), REACH_FULL);
+    IS(reach_corners(map, bytes, out, REACH_POINTS, length, 1), 0);
+    IS(length[0], REACH_POINTS);
+    IS(reach_walker(map, bytes, REACH_DARTS - 1, out, 1), 0);
+    IS(reach_walker(map, bytes, REACH_DARTS, out, 1), REACH_NO_DART);
+}
+
+int main(void) {
+    without_points();
+    arrivals();
+    saved_form();
+    orbits();
+    walks();
+    places();
+    numbers();
+    reports();
+    full();
+    printf("every function: %d values, %d differences\n", values, differences);
+    return differences != 0;
+}

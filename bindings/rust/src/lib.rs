@@ -19,6 +19,9 @@
 //! ```
 //!
 //! Coordinates are whole numbers from -1,000,000 to 1,000,000. A map has at most 512 points.
+//!
+//! The engine keeps its work on the stack. A thread of Rust's usual 2 MiB has room for every call;
+//! a smaller one needs [`CALL_STACK`], or [`REPORT_STACK`] for a report.
 
 #![warn(missing_debug_implementations)]
 
@@ -29,8 +32,20 @@ mod refusal;
 pub use map::{Arrival, Counts, Ending, Kind, Map, Orbit, Placed, Walk, Walker};
 pub use refusal::Refusal;
 
+/// A map has at most so many points.
+pub const POINT_LIMIT: usize = 512;
+
+/// Coordinates are from minus this to this.
+pub const COORDINATE_LIMIT: i64 = 1_000_000;
+
 /// A text of more bytes is refused.
 pub const TEXT_LIMIT: usize = 65_536;
+
+/// The bytes of stack that [`report`] needs of its thread.
+pub const REPORT_STACK: usize = 1_048_576;
+
+/// The bytes of stack that every other call needs of its thread.
+pub const CALL_STACK: usize = 262_144;
 
 /// A point of the plane. It may be out of range: the engine looks.
 #[derive(Clone, Copy, Debug, PartialEq, Eq, PartialOrd, Ord, Hash)]

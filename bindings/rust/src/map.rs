@@ -10,6 +10,10 @@ const POINT_BYTES: usize = 13;
 ///
 /// Point k owns dart 2k and may have the helper dart 2k + 1. Each dart has an edge link and a point
 /// link.
+///
+/// A method that asks the engine lends it these bytes, and the engine checks them again each time,
+/// as it checks a file: no such call costs less than [`Map::load`]. [`Map::len`],
+/// [`Map::is_empty`], [`Map::point`] and [`Map::as_bytes`] do not ask it.
 #[derive(Clone, Debug, PartialEq, Eq, Hash)]
 pub struct Map {
     bytes: Vec<u8>,
@@ -123,6 +127,9 @@ pub enum Placed {
 }
 
 /// A walker that stands at a dart of a map.
+///
+/// Each move is a call of the engine, which checks the whole map again. [`Map::walk`] and
+/// [`Map::orbit`] follow all links in one call.
 #[derive(Clone, Copy, Debug, PartialEq, Eq)]
 pub struct Walker<'a> {
     map: &'a Map,
@@ -223,10 +230,15 @@ impl Map {
     /// # Ok::<(), reach::Refusal>(())
     /// ```
     pub fn point(&self, number: usize) -> Option<Point> {
-        let (pairs, _) = self.bytes[HEAD..].as_chunks::<4>();
-        let coordinate = |i: usize| i64::from(i32::from_be_bytes(pairs[i]));
-        (number < self.len())
-            .then(|| Point { x: coordinate(2 * number), y: coordinate(2 * number + 1) })
+        if self.len() <= number {
+            return None;
+        }
+        let coordinate = |place: usize| {
+            let field = self.bytes[place..].first_chunk().expect("the four bytes of a coordinate");
+            i64::from(i32::from_be_bytes(*field))
+        };
+        let place = HEAD + 8 * number;
+        Some(Point { x: coordinate(place), y: coordinate(place + 4) })
     }
 
     /// Offers a point. An accepted point gets the next number; a refused one changes nothing.

@@ -26,6 +26,7 @@ use replies::opening::load_near;
 use replies::values::placed_values;
 use replies::values::point;
 use replies::values::walk_values;
+use replies::writing::SHORT_LIST;
 use replies::writing::code;
 use replies::writing::uncounted;
 use replies::writing::write_admitted;
@@ -88,7 +89,7 @@ pub extern "C" fn reach_empty(out: &mut [u8]) -> u32
 {
     let length = saved_length(0);
     if out.len() < length {
-        return 10;
+        return SHORT_LIST;
     }
     write_map(empty_map(), out);
     0

@@ -29,6 +29,9 @@ ghost use Rattle.model.specs.Report.{report-rules};
 ghost use Rattle.replies.specs.Served.{Served, ServedBoth, and-short, number-by, only};
 ghost use Rattle.replies.specs.Replies.{arrival-told};
 
+// The number of a call that is lent a list shorter than its result.
+pub const SHORT_LIST: u32 = 10;
+
 // The number of a refusal, as it is returned.
 pub fn code(refusal: Refusal) -> u32
     ensures { λ r. ⌜ r ≡ number refusal ⌝ }
@@ -41,7 +44,7 @@ pub fn write_values(values: &[u64], out: &mut [u64]) -> u32
     ensures { λ r. ⌜ Served (only (now (values .entry))) (now (out .entry)) (now (out .exit)) r ⌝ }
 {
     if out.len() < values.len() {
-        return 10;
+        return SHORT_LIST;
     }
     for i in 0..values.len() {
         out[i] = values[i];
@@ -54,7 +57,7 @@ pub fn write_number(z: i64, out: &mut [i64]) -> u32
     ensures { λ r. ⌜ Served (only (z ∷ [])) (now (out .entry)) (now (out .exit)) r ⌝ }
 {
     if out.len() < 1 {
-        return 10;
+        return SHORT_LIST;
     }
     out[0] = z;
     0
@@ -65,7 +68,7 @@ pub fn write_point(p: Point, out: &mut [i64]) -> u32
     ensures { λ r. ⌜ Served (only (p .x ∷ p .y ∷ [])) (now (out .entry)) (now (out .exit)) r ⌝ }
 {
     if out.len() < 2 {
-        return 10;
+        return SHORT_LIST;
     }
     let x = p.x;
     let y = p.y;
@@ -81,7 +84,7 @@ pub fn write_darts(orbit: DartSet, out: &mut [u64]) -> u32
         (now (out .entry)) (now (out .exit)) r ⌝ }
 {
     if out.len() < 17 {
-        return 10;
+        return SHORT_LIST;
     }
     write_values(&orbit.words, out);
     out[16] = orbit.size as u64;
@@ -114,10 +117,10 @@ fn write_offered(offered: Offered, out: &mut [u8], arrival: &mut [u64]) -> u32
     let map = offered.map;
     let length = saved_length(map.count);
     if out.len() < length {
-        return 10;
+        return SHORT_LIST;
     }
     if arrival.len() < 4 {
-        return 10;
+        return SHORT_LIST;
     }
     write_map(map, out);
     let answer = offered.arrival;
@@ -134,10 +137,10 @@ pub fn write_corner_list(map: Map, out: &mut [usize], count: &mut [usize]) -> u3
     let list = corners_of(map);
     let listed = list.count;
     if out.len() < listed {
-        return 10;
+        return SHORT_LIST;
     }
     if count.len() < 1 {
-        return 10;
+        return SHORT_LIST;
     }
     write_corners(list, out);
     count[0] = listed;

@@ -3,6 +3,7 @@
 use crate::draw::Draw;
 use crate::lent::{Element, Lent};
 use crate::points;
+use crate::stack::on_stack;
 use crate::tally::{Difference, Outcome, Tally, hex};
 use reach::raw;
 use reference::{Answer, Arrival, Ending, Kind, Map, Placed, Point, refusal};
@@ -11,7 +12,13 @@ use std::fmt::Debug;
 pub struct Comparison {
     pub draw: Draw,
     pub tally: Tally,
+    /// Whether every call is made on as little stack as it is said to need.
+    pub is_on_small_stacks: bool,
+    calls: u64,
 }
+
+/// Of so many calls, one is made on as little stack as it is said to need.
+const STACK_SAMPLE: u64 = 61;
 
 /// The entries that start from a dart.
 type FromDart = fn(&[u8], u64, &mut [u64]) -> u32;
@@ -94,7 +101,22 @@ fn with_length<T>(values: Vec<T>) -> (Vec<T>, Vec<u64>) {
 
 impl Comparison {
     pub fn new(seed: u64) -> Self {
-        Comparison { draw: Draw::new(seed), tally: Tally::default() }
+        Comparison {
+            draw: Draw::new(seed),
+            tally: Tally::default(),
+            is_on_small_stacks: false,
+            calls: 0,
+        }
+    }
+
+    /// Makes a call of the archive, now and then on as little stack as it is said to need.
+    fn called(&mut self, entry: &str, call: impl FnOnce() -> u32 + Send) -> u32 {
+        self.calls += 1;
+        if !self.is_on_small_stacks && !self.calls.is_multiple_of(STACK_SAMPLE) {
+            return call();
+        }
+        let bytes = if entry == "reach_report" { reach::REPORT_STACK } else { reach::CALL_STACK };
+        on_stack(entry, bytes, call)
     }
 
     /// Notes a call, or tells how it differs.
@@ -133,7 +155,7 @@ impl Comparison {
         entry: &'static str,
         input: &dyn Fn() -> String,
         expected: &Answer<Vec<T>>,
-        call: impl Fn(&mut [T]) -> u32,
+        call: impl Fn(&mut [T]) -> u32 + Sync,
     ) -> Outcome {
         let none = |list: &mut [T], _: &mut [u64]| call(list);
         let pair = expected.clone().map(|values| (values, Vec::new()));
@@ -146,7 +168,7 @@ impl Comparison {
         entry: &'static str,
         input: &dyn Fn() -> String,
         expected: &Answer<(Vec<T>, Vec<U>)>,
-        call: impl Fn(&mut [T], &mut [U]) -> u32,
+        call: impl Fn(&mut [T], &mut [U]) -> u32 + Sync,
     ) -> Outcome {
         let (first_needed, second_needed) = match expected {
             Ok((first, second)) => (first.len(), second.len()),
@@ -166,7 +188,7 @@ impl Comparison {
                 }
                 Ok((a, b)) => (0, a, b),
             };
-            let got = call(first.list(), second.list());
+            let got = self.called(entry, || call(first.list(), second.list()));
             if got != number || !first.holds(first_result) || !second.holds(second_result) {
                 return Err(Difference(format!(
                     "{entry}\n{}\nexpected {number}\n     got {got}\nfirst list: {}\n\
@@ -229,7 +251,8 @@ impl Comparison {
         let input = || format!("map {}", hex(file));
         let refused = map.as_ref().map_err(|number| *number);
         let number = refused.err().unwrap_or(0);
-        self.expect("reach_check", &input, (number, ()), (raw::check(file), ()))?;
+        let got = self.called("reach_check", || raw::check(file));
+        self.expect("reach_check", &input, (number, ()), (got, ()))?;
         let counts = refused.map(counts_values);
         self.one_list("reach_counts", &input, &counts, |out| raw::counts(file, out))?;
         let corners = refused.map(|m| with_length(m.corners().into_iter().map(word).collect()));

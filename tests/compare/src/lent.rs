@@ -4,7 +4,7 @@ use crate::draw::Draw;
 use std::fmt::Debug;
 
 /// What a lent list is made of.
-pub trait Element: Copy + PartialEq + Debug {
+pub trait Element: Copy + PartialEq + Debug + Send {
     fn from_word(word: u64) -> Self;
 }
 

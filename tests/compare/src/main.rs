@@ -7,29 +7,35 @@
 //! A text is reported, and its first line read; a file, damaged or with changed fields, goes
 //! through every function that reads a map; a map is built point after point and then read in every
 //! way, as it is and rearranged. One text in fifty, or in a thousand of a hundred thousand and
-//! more, also goes through the program. The seed, the calls of each entry by the number they answer
-//! and the number of differences are printed. The exit status is 1 on a difference, with the input
-//! that shows it, and 2 where the arguments are wrong or the program is not there.
+//! more, also goes through the program, in reads of drawn sizes. One call in sixty-one, and each
+//! call on a full map, is made on as little stack as `reach.h` says that it needs.
+//!
+//! The seed, the calls of each entry by the number they answer and the number of differences are
+//! printed; the same seed gives the same inputs. The exit status is 1 on a difference, with the
+//! input that shows it, and 2 where the arguments are wrong or the program is not there.
 
 mod draw;
 mod entries;
+mod header;
 mod lent;
 mod maps;
 mod null;
 mod points;
 mod program;
+mod stack;
 mod tally;
 mod texts;
 mod wrapper;
 
 use entries::Comparison;
+use program::Input;
 use reference::{LIMIT, Map, POINT_LIMIT, Point, TEXT_LIMIT};
 use std::path::PathBuf;
 use std::process::ExitCode;
 use std::time::{Duration, Instant, SystemTime, UNIX_EPOCH};
 use tally::{Difference, Outcome};
 
-/// How much is compared.
+/// How much is compared: for so long in all, or so many inputs of each kind.
 enum Extent {
     For(Duration),
     Numbers { texts: u64, files: u64, maps: u64 },
@@ -82,8 +88,10 @@ fn arguments() -> Result<Arguments, String> {
     }
 }
 
-/// What is compared whatever the seed: short lines, the ends of the range, a full map, long texts.
+/// What is compared whatever the seed: the header's constants, short lines, the ends of the range, a
+/// full map, long texts.
 fn fixed(c: &mut Comparison) -> Outcome {
+    c.header()?;
     c.null_lists()?;
     for _ in 0..40 {
         c.empty()?;
@@ -103,6 +111,7 @@ fn fixed(c: &mut Comparison) -> Outcome {
     let refused =
         [Point::new(512, 512 * 512), Point::new(0, 0), Point::new(1, 2), Point::new(LIMIT + 1, 0)];
     full.extend(refused);
+    c.is_on_small_stacks = true;
     let map = c.survey(&full)?;
     c.file(&map.save(), 4)?;
     for n in [POINT_LIMIT + 1, 65_535] {
@@ -114,6 +123,7 @@ fn fixed(c: &mut Comparison) -> Outcome {
             c.wrapper_report(&vec![byte; length])?;
         }
     }
+    c.is_on_small_stacks = false;
     Ok(())
 }
 
@@ -130,28 +140,6 @@ fn lines_up_to(c: &mut Comparison, line: &mut Vec<u8>, more: usize) -> Outcome {
     Ok(())
 }
 
-/// The texts that the program is given whatever the seed.
-fn fixed_texts() -> Vec<Vec<u8>> {
-    let mut texts: Vec<Vec<u8>> = [
-        "",
-        "\n",
-        "\n\n",
-        "0 0",
-        "0 0\n",
-        "0 0\n4 0\n1 3\n5 4\n2 1\n6 7\n",
-        "0 0\n4 0\n1 3\n5 4\n2 1\n6 7",
-        "1000001 0\n-0 1\n",
-        "7 7\n7 7\n8 8\n9 9\n",
-    ]
-    .map(|text| text.as_bytes().to_vec())
-    .to_vec();
-    for length in [TEXT_LIMIT - 1, TEXT_LIMIT, TEXT_LIMIT + 1, 10 * TEXT_LIMIT] {
-        texts.push(vec![b'\n'; length]);
-        texts.push(b"12 345\n".iter().copied().cycle().take(length).collect());
-    }
-    texts
-}
-
 struct Session {
     comparison: Comparison,
     /// Maps that are dear to build.
@@ -164,9 +152,7 @@ impl Session {
         let mut comparison = Comparison::new(arguments.seed);
         fixed(&mut comparison)?;
         if let Some(program) = &arguments.program {
-            for text in fixed_texts() {
-                comparison.program(program, &text)?;
-            }
+            comparison.fixed_program(program)?;
         }
         let draw = &mut comparison.draw;
         let pool = [100, 200, 300, 511, 512, 700, 1500]
@@ -195,7 +181,9 @@ impl Session {
         if c.draw.one_in(sample)
             && let Some(program) = &self.program
         {
-            c.program(program, &text)?;
+            let sizes = (0..3).map(|_| 1 + c.draw.size(text.len())).collect();
+            let input = if c.draw.one_in(3) { Input::Piped(sizes) } else { Input::Apart(sizes) };
+            c.program(program, &text, &input)?;
         }
         Ok(())
     }
@@ -226,10 +214,9 @@ impl Session {
         c.wrapper(&file)
     }
 
-    fn compare(&mut self, extent: &Extent) -> Outcome {
+    fn compare(&mut self, extent: &Extent, start: Instant) -> Outcome {
         match *extent {
             Extent::For(duration) => {
-                let start = Instant::now();
                 while start.elapsed() < duration {
                     (0..20).try_for_each(|_| self.text(50))?;
                     (0..10).try_for_each(|_| self.file())?;
@@ -248,6 +235,7 @@ impl Session {
 }
 
 fn main() -> ExitCode {
+    let start = Instant::now();
     let arguments = match arguments() {
         Ok(arguments) => arguments,
         Err(message) => {
@@ -257,7 +245,7 @@ fn main() -> ExitCode {
     };
     println!("seed {}", arguments.seed);
     let session = Session::new(&arguments).and_then(|mut session| {
-        session.compare(&arguments.extent)?;
+        session.compare(&arguments.extent, start)?;
         Ok(session)
     });
     match session {

@@ -42,3 +42,19 @@ impl fmt::Display for Tally {
 pub fn hex(bytes: &[u8]) -> String {
     bytes.iter().map(|b| format!("{b:02x}")).collect()
 }
+
+/// Where two lists of bytes part, with some bytes before and after.
+pub fn parting(expected: &[u8], got: &[u8]) -> String {
+    let place = expected.iter().zip(got).take_while(|(a, b)| a == b).count();
+    let near = |bytes: &[u8]| {
+        let end = bytes.len().min(place + 60);
+        bytes[place.saturating_sub(60)..end].escape_ascii().to_string()
+    };
+    format!(
+        "expected {} bytes, got {}; they part at byte {place}\nexpected \"{}\"\n     got \"{}\"",
+        expected.len(),
+        got.len(),
+        near(expected),
+        near(got)
+    )
+}

@@ -2,6 +2,7 @@
 
 use crate::entries::Comparison;
 use crate::points;
+use crate::stack::on_stack;
 use crate::tally::{Difference, Outcome, hex};
 use reference::{Answer, Arrival, Ending, Kind, Map, Placed, Point};
 use std::fmt::Debug;
@@ -96,9 +97,11 @@ impl Comparison {
         let p = points::query(&mut self.draw, &expected);
         let input = || format!("{p:?} and map {}", hex(file));
         let point = reach::Point { x: p.x, y: p.y };
-        let got = number(map.place(point)).map(placed);
+        let got =
+            number(on_stack("Map::place", reach::CALL_STACK, || map.place(point))).map(placed);
         self.same("Map::place", &input, expected.place(p), got)?;
-        let got = number(map.offer(point)).map(arrival);
+        let got =
+            number(on_stack("Map::offer", reach::CALL_STACK, || map.offer(point))).map(arrival);
         self.same("Map::offer", &input, expected.offer(p), got)?;
         self.same("Map::as_bytes", &input, Ok(expected.save()), Ok(map.as_bytes().to_vec()))
     }
@@ -106,7 +109,7 @@ impl Comparison {
     /// The crate's function on a text.
     pub fn wrapper_report(&mut self, text: &[u8]) -> Outcome {
         let input = || format!("text \"{}\"", text.escape_ascii());
-        let got = number(reach::report(text));
+        let got = number(on_stack("report", reach::REPORT_STACK, || reach::report(text)));
         self.same("report", &input, reference::report_or_refusal(text), got)
     }
 }

@@ -165,6 +165,7 @@ fn reports() {
         "OUTLINE 1\n0 refused 8\n1 refused 3\n2 first\ncorners 0\ncounts 1 1 1 1 1\n"
     );
     assert_eq!(printed(&[b'\n'; TEXT_LIMIT]).lines().count(), TEXT_LIMIT + 3);
+    assert_eq!(printed(&[b'\n'; TEXT_LIMIT]).len(), 1_037_501);
     assert_eq!(printed(&[b'\n'; TEXT_LIMIT + 1]), "OUTLINE 1\nrefused 9\n");
     assert_eq!(report_or_refusal(&[b'\n'; TEXT_LIMIT + 1]), Err(9));
 }

@@ -1,0 +1,54 @@
+//! The constants of the C header, which the Rust crate and the reference have too.
+
+use crate::entries::Comparison;
+use crate::tally::{Difference, Outcome};
+use reach::Refusal;
+use reference::refusal;
+
+const HEADER: &str = include_str!("../../../bindings/c/reach.h");
+
+/// The number that the header gives a name.
+fn constant(name: &str) -> Option<i64> {
+    let mut words = HEADER.split_whitespace();
+    words.find(|word| *word == name)?;
+    let (equals, number) = (words.next()?, words.next()?);
+    if equals == "=" { number.trim_end_matches(',').parse().ok() } else { None }
+}
+
+impl Comparison {
+    pub fn header(&mut self) -> Outcome {
+        let refusals = [
+            ("REACH_NOT_SOUND", Refusal::NotSound, refusal::NOT_SOUND),
+            ("REACH_FULL", Refusal::Full, refusal::FULL),
+            ("REACH_OUT_OF_RANGE", Refusal::OutOfRange, refusal::OUT_OF_RANGE),
+            ("REACH_REPEATED", Refusal::Repeated, refusal::REPEATED),
+            ("REACH_IN_LINE", Refusal::InLine, refusal::IN_LINE),
+            ("REACH_NO_DART", Refusal::NoDart, refusal::NO_DART),
+            ("REACH_BAD_FILE", Refusal::BadFile, refusal::BAD_FILE),
+            ("REACH_BAD_LINE", Refusal::BadLine, refusal::BAD_LINE),
+            ("REACH_LONG_TEXT", Refusal::LongText, refusal::LONG_TEXT),
+            ("REACH_SHORT_LIST", Refusal::ShortList, refusal::SHORT_LIST),
+        ]
+        .map(|(name, refusal, number)| (name, i64::from(refusal.number()), i64::from(number)));
+        let limits = [
+            ("REACH_POINTS", reach::POINT_LIMIT as i64, reference::POINT_LIMIT as i64),
+            ("REACH_COORDINATE_LIMIT", reach::COORDINATE_LIMIT, reference::LIMIT),
+            ("REACH_TEXT_LIMIT", reach::TEXT_LIMIT as i64, reference::TEXT_LIMIT as i64),
+        ];
+        let stacks = [
+            ("REACH_REPORT_STACK", "the crate", reach::REPORT_STACK as i64),
+            ("REACH_CALL_STACK", "the crate", reach::CALL_STACK as i64),
+        ];
+        let shared = refusals.into_iter().chain(limits);
+        let both = |(name, a, b)| [(name, "the crate", a), (name, "the reference", b)];
+        for (name, whose, number) in shared.flat_map(both).chain(stacks) {
+            let of_header = constant(name);
+            if of_header != Some(number) {
+                let said = format!("{name}\nreach.h {of_header:?}, {whose} {number}");
+                return Err(Difference(said));
+            }
+            self.tally.add("constants of reach.h", 0);
+        }
+        Ok(())
+    }
+}

@@ -1,14 +1,20 @@
 /*
- * Calls every function of reach.h, and holds what it returns and writes to the header's numbers and
- * places. It is C11 and C++11 alike; `run` compiles it as both.
+ * Calls every function of reach.h, on as little stack as the header names, and holds what it
+ * returns and writes to the header's numbers and places. It is C11 and C++11 alike; `run` compiles
+ * it as both.
  *
- *     cc -std=c11 -Wall -Wextra -o every every.c ../../target/staticlib/libreach.a && ./every
+ *     cc -std=c11 -Wall -Wextra -pthread -o every every.c ../../target/staticlib/libreach.a
  */
 #include "reach.h"
 
 #include <inttypes.h>
+#include <pthread.h>
 #include <stdio.h>
 #include <string.h>
+
+#if REACH_HEADER_VERSION != 1
+#error "this program is for version 1 of reach.h"
+#endif
 
 static int values, differences;
 
@@ -23,8 +29,8 @@ static void is(int line, const char *what, int64_t got, int64_t expected) {
     }
 }
 
-/* The map that the calls read, and how many bytes it has. */
-static uint8_t map[REACH_MAP_BYTES];
+/* The map that the calls read, and how many bytes it has; the map after an offer. */
+static uint8_t map[REACH_MAP_BYTES], next[REACH_MAP_BYTES];
 static size_t bytes;
 
 /* What the calls write. */
@@ -34,7 +40,6 @@ static uint8_t text[REACH_TEXT_LIMIT + 1], printed[REACH_REPORT_BYTES(REACH_TEXT
 
 /* Offers a point; the map is then the one after it. Its arrival is in out. */
 static uint32_t offer(int64_t x, int64_t y) {
-    uint8_t next[REACH_MAP_BYTES];
     uint32_t refusal = reach_offer(map, bytes, x, y, next, sizeof next, out, 4);
     if (refusal == 0) {
         bytes += REACH_POINT_BYTES;
@@ -214,16 +219,37 @@ static void full(void) {
     IS(reach_walker(map, bytes, REACH_DARTS, out, 1), REACH_NO_DART);
 }
 
+/* A part of the program, and the stack of its thread. */
+struct part {
+    size_t stack;
+    void (*run)(void);
+};
+
+static void *run(void *part) {
+    ((struct part *)part)->run();
+    return NULL;
+}
+
 int main(void) {
-    without_points();
-    arrivals();
-    saved_form();
-    orbits();
-    walks();
-    places();
-    numbers();
-    reports();
-    full();
+    static struct part parts[] = {
+        {REACH_CALL_STACK, without_points}, {REACH_CALL_STACK, arrivals},
+        {REACH_CALL_STACK, saved_form},     {REACH_CALL_STACK, orbits},
+        {REACH_CALL_STACK, walks},          {REACH_CALL_STACK, places},
+        {REACH_CALL_STACK, numbers},        {REACH_REPORT_STACK, reports},
+        {REACH_CALL_STACK, full},
+    };
+    for (size_t i = 0; i < sizeof parts / sizeof parts[0]; i++) {
+        pthread_attr_t attributes;
+        pthread_t thread;
+        if (pthread_attr_init(&attributes) != 0 ||
+            pthread_attr_setstacksize(&attributes, parts[i].stack) != 0 ||
+            pthread_create(&thread, &attributes, run, &parts[i]) != 0 ||
+            pthread_join(thread, NULL) != 0) {
+            puts("every.c: a thread does not run");
+            return 1;
+        }
+        pthread_attr_destroy(&attributes);
+    }
     printf("every function: %d values, %d differences\n", values, differences);
     return differences != 0;
 }

@@ -93,8 +93,8 @@ enum {
 #define REACH_BYTES(n) (REACH_EMPTY_BYTES + REACH_POINT_BYTES * (n))
 #define REACH_REPORT_BYTES(n) (16 * (n) + 4096)
 
-/* The bytes of stack that reach_report needs, and those that every other function needs. The tests
-   call them in threads of these sizes. */
+/* The bytes of stack that reach_report needs, and those that every other function needs. With less
+   a call ends at the guard page of its stack. */
 enum { REACH_REPORT_STACK = 1048576, REACH_CALL_STACK = 262144 };
 
 /*

@@ -94,7 +94,7 @@ enum {
 #define REACH_REPORT_BYTES(n) (16 * (n) + 4096)
 
 /* The bytes of stack that reach_report needs, and those that every other function needs. With less
-   a call ends at the guard page of its stack. */
+   a call runs into the guard page of its stack. */
 enum { REACH_REPORT_STACK = 1048576, REACH_CALL_STACK = 262144 };
 
 /*
@@ -104,14 +104,15 @@ enum { REACH_REPORT_STACK = 1048576, REACH_CALL_STACK = 262144 };
  *     0                  4      the length of all that follows, 5 + 13 * n
  *     4                  1      the version, REACH_FILE_VERSION
  *     5                  2      n
- *     7                  2      the reference, a dart, or REACH_NO_REFERENCE where there is none
+ *     7                  2      the reference, an own dart on the outline; with fewer than two
+ *                               points REACH_NO_REFERENCE
  *     9 + 8 * k          4      x of point k, in two's complement
  *     13 + 8 * k         4      y of point k, in two's complement
  *     9 + 8 * n + k      1      1 where point k has a helper dart, else 0
  *     9 + 9 * n + 2 * d  2      the edge link of dart d, for each d below 2 * n
  *
- * The point link has no place: it joins darts 2k and 2k + 1 where point k has a helper, and fixes
- * 2k where it has none.
+ * The edge link of an absent helper is that dart itself. The point link has no place: it joins
+ * darts 2k and 2k + 1 where point k has a helper, and fixes 2k where it has none.
  */
 enum {
     REACH_FILE_VERSION = 1,

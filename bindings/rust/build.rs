@@ -26,6 +26,10 @@ fn folder() -> Result<PathBuf, String> {
 }
 
 fn link() -> Result<(), String> {
+    let target = env::var("CARGO_CFG_TARGET_ARCH").unwrap_or_default();
+    if target != "x86_64" {
+        return Err(format!("libreach.a is code for x86-64, not for {target}"));
+    }
     let folder = folder()?;
     let archive = folder.join("libreach.a");
     println!("cargo::rerun-if-changed={}", archive.display());

@@ -88,8 +88,8 @@ fn arguments() -> Result<Arguments, String> {
     }
 }
 
-/// What is compared whatever the seed: the header's constants, short lines, the ends of the range, a
-/// full map, long texts.
+/// What is compared whatever the seed: the header's constants, short lines, the ends of the range,
+/// a full map, long texts.
 fn fixed(c: &mut Comparison) -> Outcome {
     c.header()?;
     c.null_lists()?;

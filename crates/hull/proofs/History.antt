@@ -1,7 +1,8 @@
 -- Demand 3 as one theorem: after every list of offers from the empty map all of its claims hold
 -- (`always-balanced`). What every offer keeps is the record `Invariant`; from it follow the claims, by the
--- laws of sound maps. In the order of this page: the invariant; the start; one accepted offer; one offer;
--- the list; the claims; a refused offer. Assumes nothing.
+-- laws of sound maps. In the order of this page: one induction over runs, for any property that every
+-- arrival keeps (`run-keeps`); the invariant; the start; one accepted offer; every list of offers; the
+-- claims; a refused offer. Assumes nothing.
 use mathlib.Core.Path.{_≡_, refl, sym, ap, subst, _∙_}
 use mathlib.Core.Logic.{_≢_, ⊎-elim}
 use mathlib.Core.Bool.{Bool, cond}
@@ -32,6 +33,50 @@ use Rattle.maps.proofs.Pair.{pair-outline}
 use Rattle.hull.proofs.Outcomes.{Accepted, Decided, accepted, refused, Arrives, first, second, inside, outside, arrive-arrives, arrival-accepted, offer-decided, refused-keeps}
 use Rattle.hull.proofs.Arrivals.{sound-convex, arrival-sound, outside-balance}
 
+-- ---- one induction over runs
+
+-- the run with one entry more
+abbrev pub with-entry : Run → Point → Offered → Run
+with-entry r p o =
+    record {
+      map = o .map;
+      history = r .history ++ record { before = r .map; offered = p; arrival = o .arrival } ∷ [];
+    }
+
+-- the run after an offer that came to o
+abbrev after-offer : Run → Point → Offered → Run
+after-offer r p o =
+    record {
+      map = o .map;
+      history = cond (is-accepted (o .arrival)) (with-entry r p o .history) (r .history);
+    }
+
+-- a property of runs that every arrival of an accepted point keeps
+module _ (Q : Run → Type 0)
+    (keeps : (r : Run) → Q r → (p : Point) → Accepted (r .map) p → (o : Offered) → Arrives (r .map) p o → Q (with-entry r p o))
+  where
+    -- every offer keeps it, since a refused one changes nothing ..
+    offer-keeps : (r : Run) → Q r → (p : Point) (o : Offered) → Decided (r .map) p o → Q (after-offer r p o)
+    unfolding is-accepted
+    offer-keeps r q p o (accepted a) =
+        let arrives = arrive-arrives (r .map) p in
+        rw (is-true (is-accepted (o .arrival)) (arrival-accepted (r .map) p o arrives)) (keeps r q p a o arrives)
+    offer-keeps r q p o (refused refusal first-rule) = q
+
+    -- .. so every list of offers keeps it, from any run on ..
+    pub run-keeps-from : (r : Run) → Q r → (ps : List Point) → Q (run-from r ps)
+    unfolding run-from extended
+    run-keeps-from r q [] = q
+    run-keeps-from r q (p ∷ ps) =
+        run-keeps-from (extended r p) (offer-keeps r q p (offer (r .map) p) (offer-decided (r .map) p)) ps
+
+    -- .. and from the empty map
+    pub run-keeps : Q (record { map = empty-map; history = [] }) → (ps : List Point) → Q (run ps)
+    unfolding run
+    run-keeps q ps = run-keeps-from (record { map = empty-map; history = [] }) q ps
+
+-- ---- the invariant
+
 -- what the visible edges reported come to
 abbrev seen-in-all : List Entry → ℕ
 seen-in-all h = total (map reported-edges h)
@@ -61,14 +106,6 @@ invariant-start =
     }
 
 -- ---- one accepted offer
-
--- the run with one entry more
-abbrev with-entry : Run → Point → Offered → Run
-with-entry r p o =
-    record {
-      map = o .map;
-      history = r .history ++ record { before = r .map; offered = p; arrival = o .arrival } ∷ [];
-    }
 
 -- what one entry more adds to the sums over the history
 outside-more : (h : List Entry) (e : Entry) →
@@ -189,45 +226,12 @@ arrival-adds m p a o (outside two some) =
       later-adds = λ h. omega (arith, outside-balance a two some);
     }
 
--- ---- one offer
-
--- the run after an offer that came to o
-abbrev after-offer : Run → Point → Offered → Run
-after-offer r p o =
-    record {
-      map = o .map;
-      history =
-          cond (is-accepted (o .arrival))
-          (r .history ++ record { before = r .map; offered = p; arrival = o .arrival } ∷ [])
-          (r .history);
-    }
-
-invariant-arrival : (r : Run) → Invariant r → (p : Point) → Accepted (r .map) p → (o : Offered) → Arrives (r .map) p o →
-    Invariant (after-offer r p o)
-invariant-arrival r k p a o arrives =
-    subst (λ (b : Bool). Invariant (record { map = o .map; history = cond b (with-entry r p o .history) (r .history) }))
-    (sym (is-true (is-accepted (o .arrival)) (arrival-accepted (r .map) p o arrives)))
-    (invariant-more r k p o (arrival-adds (r .map) p a o arrives))
-
-invariant-offer : (r : Run) → Invariant r → (p : Point) (o : Offered) → Decided (r .map) p o → Invariant (after-offer r p o)
-unfolding is-accepted
-invariant-offer r k p o (accepted a) = invariant-arrival r k p a (arrive (r .map) p) (arrive-arrives (r .map) p)
-invariant-offer r k p o (refused refusal first-rule) = k
-
-invariant-extended : (r : Run) → Invariant r → (p : Point) → Invariant (extended r p)
-unfolding extended
-invariant-extended r k p = invariant-offer r k p (offer (r .map) p) (offer-decided (r .map) p)
-
--- ---- the list
-
-invariant-from : (r : Run) → Invariant r → (ps : List Point) → Invariant (run-from r ps)
-unfolding run-from
-invariant-from r k [] = k
-invariant-from r k (p ∷ ps) = invariant-from (extended r p) (invariant-extended r k p) ps
+-- ---- every list of offers
 
 invariant-run : (ps : List Point) → Invariant (run ps)
-unfolding run
-invariant-run ps = invariant-from (record { map = empty-map; history = [] }) invariant-start ps
+invariant-run =
+    run-keeps Invariant (λ r k p a o arrives. invariant-more r k p o (arrival-adds (r .map) p a o arrives))
+    invariant-start
 
 -- every list of offers from the empty map ends in a sound map (for request #107)
 pub run-sound : (ps : List Point) → Shaped (run ps .map)

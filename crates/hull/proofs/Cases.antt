@@ -3,7 +3,7 @@
 -- that the code makes to the definition. Assumes nothing.
 use mathlib.Core.Path.{_≡_}
 use mathlib.Core.Logic.{_≢_}
-use mathlib.Core.Bool.{Bool, true}
+use mathlib.Core.Bool.{Bool}
 use mathlib.Core.List.{List}
 use Prim.Native.Nat.{ℕ, _+_}
 use native.Mathlib.Numerals.{add-one}
@@ -13,11 +13,10 @@ use lib.ListN.{set}
 use Rattle.model.specs.declared.Point.{Point}
 use Rattle.model.specs.declared.Map.{Map}
 use Rattle.model.specs.declared.Arrival.{Arrival}
-use Rattle.model.specs.Maps.{own, helper}
+use Rattle.model.specs.Maps.{map-of}
 use Rattle.model.specs.Outline.{visible-edges}
-use Rattle.model.specs.Arrival.{cut, join, left-corner, right-corner, with-point, alone, pair, spliced}
+use Rattle.model.specs.Arrival.{left-corner, right-corner, with-point, alone, pair, spliced}
 use Rattle.model.specs.Arrival.{arrived, later-point, arrive}
-use Rattle.hull.specs.Requires.{map-of}
 
 module _ (m : Map) (p : Point) where
   pub first : m .count ≡ 0 → arrived Arrival.First (alone m p) ≡ arrive m p
@@ -42,25 +41,11 @@ module _ (m : Map) (p : Point) where
   unfolding later-point
   outside n = rw (ne-eqb (visible-edges m p) 0 n)
 
--- ---- the arrays after an arrival, in which p was put
+-- ---- the arrays after an arrival: p was put into the coordinates, and the others are those of the definition
 
-module _ (m : Map) (p : Point) {xs ys : List ℤ}
-    (put : (xs ≡ set (m .xs) (m .count) (p .x)) × (ys ≡ set (m .ys) (m .count) (p .y))) where
-  pub grown-alone : map-of xs ys (m .helpers) (m .edge) (m .count + 1) (m .reference) ≡ alone m p
-  unfolding alone with-point
-  grown-alone = rw (put .0, put .1, add-one (m .count))
-
-  module _ {helpers : List Bool} {edge : List ℕ} where
-    pub grown-pair :
-        (helpers ≡ set (set (m .helpers) 0 true) 1 true) × (edge ≡ join 2 1 (join 0 3 (m .edge))) →
-        map-of xs ys helpers edge (m .count + 1) 2 ≡ pair m p
-    unfolding pair with-point
-    grown-pair e = rw (put .0, put .1, e .0, e .1, add-one (m .count))
-
-    pub grown-spliced : (left right : ℕ) →
-        (helpers ≡ set (m .helpers) (m .count) true)
-        × (edge ≡ join (own (m .count)) (helper right)
-        (join (own left) (helper (m .count)) (cut (helper right) (cut (own left) (m .edge))))) →
-        map-of xs ys helpers edge (m .count + 1) (own (m .count)) ≡ spliced m p left right
-    unfolding spliced with-point
-    grown-spliced left right e = rw (put .0, put .1, e .0, e .1, add-one (m .count))
+pub grown : (m : Map) (p : Point) {xs ys : List ℤ} {helpers helpers′ : List Bool} {edge edge′ : List ℕ} (reference : ℕ) →
+    (xs ≡ set (m .xs) (m .count) (p .x)) × (ys ≡ set (m .ys) (m .count) (p .y)) →
+    (helpers ≡ helpers′) × (edge ≡ edge′) →
+    map-of xs ys helpers edge (m .count + 1) reference ≡ with-point m p helpers′ edge′ reference
+unfolding with-point
+grown m p reference put linked = rw (put .0, put .1, linked .0, linked .1, add-one (m .count))

@@ -27,7 +27,7 @@ use Rattle.hull.specs.declared.sight.Sought.{Sought}
 use Rattle.hull.specs.Requires.{OutlineFor, visible-at}
 use Rattle.hull.specs.Sight.{sought-at, seen}
 
--- the helpers of a map do not matter
+-- what else the map holds does not matter
 pub seen-by-arrays : (m : Map) (p : Point) →
     record { left = left-corner m p; right = right-corner m p; visible = visible-edges m p }
     ≡ seen (m .xs) (m .ys) (m .edge) (m .count) (m .reference) p

@@ -12,9 +12,8 @@ use Rattle.orbits.specs.Links.{link-of}
 use Rattle.model.specs.declared.Point.{Point}
 use Rattle.model.specs.declared.Map.{Map}
 use Rattle.model.specs.Plane.{in-range, same-point, in-line, sees-edge}
-use Rattle.model.specs.Maps.{point-limit}
+use Rattle.model.specs.Maps.{point-limit, point-at, with-outline}
 use Rattle.model.specs.Sound.{Shaped}
-use Rattle.model.specs.Maps.{point-at}
 
 -- places that hold points in range, as those of a sound map do past its last point too, and a point in range
 pub record Ranged (xs ys : List ℤ) (p : Point) : Type 0 where
@@ -64,21 +63,7 @@ pub record RoomFor (m : Map) (p : Point) : Type 0 where
   pub room : m .count < point-limit
   pub offered : T (in-range p)
 
--- ---- a map as its arrays
-
--- the map of these arrays and numbers
-abbrev pub map-of : List ℤ → List ℤ → List Bool → List ℕ → ℕ → ℕ → Map
-map-of xs ys helpers edge count reference =
-    record {
-      xs = xs;
-      ys = ys;
-      helpers = helpers;
-      edge = edge;
-      count = count;
-      reference = reference;
-    }
-
 -- what is asked of a map, where code is lent its coordinates and its edge links alone
 pub record OutlineIn (xs ys : List ℤ) (edge : List ℕ) (count reference : ℕ) (p : Point) : Type 0 where
-  pub helpers : List Bool
-  pub outline : OutlineFor (map-of xs ys helpers edge count reference) p
+  pub rest : Map
+  pub outline : OutlineFor (with-outline rest xs ys edge count reference) p

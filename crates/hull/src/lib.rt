@@ -20,9 +20,10 @@ use model::Refusal;
 use orbits::DART_LIMIT;
 ghost use mathlib.Core.Path.{_≡_};
 ghost use Prim.Native.Nat.{_+_, _≤_};
+ghost use Rattle.model.specs.Maps.{map-lent};
 ghost use Rattle.model.specs.Sound.{Shaped};
 ghost use Rattle.model.specs.Arrival.{admitted, arrive, arrived, later-point, refusing};
-ghost use Rattle.hull.specs.Requires.{RoomFor, map-of};
+ghost use Rattle.hull.specs.Requires.{RoomFor};
 
 // What an arrival leaves beside a map's arrays: how the point arrived, and the reference.
 pub struct Growth {
@@ -98,12 +99,11 @@ pub fn grow(
     reference: usize,
     p: Point,
 ) -> Growth
-    requires { ⌜ RoomFor (map-of (now xs) (now ys) (now helpers) (now edge) count reference) p ⌝ }
+    requires { ⌜ RoomFor (map-lent xs ys helpers edge count reference) p ⌝ }
     ensures { λ r. ⌜ arrived (r .arrival)
-        (map-of (now (xs .exit)) (now (ys .exit)) (now (helpers .exit)) (now (edge .exit))
-        (count + 1) (r .reference))
-        ≡ arrive (map-of (now (xs .entry)) (now (ys .entry)) (now (helpers .entry))
-        (now (edge .entry)) count reference) p ⌝ }
+        (map-lent (xs .exit) (ys .exit) (helpers .exit) (edge .exit) (count + 1) (r .reference))
+        ≡ arrive
+        (map-lent (xs .entry) (ys .entry) (helpers .entry) (edge .entry) count reference) p ⌝ }
 {
     if count == 0 {
         put_point(xs, ys, count, p);
@@ -133,13 +133,12 @@ fn grow_later(
     reference: usize,
     p: Point,
 ) -> Growth
-    requires { ⌜ RoomFor (map-of (now xs) (now ys) (now helpers) (now edge) count reference) p ⌝ }
+    requires { ⌜ RoomFor (map-lent xs ys helpers edge count reference) p ⌝ }
     requires { ⌜ 2 ≤ count ⌝ }
     ensures { λ r. ⌜ arrived (r .arrival)
-        (map-of (now (xs .exit)) (now (ys .exit)) (now (helpers .exit)) (now (edge .exit))
-        (count + 1) (r .reference))
-        ≡ later-point (map-of (now (xs .entry)) (now (ys .entry)) (now (helpers .entry))
-        (now (edge .entry)) count reference) p ⌝ }
+        (map-lent (xs .exit) (ys .exit) (helpers .exit) (edge .exit) (count + 1) (r .reference))
+        ≡ later-point
+        (map-lent (xs .entry) (ys .entry) (helpers .entry) (edge .entry) count reference) p ⌝ }
 {
     let seen = seen_from(xs, ys, edge, count, reference, p);
     let left = seen.left;

@@ -1,11 +1,13 @@
 -- Maps, in the order of this page: the limits; the darts of a point; points, present darts and point
 -- links by coordinates and helpers alone, for code that is lent a map's arrays; the points, the helpers,
--- the present darts and the two links of a map; the empty map.
+-- the present darts and the two links of a map; the empty map; a map by its arrays, of which code is lent
+-- all or some.
 -- Document 01, "What the engine holds" and "A sound map". A dart that the document calls own is 2k
 -- and a helper 2k + 1, for the point k that owns them. Assumes nothing.
 use mathlib.Core.Bool.{Bool, false, cond, _&&_, _||_}
 use mathlib.Core.List.{List}
 use Prim.Native.Nat.{ℕ, _+_, _*_, _/_, _%_}
+use denote.Ref.{RefT, now}
 use lib.Dec.{ltb, eqb}
 use lib.IntN.{ℤ, pos}
 use lib.ListN.{getD, replicate}
@@ -88,3 +90,31 @@ empty-map =
       count = 0;
       reference = no-dart;
     }
+
+-- ---- a map by its arrays
+-- A function that is lent arrays has each of them as a parameter of its own. Which of them make a map is
+-- said here, once.
+
+-- the map of these arrays and numbers
+abbrev pub map-of : List ℤ → List ℤ → List Bool → List ℕ → ℕ → ℕ → Map
+map-of xs ys helpers edge count reference =
+    record {
+      xs = xs;
+      ys = ys;
+      helpers = helpers;
+      edge = edge;
+      count = count;
+      reference = reference;
+    }
+
+-- the map whose arrays are lent
+abbrev pub map-lent : RefT (List ℤ) → RefT (List ℤ) → RefT (List Bool) → RefT (List ℕ) → ℕ → ℕ → Map
+map-lent xs ys helpers edge = map-of (now xs) (now ys) (now helpers) (now edge)
+
+-- where the coordinates alone are lent: the map m with these points, its other fields as they are ..
+abbrev pub with-points : Map → List ℤ → List ℤ → ℕ → Map
+with-points m xs ys count = map-of xs ys (m .helpers) (m .edge) count (m .reference)
+
+-- .. and where the edge links are lent too: the map m with this outline
+abbrev pub with-outline : Map → List ℤ → List ℤ → List ℕ → ℕ → ℕ → Map
+with-outline m xs ys edge count reference = map-of xs ys (m .helpers) edge count reference

@@ -26,7 +26,7 @@ use Rattle.model.specs.Answers.{oriented-answer, arrival-answer, counted
 use Rattle.model.specs.Arrival.{cut, join, left-corner, right-corner, with-point, alone, pair, spliced, later-point, arrive, is-repeated, is-in-line}
 use Rattle.model.specs.Offers.{offer}
 use Rattle.model.specs.History.{is-accepted, extended, run-from, run}
-use Rattle.model.specs.Saved.{big-endian, complement, block, coordinate, header, saved}
+use Rattle.model.specs.Saved.{big-endian, complement, block, coordinate, header, saved-in, saved}
 use Rattle.model.specs.Text.{is-digit, has-minus, digits, value-after, magnitude, is-number, number-value, line-read, in-first-line, lines}
 use Rattle.model.specs.Report.{spaced, printed, offer-line, closing, arrivals, report}
 
@@ -113,7 +113,7 @@ unfolding table-onto all any sum count one-if table elem all-in all-places any-i
     orbit-of walked oriented-answer arrival-answer counted-answer walked-answer oriented cut join
     left-corner right-corner with-point alone pair spliced later-point arrive is-repeated
     is-in-line offer is-accepted extended run-from run big-endian complement block coordinate header
-    saved is-digit
+    saved-in is-digit
     has-minus digits value-after magnitude is-number number-value line-read in-first-line lines
     spaced printed offer-line closing arrivals report session after offered orientation-of counts-of far
     questions same-list

@@ -1,5 +1,6 @@
 -- The saved form, in the order of this page: bytes; numbers in bytes and back; blocks of fields;
--- the layout; the bytes of a map; a file in form; the map of a file; loading and saving.
+-- the layout; the bytes of a map; a file in form; the map of a file; loading and saving. What is written
+-- and what is in form are said of any version, and used at the one that there is.
 -- Document 01, "Saved form": "Big-endian: 4 bytes, the length of all that follows; version byte 1;
 -- 2 bytes, the number of points n; 2 bytes reference; n pairs x, y in 4 bytes each, two's
 -- complement; n helper bytes, 0 or 1; 2n edge links of 2 bytes. The whole is 9 + 13 × n bytes."
@@ -92,18 +93,21 @@ following n = saved-length n - version-place
 unfoldable pub coordinate : Map → ℕ → ℤ
 coordinate m i = cond (eqb (i % 2) 0) (point m (i / 2) .x) (point m (i / 2) .y)
 
--- the header of a map of n points with reference r
-unfoldable pub header : ℕ → ℕ → List ℕ
-header n r =
-    big-endian 4 (following n) ++ big-endian 1 version ++ big-endian 2 n ++ big-endian 2 r
+-- the header in version v of a map of n points with reference r
+unfoldable pub header : ℕ → ℕ → ℕ → List ℕ
+header v n r = big-endian 4 (following n) ++ big-endian 1 v ++ big-endian 2 n ++ big-endian 2 r
 
--- the bytes of a map
-unfoldable pub saved : Map → List ℕ
-saved m =
+-- the bytes of a map in version v
+unfoldable pub saved-in : ℕ → Map → List ℕ
+saved-in v m =
     let n = m .count in
-    header n (m .reference) ++ block (2 * n) 4 (λ i. complement (coordinate m i))
+    header v n (m .reference) ++ block (2 * n) 4 (λ i. complement (coordinate m i))
     ++ block n 1 (λ k. one-if (has-helper m k))
     ++ block (2 * n) 2 (edge-link m)
+
+-- the bytes of a map
+abbrev pub saved : Map → List ℕ
+saved = saved-in version
 
 -- "2 bytes, the number of points n"
 abbrev pub count-in-file : List ℕ → ℕ
@@ -121,14 +125,17 @@ abbrev pub link-in-file : List ℕ → ℕ → ℕ → ℕ
 link-in-file s n d = field s (links-place n) 2 d
 
 -- not number 7: "file under 9 bytes, length not matching n and the bytes lent, n above 512, version
--- not 1, or helper byte above 1"
-unfoldable pub file-in-form : List ℕ → Bool
-file-in-form s =
+-- not 1, or helper byte above 1", for any version v
+unfoldable pub file-in-form-of : ℕ → List ℕ → Bool
+file-in-form-of v s =
     let n = count-in-file s in
     leb header-length (length s) && leb n point-limit && eqb (length s) (saved-length n)
     && eqb (number-at s 0 4) (following n)
-    && eqb (number-at s version-place 1) version
+    && eqb (number-at s version-place 1) v
     && all n (λ k. leb (helper-in-file s n k) 1)
+
+abbrev pub file-in-form : List ℕ → Bool
+file-in-form = file-in-form-of version
 
 -- f before n, and g from n on
 abbrev pub until : {A : Type 0} → ℕ → (ℕ → A) → (ℕ → A) → ℕ → A

@@ -2,18 +2,17 @@
 -- ahead make up the report; where the refusals stop; both by the coordinates of a map; all lines; what
 -- was decided. Assumes nothing.
 use mathlib.Core.Path.{_≡_}
-use mathlib.Core.Bool.{Bool, true, false}
+use mathlib.Core.Bool.{true, false}
 use mathlib.Core.List.{List, _++_}
 use Prim.Native.Nat.{ℕ, _≤_}
 use lib.IntN.{ℤ}
 use lib.ListN.{length, drop}
 use Rattle.model.specs.declared.Map.{Map}
-use Rattle.model.specs.Maps.{point-limit, empty-map}
+use Rattle.model.specs.Maps.{point-limit, empty-map, with-points}
 use Rattle.model.specs.Sound.{Shaped}
 use Rattle.model.specs.Text.{lines}
 use Rattle.model.specs.Report.{text-limit, arrivals, closing, report}
 use Rattle.survey.specs.Places.{at-end, line-at}
-use Rattle.hull.specs.Requires.{map-of}
 use Rattle.reports.specs.declared.deciding.Verdict.{Verdict}
 use Rattle.reports.specs.declared.deciding.Stop.{Stop}
 use Rattle.reports.specs.declared.deciding.Surveyed.{Surveyed}
@@ -45,17 +44,14 @@ pub record Stopped (text : List ℕ) (m : Map) (answers : List ℕ) (at : ℕ) (
 -- the same for code that is lent the coordinates of a map alone: of some map with them ..
 pub record ReportsSome (text : List ℕ) (xs ys : List ℤ) (count : ℕ) (answers : List ℕ) (n at : ℕ)
     : Type 0 where
-  pub helpers : List Bool
-  pub edge : List ℕ
-  pub reference : ℕ
-  pub reports : Reports text (map-of xs ys helpers edge count reference) answers n at
+  pub rest : Map
+  pub reports : Reports text (with-points rest xs ys count) answers n at
 
 -- .. and of every such map
 pub record StopsAll (text : List ℕ) (xs ys : List ℤ) (count : ℕ) (before after : List ℕ) (n at : ℕ)
     (s : Stop) : Type 0 where
-  pub stops : (helpers : List Bool) (edge : List ℕ) (reference : ℕ) →
-      Reports text (map-of xs ys helpers edge count reference) before n at →
-      Stopped text (map-of xs ys helpers edge count reference) after at s
+  pub stops : (rest : Map) → Reports text (with-points rest xs ys count) before n at →
+      Stopped text (with-points rest xs ys count) after at s
 
 -- a text that is not too long, and a place for the answer of each of its lines
 pub record Readable (text answers : List ℕ) : Type 0 where

@@ -29,9 +29,9 @@ use Rattle.model.specs.Sound.{Shaped, sound}
 use Rattle.model.specs.Saved.{Bytes, big-endian, number-at, complement, signed, field}
 use Rattle.model.specs.Saved.{version-place, count-place, reference-place, header-length}
 use Rattle.model.specs.Saved.{coordinates-place, helpers-place, links-place}
-use Rattle.model.specs.Saved.{coordinate, header, saved, count-in-file, coordinate-in-file}
+use Rattle.model.specs.Saved.{version, coordinate, header, saved-in, saved, count-in-file, coordinate-in-file}
 use Rattle.model.specs.Saved.{helper-in-file, link-in-file, coordinates-in-file, helpers-in-file}
-use Rattle.model.specs.Saved.{links-in-file, file-in-form, map-in, loaded}
+use Rattle.model.specs.Saved.{links-in-file, file-in-form-of, file-in-form, map-in, loaded}
 use Rattle.model.proofs.Sound.{place-ranged, present-below, sound-holds}
 use Rattle.plane.proofs.Bounds.{x-near, y-near}
 use Rattle.layout.proofs.Digits.{number-small, complement-small, signed-complement}
@@ -40,7 +40,7 @@ use Rattle.layout.proofs.Blocks.{block-same, block-back}
 use Rattle.saved.proofs.Tables.{until-table, until-at}
 use Rattle.layout.proofs.Form.{Form, form-holds, form-by}
 use Rattle.maps.proofs.Same.{same-fields}
-use Rattle.saved.proofs.Places.{length-saved, length-read, version-read, count-read}
+use Rattle.saved.proofs.Places.{length-saved-in, length-read, version-read, count-read}
 use Rattle.saved.proofs.Places.{reference-read, coordinate-read, helper-read, link-read}
 
 -- ---- what a sound map holds fits its fields
@@ -88,38 +88,39 @@ y-coordinate m k =
     let e : (2 * k + 1) / 2 ≡ k = omega arith in
     rw (ne-eqb ((2 * k + 1) % 2) 0 (λ z. omega arith), e)
 
-module _ {m : Map} (s : Shaped m) where
-  count-back : count-in-file (saved m) ≡ m .count
-  count-back = count-read m (s .links .fits)
+-- in any version
+module _ (v : ℕ) (small : v < 256) {m : Map} (s : Shaped m) where
+  count-back : count-in-file (saved-in v m) ≡ m .count
+  count-back = count-read v m (s .links .fits)
 
   helper-back : (k : ℕ) → k < m .count →
-      helper-in-file (saved m) (count-in-file (saved m)) k ≡ one-if (has-helper m k)
+      helper-in-file (saved-in v m) (count-in-file (saved-in v m)) k ≡ one-if (has-helper m k)
   helper-back k l =
-      ap (λ (n : ℕ). field (saved m) (helpers-place n) 1 k) count-back
-      ∙ helper-read m k l (omega (arith, one-if-small (has-helper m k)))
+      ap (λ (n : ℕ). field (saved-in v m) (helpers-place n) 1 k) count-back
+      ∙ helper-read v m k l (omega (arith, one-if-small (has-helper m k)))
 
   link-back : (d : ℕ) → d < own (m .count) →
-      link-in-file (saved m) (count-in-file (saved m)) d ≡ edge-link m d
+      link-in-file (saved-in v m) (count-in-file (saved-in v m)) d ≡ edge-link m d
   link-back d l =
-      ap (λ (n : ℕ). field (saved m) (links-place n) 2 d) count-back
-      ∙ link-read m d l (link-small s d l)
+      ap (λ (n : ℕ). field (saved-in v m) (links-place n) 2 d) count-back
+      ∙ link-read v m d l (link-small s d l)
 
-  coordinate-back : (i : ℕ) → i < 2 * m .count → coordinate-in-file (saved m) i ≡ coordinate m i
+  coordinate-back : (i : ℕ) → i < 2 * m .count → coordinate-in-file (saved-in v m) i ≡ coordinate m i
   coordinate-back i l =
       let b = coordinate-small s i in
-      ap signed (coordinate-read m i l (complement-small (coordinate m i) (omega arith)))
+      ap signed (coordinate-read v m i l (complement-small (coordinate m i) (omega arith)))
       ∙ signed-complement (coordinate m i) (omega arith)
 
-  pub saved-in-form : T (file-in-form (saved m))
+  pub saved-in-form : T (file-in-form-of v (saved-in v m))
   saved-in-form =
       let f = s .links .fits in
       let c = count-back in
-      form-by (saved m)
+      form-by v (saved-in v m)
       (record {
         few = omega arith;
-        whole = omega (arith, length-saved m);
-        length-right = omega (arith, length-read m f);
-        version-right = version-read m;
+        whole = omega (arith, length-saved-in v m);
+        length-right = omega (arith, length-read v m f);
+        version-right = version-read v m small;
         helpers-right =
             λ k h. omega (arith, helper-back k (omega arith), one-if-small (has-helper m k));
       })
@@ -138,37 +139,37 @@ module _ {m : Map} (s : Shaped m) where
   -- the coordinates of one direction
   coordinates-back : (l : List ℤ) → length l ≡ point-limit → (d : ℕ) → d < 2 →
       ((k : ℕ) → coordinate m (2 * k + d) ≡ getD l k (pos 0)) →
-      coordinates-in-file (saved m) (count-in-file (saved m)) d ≡ l
+      coordinates-in-file (saved-in v m) (count-in-file (saved-in v m)) d ≡ l
   coordinates-back l whole d h is =
       let c = count-back in
-      until-table (pos 0) l whole (count-in-file (saved m))
-      (λ k. coordinate-in-file (saved m) (2 * k + d)) (λ k. pos 0)
+      until-table (pos 0) l whole (count-in-file (saved-in v m))
+      (λ k. coordinate-in-file (saved-in v m) (2 * k + d)) (λ k. pos 0)
       (λ k i b. coordinate-back (2 * k + d) (omega arith) ∙ is k)
       (λ k i b. coordinate-past k d h (omega arith) ∙ is k)
 
-  helpers-back : helpers-in-file (saved m) (count-in-file (saved m)) ≡ m .helpers
+  helpers-back : helpers-in-file (saved-in v m) (count-in-file (saved-in v m)) ≡ m .helpers
   unfolding has-helper
   helpers-back =
       let c = count-back in
-      until-table false (m .helpers) (s .links .helpers-whole) (count-in-file (saved m))
-      (λ k. eqb (helper-in-file (saved m) (count-in-file (saved m)) k) 1)
+      until-table false (m .helpers) (s .links .helpers-whole) (count-in-file (saved-in v m))
+      (λ k. eqb (helper-in-file (saved-in v m) (count-in-file (saved-in v m)) k) 1)
       (λ k. false)
       (λ k i l. ap (λ (b : ℕ). eqb b 1) (helper-back k (omega arith)) ∙ one-if-is (has-helper m k))
       (λ k i l. sym (is-false (has-helper m k) (λ h. omega (arith, s .links .owned k h))))
 
-  links-back : links-in-file (saved m) (count-in-file (saved m)) ≡ m .edge
+  links-back : links-in-file (saved-in v m) (count-in-file (saved-in v m)) ≡ m .edge
   unfolding edge-link
   links-back =
       let c = count-back in
       let w = s .links .edge-whole in
-      until-table 0 (m .edge) w (own (count-in-file (saved m)))
-      (link-in-file (saved m) (count-in-file (saved m))) (λ d. d)
+      until-table 0 (m .edge) w (own (count-in-file (saved-in v m)))
+      (link-in-file (saved-in v m) (count-in-file (saved-in v m))) (λ d. d)
       (λ d i l. link-back d (omega arith) ∙ getD-any (m .edge) d d 0 (omega arith))
       (λ d i l.
       sym (s .links .absent d (λ t. omega (arith, present-below m d t)))
       ∙ getD-any (m .edge) d d 0 (omega arith))
 
-  pub map-back : map-in (saved m) ≡ m
+  pub map-back : map-in (saved-in v m) ≡ m
   unfolding map-in
   map-back =
       same-fields
@@ -177,7 +178,7 @@ module _ {m : Map} (s : Shaped m) where
       helpers-back
       links-back
       count-back
-      (reference-read m (reference-small s))
+      (reference-read v m (reference-small s))
 
 -- ---- the bytes of the map of a file in form are the file
 
@@ -191,7 +192,7 @@ bit-is b l =
     ⊎-elim (λ (e : b ≡ 1). rw (eq-eqb b 1 e) (sym e)) (λ e. rw (ne-eqb b 1 e) (omega arith))
     (same-or-not b 1)
 
-module _ {s : List ℕ} (b : Bytes s) (f : Form s) where
+module _ {v : ℕ} {s : List ℕ} (b : Bytes s) (f : Form v s) where
   coordinate-held : (k d : ℕ) → k < count-in-file s →
       getD (coordinates-in-file s (count-in-file s) d) k (pos 0) ≡ coordinate-in-file s (2 * k + d)
   coordinate-held k d l =
@@ -235,7 +236,7 @@ module _ {s : List ℕ} (b : Bytes s) (f : Form s) where
       until-at dart-limit (own (count-in-file s)) (link-in-file s (count-in-file s)) (λ e. e) d d
       (omega (arith, f .few)) l
 
-  header-written : header (count-in-file s) (number-at s reference-place 2) ≡ take header-length s
+  header-written : header v (count-in-file s) (number-at s reference-place 2) ≡ take header-length s
   unfolding header
   header-written =
       let w = f .whole in
@@ -249,8 +250,8 @@ module _ {s : List ℕ} (b : Bytes s) (f : Form s) where
       (bytes-back b reference-place 2 (omega arith))
       ∙ joined s reference-place 2 header-length refl
 
-  file-back : saved (map-in s) ≡ s
-  unfolding saved map-in
+  file-back : saved-in v (map-in s) ≡ s
+  unfolding saved-in map-in
   file-back =
       let w = f .whole in
       let n = count-in-file s in
@@ -300,12 +301,13 @@ pub load-of-save : (m : Map) → T (sound m) → loaded (saved m) ≡ served m
 unfolding loaded unless
 load-of-save m t =
     let h = sound-holds m t in
-    rw (map-back h, is-true (file-in-form (saved m)) (saved-in-form h), is-true (sound m) t)
+    let small : version < 256 = omega arith in
+    rw (map-back version small h, is-true (file-in-form (saved m)) (saved-in-form version small h), is-true (sound m) t)
 
 -- "an accepted file is the only file that its map writes"
 pub save-of-load : (s : List ℕ) → Bytes s → Accepted s → saved (loaded s .map) ≡ s
 save-of-load s b a =
-    let i = accepted-is s a in ap saved (i .1) ∙ file-back b (form-holds s (i .0))
+    let i = accepted-is s a in ap saved (i .1) ∙ file-back b (form-holds version s (i .0))
 
 -- no two accepted files have the same map
 pub one-file-for-a-map : (s t : List ℕ) → Bytes s → Bytes t → Accepted s → Accepted t →

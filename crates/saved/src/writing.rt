@@ -16,7 +16,7 @@ ghost use lib.Dec.{T};
 ghost use lib.ListN.{length};
 ghost use Rattle.model.specs.Plane.{in-range};
 ghost use Rattle.model.specs.Maps.{point-limit};
-ghost use Rattle.model.specs.Saved.{block, header, header-length};
+ghost use Rattle.model.specs.Saved.{block, header, header-length, version};
 ghost use Rattle.orbits.specs.Links.{link-of};
 ghost use Rattle.model.specs.Maps.{point-at};
 ghost use Rattle.saved.specs.Fields.{coordinate-field, helper-field};
@@ -25,7 +25,7 @@ ghost use Rattle.layout.specs.Writing.{over};
 // The header of a map of so many points with a reference.
 pub fn write_header(count: usize, reference: usize, lent: &mut [u8])
     requires { ⌜ (count ≤ point-limit) × (header-length ≤ length (now lent)) ⌝ }
-    ensures { λ _. ⌜ now (lent .exit) ≡ over (header count reference) (now (lent .entry)) ⌝ }
+    ensures { λ _. ⌜ now (lent .exit) ≡ over (header version count reference) (now (lent .entry)) ⌝ }
 {
     let following = saved_length(count) - VERSION_PLACE;
     put_number(lent, 4, following);

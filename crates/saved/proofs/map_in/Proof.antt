@@ -3,14 +3,14 @@
 use mathlib.Core.Path.{ap, _∙_}
 use Prim.Native.Nat.{ℕ}
 use native.Mathlib.Omega.{arith}
-use Rattle.model.specs.Saved.{coordinates-in-file, helpers-in-file, links-in-file, map-in}
+use Rattle.model.specs.Saved.{version, coordinates-in-file, helpers-in-file, links-in-file, map-in}
 use Rattle.layout.proofs.Form.{Form, form-holds}
 use Rattle.maps.proofs.Same.{same-fields}
 use Rattle.saved.proofs.map_in.Statement.{statement}
 use Rattle.saved.proofs.map_in.Tie as tie
 
-form : (c : tie.Start) → Form (c .args .file .now)
-form c = form-holds (c .args .file .now) (c .pre)
+form : (c : tie.Start) → Form version (c .args .file .now)
+form c = form-holds version (c .args .file .now) (c .pre)
 
 number-at-requires : tie.Need-number-at-requires
 number-at-requires c κs = let f = form (c .before) in (omega (arith, f .whole), omega arith)

@@ -9,7 +9,7 @@ use Rattle.finite.specs.Bounded.{one-if}
 use Rattle.model.specs.declared.Map.{Map}
 use Rattle.model.specs.Maps.{point, has-helper, edge-link}
 use Rattle.model.specs.Saved.{header, header-length, helpers-place, links-place, block, complement}
-use Rattle.model.specs.Saved.{coordinate, saved}
+use Rattle.model.specs.Saved.{version, coordinate, saved-in}
 use Rattle.layout.proofs.Blocks.{length-block, piece-written}
 use Rattle.saved.proofs.Places.{length-header}
 use Rattle.model.proofs.Sound.{place-ranged}
@@ -26,7 +26,7 @@ write-coordinates-requires c κs =
 
 -- the header and the blocks of a map, up to each
 abbrev first-1 : Map → List ℕ
-first-1 m = header (m .count) (m .reference)
+first-1 m = header version (m .count) (m .reference)
 
 abbrev first-2 : Map → List ℕ
 first-2 m = first-1 m ++ block (2 * m .count) 4 (λ i. complement (coordinate m i))
@@ -37,20 +37,20 @@ first-3 m = first-2 m ++ block (m .count) 1 (λ k. one-if (has-helper m k))
 length-2 : (m : Map) → helpers-place (m .count) ≡ length (first-2 m)
 length-2 m =
     simp length-append (omega
-    (arith, length-header m, length-block (2 * m .count) 4 (λ i. complement (coordinate m i))))
+    (arith, length-header version m, length-block (2 * m .count) 4 (λ i. complement (coordinate m i))))
 
 length-3 : (m : Map) → links-place (m .count) ≡ length (first-3 m)
 length-3 m =
     simp length-append
     (omega (
       arith,
-      length-header m,
+      length-header version m,
       length-block (2 * m .count) 4 (λ i. complement (coordinate m i)),
       length-block (m .count) 1 (λ k. one-if (has-helper m k)),
     ))
 
 returns : tie.Need-returns
-unfolding saved coordinate point has-helper edge-link
+unfolding saved-in coordinate point has-helper edge-link
 returns c =
     let c-4 = c .before .before in
     let links = c-4 .before .before .before .before .before in
@@ -66,7 +66,7 @@ returns c =
     let after-2 =
     piece-written (first-1 m) (block (2 * m .count) 4 (λ i. complement (coordinate m i))) before
     header-length _ _
-    (c-1 .write-header .ensures) (sym (length-header m)) (omega arith)
+    (c-1 .write-header .ensures) (sym (length-header version m)) (omega arith)
     (c-2 .write-coordinates .ensures) in
     let after-3 =
     piece-written (first-2 m) (block (m .count) 1 (λ k. one-if (has-helper m k))) before

@@ -3,8 +3,7 @@
 use borrow.Author.Needs.{needs}
 use mathlib.Core.Path.{_≡_, sym, subst, _∙_}
 use mathlib.Core.Logic.{⊎-elim}
-use mathlib.Core.List.{List}
-use mathlib.Core.Bool.{Bool, false, _&&_}
+use mathlib.Core.Bool.{false, _&&_}
 use Prim.Native.Nat.{_-_}
 use native.Mathlib.Nat.{sub-zero}
 use native.Mathlib.Omega.{arith}
@@ -13,9 +12,9 @@ use lib.Dec.{T}
 use Rattle.finite.specs.Tests.{and-both}
 use Rattle.model.specs.declared.Map.{Map}
 use Rattle.model.specs.Plane.{in-range, sees-edge}
-use Rattle.model.specs.Maps.{point-at, edge-link}
+use Rattle.model.specs.Maps.{point-at, edge-link, with-outline}
 use Rattle.model.specs.Outline.{next-corner, previous-corner}
-use Rattle.hull.specs.Requires.{OutlineIn, visible-at, map-of}
+use Rattle.hull.specs.Requires.{OutlineIn, visible-at}
 use Rattle.hull.specs.Sight.{sought-at}
 use Rattle.hull.proofs.Indices.{ranged}
 use Rattle.hull.proofs.Seeing.{tests-agree, unsought, SightAhead, at-first, passed-last, passed-one, at-end}
@@ -25,7 +24,7 @@ use Rattle.hull.proofs.sight.seen_from.Tie as tie
 abbrev Inv-loop : tie.InvT-loop
 Inv-loop xs ys edge count reference p start last entering₀ left₀ right₀ visible₀ a₀ from₀ counter₀ entering left right visible a from counter =
     (o : OutlineIn xs ys edge count reference p)
-    × SightAhead (map-of xs ys (o .helpers) edge count reference) p entering left right visible a
+    × SightAhead (with-outline (o .rest) xs ys edge count reference) p entering left right visible a
     (count - counter)
     × (from ≡ point-at xs ys a)
 
@@ -36,13 +35,13 @@ abbrev μ-loop : tie.MeasureT-loop
 is-visible-requires : tie.Need-is-visible-requires Inv-loop μ-loop
 is-visible-requires c κs = ranged (c .before .before .pre .outline)
 
--- where the function starts, and the map whose arrays are lent, with some helpers
+-- where the function starts, and a map with the arrays that are lent
 abbrev at-start : tie.After-point-at Inv-loop μ-loop → tie.Start Inv-loop μ-loop
 at-start c = c .before .before .before .before
 
-abbrev lent : tie.Start Inv-loop μ-loop → List Bool → Map
-lent s helpers =
-    map-of (now (s .args .xs)) (now (s .args .ys)) helpers (now (s .args .edge)) (s .args .count) (s .args .reference)
+abbrev lent : tie.Start Inv-loop μ-loop → Map → Map
+lent s rest =
+    with-outline rest (now (s .args .xs)) (now (s .args .ys)) (now (s .args .edge)) (s .args .count) (s .args .reference)
 
 abbrev started : tie.In-loop Inv-loop μ-loop → tie.Start Inv-loop μ-loop
 started c = at-start (c .before .before)
@@ -52,7 +51,7 @@ unfolding previous-corner edge-link
 loop-holds c =
     let s = at-start c in (
       s .pre,
-      at-first (lent s (s .pre .helpers)) (s .args .p) (s .pre .outline) (sub-zero _)
+      at-first (lent s (s .pre .rest)) (s .args .p) (s .pre .outline) (sub-zero _)
           (c .before .before .previous-corner .ensures) (c .before .is-visible .ensures),
       c .point-at .ensures,
     )
@@ -115,7 +114,7 @@ loop-again c =
     let s = started t in
     let inv = t .before .loop .inv in (
       inv .0,
-      passed-one (lent s (inv .0 .helpers)) (s .args .p) (inv .0 .outline) (inv .1)
+      passed-one (lent s (inv .0 .rest)) (s .args .p) (inv .0 .outline) (inv .1)
           (omega (arith, t .loop-test .taken)) (e .before .before .next-corner .ensures) (leaving-is e)
           (left-sought (d .before)) (right-sought (d .before)) (d .plus-one-if .ensures) (omega arith) (c .if2 .left),
       e .before .point-at2 .ensures,
@@ -125,7 +124,7 @@ returns : tie.Need-returns Inv-loop μ-loop
 returns c =
     let s = at-start (c .before .before) in
     let inv = c .before .loop .inv in
-    at-end (lent s (inv .0 .helpers)) (s .args .p) (inv .0 .outline) (inv .1) (omega (arith, c .loop-test .left))
+    at-end (lent s (inv .0 .rest)) (s .args .p) (inv .0 .outline) (inv .1) (omega (arith, c .loop-test .left))
 
 -- .. or it is, and all is found
 returns-2 : tie.Need-returns-2 Inv-loop μ-loop
@@ -136,7 +135,7 @@ returns-2 c =
     let t = in-loop e in
     let s = started t in
     let inv = t .before .loop .inv in
-    let m = lent s (inv .0 .helpers) in
+    let m = lent s (inv .0 .rest) in
     at-end m (s .args .p) (inv .0 .outline)
     (passed-last m (s .args .p) (inv .0 .outline) (inv .1) (omega (arith, t .loop-test .taken))
     (e .before .before .next-corner .ensures) (leaving-is e)

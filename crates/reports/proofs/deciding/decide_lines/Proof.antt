@@ -10,8 +10,8 @@ use denote.Ref.{now}
 use lib.ListN.{length, set}
 use Rattle.model.specs.declared.Map.{Map}
 use Rattle.model.specs.declared.Offered.{Offered}
+use Rattle.model.specs.Maps.{map-of}
 use Rattle.model.specs.Sound.{Shaped}
-use Rattle.hull.specs.Requires.{map-of}
 use Rattle.hull.proofs.Outcomes.{Accepted}
 use Rattle.hull.proofs.Admissions.{accepted-room}
 use Rattle.reports.specs.Packing.{Packable}
@@ -84,12 +84,11 @@ begun c =
 refuse-lines-requires : tie.Need-refuse-lines-requires Inv-loop μ-loop
 refuse-lines-requires c κs =
     let made = at-empty (c .before) in
-    let m = made .empty-map .result in
-    record { helpers = m .helpers; edge = m .edge; reference = m .reference; reports = begun made }
+    record { rest = made .empty-map .result; reports = begun made }
 
 loop-holds : tie.Need-loop-holds Inv-loop μ-loop
 loop-holds c =
-    c .refuse-lines .ensures .stops _ _ _ (begun (at-empty (c .before .before)))
+    c .refuse-lines .ensures .stops (at-empty (c .before .before) .empty-map .result) (begun (at-empty (c .before .before)))
 
 grow-requires : tie.Need-grow-requires Inv-loop μ-loop
 grow-requires c κs = accepted-room (accepted (c .before .before .before .before .before))
@@ -128,20 +127,20 @@ slice-aggregate-refuse-lines-4 c =
 refuse-lines-requires-2 : tie.Need-refuse-lines-requires-2 Inv-loop μ-loop
 refuse-lines-requires-2 c κs =
     let next = c .before .before .before in
-    let m = grown (next .before .before) in
-    record { helpers = m .helpers; edge = m .edge; reference = m .reference; reports = grown-reports next }
+    record { rest = grown (next .before .before); reports = grown-reports next }
 
 loop-less : tie.Need-loop-less Inv-loop μ-loop
 loop-less c =
     let next = c .before .before .before .before in
     let test = in-loop (next .before .before) in
     let on = stop-further (test .before .before .loop .inv) (more test) in
-    let stopped = c .refuse-lines2 .ensures .stops _ _ _ (grown-reports next) in
+    let stopped = c .refuse-lines2 .ensures .stops (grown (next .before .before)) (grown-reports next) in
     omega (arith, on .0, on .1, next .next-from .ensures, stopped .further)
 
 loop-again : tie.Need-loop-again Inv-loop μ-loop
 loop-again c =
-    stopped-onwards (c .refuse-lines2 .ensures .stops _ _ _ (grown-reports (c .before .before .before .before)))
+    let next = c .before .before .before .before in
+    stopped-onwards (c .refuse-lines2 .ensures .stops (grown (next .before .before)) (grown-reports next))
 
 returns : tie.Need-returns Inv-loop μ-loop
 returns c = surveys (c .before .before .loop .inv) (not-false _ (c .if1 .left))

@@ -2,15 +2,15 @@
 -- what is ahead make up the report. The measure is what is left of the text. Assumes nothing.
 use borrow.Author.Needs.{needs}
 use mathlib.Core.Path.{_≡_, sym, _∙_}
-use mathlib.Core.Bool.{Bool, false}
-use mathlib.Core.List.{List}
-use Prim.Native.Nat.{ℕ, _-_, _≤_}
+use mathlib.Core.Bool.{false}
+use Prim.Native.Nat.{_-_, _≤_}
 use native.Mathlib.Omega.{arith}
 use borrow.Author.Tests.{not-true, not-false}
 use denote.Ref.{now}
 use lib.ListN.{length}
+use Rattle.model.specs.declared.Map.{Map}
+use Rattle.model.specs.Maps.{with-points}
 use Rattle.survey.specs.Places.{at-end}
-use Rattle.hull.specs.Requires.{map-of}
 use Rattle.hull.proofs.Admissions.{ranged-places}
 use Rattle.reports.specs.Packing.{refused}
 use Rattle.reports.specs.Deciding.{Reports}
@@ -20,24 +20,23 @@ use Rattle.reports.proofs.deciding.refuse_lines.Tie as tie
 
 abbrev Inv-loop : tie.InvT-loop
 Inv-loop text at line xs ys count answers₀ place₀ number₀ answers place number =
-    ((helpers : List Bool) (edge : List ℕ) (reference : ℕ) →
-    Reports text (map-of xs ys helpers edge count reference) answers₀ line at →
-    Reports text (map-of xs ys helpers edge count reference) answers number place)
+    ((rest : Map) → Reports text (with-points rest xs ys count) answers₀ line at →
+    Reports text (with-points rest xs ys count) answers number place)
     × (at ≤ place)
 
 abbrev μ-loop : tie.MeasureT-loop
 μ-loop text at line xs ys count answers₀ place₀ number₀ answers place number = length text - place
 
 loop-holds : tie.Need-loop-holds Inv-loop μ-loop
-loop-holds c = (λ helpers edge reference r. r, omega arith)
+loop-holds c = (λ rest r. r, omega arith)
 
 -- the report of the map that there is
 report : (l : tie.At-loop Inv-loop μ-loop) →
     let s = l .before .before in
     Reports (now (s .args .text))
-    (map-of (now (s .args .xs)) (now (s .args .ys)) (s .pre .helpers) (s .pre .edge) (s .args .count) (s .pre .reference))
+    (with-points (s .pre .rest) (now (s .args .xs)) (now (s .args .ys)) (s .args .count))
     (l .loop .answers) (l .loop .number) (l .loop .place)
-report l = l .loop .inv .0 _ _ _ (l .before .before .pre .reports)
+report l = let pre = l .before .before .pre in l .loop .inv .0 (pre .rest) (pre .reports)
 
 -- where an iteration begins
 abbrev in-loop : tie.After-line-from Inv-loop μ-loop → tie.Then1 Inv-loop μ-loop
@@ -59,8 +58,8 @@ returns c =
     let l = test .before .before in
     record {
       stops =
-          λ helpers edge reference r.
-          stops-before (l .loop .inv .0 helpers edge reference r) (l .loop .inv .1) (there test)
+          λ rest r.
+          stops-before (l .loop .inv .0 rest r) (l .loop .inv .1) (there test)
           (c .before .found .given .1) (call .verdict-on .ensures) (call .before .line-from .ensures);
     }
 
@@ -102,8 +101,8 @@ loop-again c =
     let test = at-test stored in
     let l = test .before .before in
     let on = place-further (report l) (there test) in (
-      λ helpers edge reference r.
-          refuse-next (l .loop .inv .0 helpers edge reference r) (there test) _ (told .found2 .given .1)
+      λ rest r.
+          refuse-next (l .loop .inv .0 rest r) (there test) _ (told .found2 .given .1)
           (call .verdict-on .ensures)
           (call .before .line-from .ensures) (stored .packed .ensures) (c .next-from .ensures),
       omega (arith, on .0, c .next-from .ensures, l .loop .inv .1),
@@ -115,8 +114,8 @@ returns-2 c =
     let ended = sym (c .before .is-ended .ensures) ∙ not-false _ (c .if1 .left) in
     record {
       stops =
-          λ helpers edge reference r.
-          stops-at-end (l .loop .inv .0 helpers edge reference r) (l .loop .inv .1) _ ended;
+          λ rest r.
+          stops-at-end (l .loop .inv .0 rest r) (l .loop .inv .1) _ ended;
     }
 
 pub refuse-lines-spec : {M : Type 1} → statement M

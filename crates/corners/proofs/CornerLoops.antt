@@ -1,26 +1,24 @@
--- The loops that look for the lowest corner, list the corners and write them into a lent list, in this
--- order, each with its invariant and the laws of its start, of a step and of the end. Round the
--- outline, what is found and what is still ahead make up the answer together.
+-- The loops that look for the lowest corner and list the corners, in this order, each with its
+-- invariant and the laws of its start, of a step and of the end. Round the outline, what is found and
+-- what is still ahead make up the answer together.
 -- Assumes nothing.
-use mathlib.Core.Path.{_≡_, refl, sym, ap, ap₂, subst, _∙_}
+use mathlib.Core.Path.{_≡_, refl, sym, ap, subst, _∙_}
 use mathlib.Core.Logic.{_≢_}
 use mathlib.Core.List.{List, [], _∷_, _++_, append-assoc, append-nil}
 use Prim.Native.Nat.{ℕ, zero, suc, _+_, _-_, _≤_, _<_}
-use native.Mathlib.Nat.{le-antisymm}
 use native.Mathlib.Numerals.{add-one}
 use native.Mathlib.Omega.{arith}
-use lib.ListN.{length, getD, take, drop, set, replicate, length-append, length-take, length-drop, length-replicate, length-set}
-use lib.Seq.{take-suc, take-suc-set, drop-cons, append-snoc, set-at, length-take-le}
+use lib.ListN.{length, take, set, replicate, length-replicate, length-set}
+use lib.Seq.{take-suc-set, length-take-le}
 use borrow.Author.Tests.{le-ltb}
 use Rattle.finite.specs.Bounded.{table}
 use Rattle.finite.specs.Lists.{ring}
-use Rattle.finite.specs.Rotations.{ring-last, ring-more}
+use Rattle.finite.specs.Rings.{ring-last, ring-more}
 use Rattle.model.specs.declared.Map.{Map}
 use Rattle.model.specs.Maps.{point-limit, owner, point}
 use Rattle.model.specs.Outline.{next-corner, corners-from, outline, lowest-corner, corners}
 use Rattle.model.specs.Sound.{Shaped}
-use Rattle.corners.specs.declared.listing.CornerList.{CornerList}
-use Rattle.corners.specs.Listing.{ListsCorners, lower-at, written-over}
+use Rattle.corners.specs.Listing.{ListsCorners, lower-at}
 use Rattle.corners.proofs.Corners.{lowest-of, lowest-found, corners-lowest, few-listed}
 
 -- ---- the lowest corner
@@ -139,43 +137,3 @@ listing-few {m} few {n} e =
     own-numbers zero h = refl
     own-numbers (suc zero) h = refl
     own-numbers (suc (suc k)) h = absurd (omega arith)
-
--- ---- the lent list
-
--- the first `written` places hold those of the list, and the others what they held
-pub record Writing (places lent now : List ℕ) (written : ℕ) : Type 0 where
-  pub so-far : now ≡ take written places ++ drop written lent
-
-module _ (places lent : List ℕ) where
-  pub writing-first : Writing places lent lent 0
-  writing-first = record { so-far = refl }
-
-  module _ {now : List ℕ} {i : ℕ} (u : Writing places lent now i) (h : i ≤ length places) (l : i ≤ length lent) where
-    pub writing-length : length now ≡ length lent
-    writing-length =
-        ap length (u .so-far)
-        ∙ omega (arith, length-append (take i places) (drop i lent), length-take i places, length-drop i lent)
-
-  module _ {now : List ℕ} {i : ℕ} (u : Writing places lent now i) (h : i < length places) (l : i < length lent) where
-    pub writing-more : Writing places lent (set now i (getD places i 0)) (i + 1)
-    writing-more =
-        record {
-          so-far =
-              ap (λ (s : List ℕ). set s i v) (u .so-far ∙ ap (λ (s : List ℕ). take i places ++ s) (drop-cons lent i 0 l))
-              ∙ set-at (take i places) (getD lent i 0) (drop (suc i) lent) v i (length-take-le i places (omega arith))
-              ∙ sym (append-snoc (take i places) v (drop (suc i) lent))
-              ∙ ap (λ (s : List ℕ). s ++ drop (suc i) lent) (sym (take-suc places i 0 h))
-              ∙ ap (λ (j : ℕ). take j places ++ drop j lent) (sym (add-one i));
-        }
-      where
-        v : ℕ
-        v = getD places i 0
-
-  pub writing-end : {now : List ℕ} {i n : ℕ} → Writing places lent now i → i ≤ n → n ≤ i →
-      now ≡ take n places ++ drop n lent
-  writing-end {now} u h l = subst (λ (j : ℕ). now ≡ take j places ++ drop j lent) (le-antisymm h l) (u .so-far)
-
--- so the corners of a map stand before what a lent list held past them
-pub corners-written : {m : Map} {r : CornerList} → ListsCorners m r → (lent : List ℕ) →
-    written-over r lent ≡ corners m ++ drop (length (corners m)) lent
-corners-written {m} l lent = ap₂ (λ (s : List ℕ) (n : ℕ). s ++ drop n lent) (l .members) (l .number)

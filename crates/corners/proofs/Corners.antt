@@ -14,10 +14,12 @@ use lib.ListN.{length, getD, length-append}
 use borrow.Author.Tests.{le-ltb, lt-ltb}
 use Rattle.finite.specs.Tests.{decide, is-true, is-false, same-or-not}
 use Rattle.finite.specs.Bounded.{table, lt-or-ge}
-use Rattle.finite.specs.Lists.{elem, distinct, all-in, elem-head, elem-tail, elem-cases, elem-one, all-elem, all-of-elem}
+use Rattle.finite.specs.Lists.{elem, distinct, all-in}
+use Rattle.finite.specs.ListLaws.{elem-head, elem-tail, elem-cases, elem-one, all-elem, all-of-elem}
 use Rattle.finite.specs.ListLaws.{elem-cut, elem-swap}
+use Rattle.finite.specs.FirstPassing.{first-only}
+use Rattle.finite.specs.Rings.{cycle-at}
 use Rattle.finite.specs.CycleLaws.{cycle-change}
-use Rattle.finite.specs.Rotations.{cycle-at, first-only}
 use Rattle.model.specs.declared.Point.{Point}
 use Rattle.model.specs.declared.Map.{Map}
 use Rattle.model.specs.Plane.{lower}

@@ -1,6 +1,6 @@
 -- Corners and query points, and the laws that the functions cite. Nothing is assumed.
 --     Corners        the listing is the rotated outline; the lowest corner is the only one
---     CornerLoops    the loops that look for, list and write the corners
+--     CornerLoops    the loops that look for and list the corners
 --     Views          placing by one look at each edge
 --     Placing        what each verdict on a query point means
 pub mod Corners

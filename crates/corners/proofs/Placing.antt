@@ -18,10 +18,11 @@ use borrow.Author.Tests.{le-ltb, lt-ltb}
 use Rattle.integers.specs.Order.{order, negℤ-splits, <ℤ-≢}
 use Rattle.finite.specs.Tests.{and-left, and-right, decide, is-true, is-false}
 use Rattle.finite.specs.Bounded.{lt-or-ge}
-use Rattle.finite.specs.Lists.{elem, all-in, any-in, count-in, first-in, elem-head, elem-tail, all-elem, all-of-elem}
+use Rattle.finite.specs.Lists.{elem, all-in, any-in, count-in, first-in}
+use Rattle.finite.specs.ListLaws.{elem-head, elem-tail, all-elem, all-of-elem, elem-middle}
+use Rattle.finite.specs.Distinct.{count-in-swap, count-in-zero}
+use Rattle.finite.specs.FirstPassing.{FirstPassing, first-passing, none-passes}
 use Rattle.finite.specs.Cycles.{Chain, Cycle}
-use Rattle.finite.specs.ListLaws.{elem-middle, count-in-swap, count-in-zero}
-use Rattle.finite.specs.Rotations.{FirstPassing, first-passing, none-passes}
 use Rattle.model.specs.declared.Point.{Point}
 use Rattle.model.specs.declared.Map.{Map}
 use Rattle.model.specs.declared.Placed.{Placed}

@@ -1,13 +1,13 @@
--- Listing the corners, in the order of this page: what a list of corners holds; a lent list with
--- room for it; the lower of two points.
+-- Listing the corners, in the order of this page: what a list of corners holds; that these are a
+-- map's; a lent list with room for them; the lower of two points.
 -- Document 01: "Corners are listed anticlockwise from the smallest y, then the smallest x."
 -- Assumes nothing.
 use mathlib.Core.Path.{_≡_}
 use mathlib.Core.Bool.{cond}
-use mathlib.Core.List.{List, _++_}
+use mathlib.Core.List.{List}
 use Prim.Native.Nat.{ℕ, _≤_}
 use lib.IntN.{ℤ}
-use lib.ListN.{length, take, drop}
+use lib.ListN.{length, take}
 use Rattle.model.specs.declared.Map.{Map}
 use Rattle.model.specs.Plane.{lower}
 use Rattle.model.specs.Maps.{point-limit}
@@ -15,9 +15,13 @@ use Rattle.model.specs.Outline.{corners}
 use Rattle.model.specs.Maps.{point-at}
 use Rattle.corners.specs.declared.listing.CornerList.{CornerList}
 
--- the list holds the corners of the map
+-- what the list holds
+abbrev pub listed : CornerList → List ℕ
+listed r = take (r .count) (r .places)
+
+-- it holds the corners of the map
 pub record ListsCorners (m : Map) (r : CornerList) : Type 0 where
-  pub members : take (r .count) (r .places) ≡ corners m
+  pub members : listed r ≡ corners m
   pub number : r .count ≡ length (corners m)
   pub whole : length (r .places) ≡ point-limit
   pub fits : r .count ≤ point-limit
@@ -27,10 +31,6 @@ pub record HasRoom (r : CornerList) (lent : List ℕ) : Type 0 where
   pub whole : length (r .places) ≡ point-limit
   pub fits : r .count ≤ point-limit
   pub room : r .count ≤ length lent
-
--- the lent list after it: the corners, and what it held past them
-abbrev pub written-over : CornerList → List ℕ → List ℕ
-written-over r lent = take (r .count) (r .places) ++ drop (r .count) lent
 
 -- the lower one of points a and b; a where neither is lower
 abbrev pub lower-at : List ℤ → List ℤ → ℕ → ℕ → ℕ

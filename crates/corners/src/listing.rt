@@ -7,9 +7,10 @@ use model::POINT_LIMIT;
 use plane::lower::is_lower;
 ghost use mathlib.Core.Path.{_≡_};
 ghost use Prim.Native.Nat.{_≤_};
+ghost use Rattle.finite.specs.Overwriting.{over};
 ghost use Rattle.model.specs.Outline.{lowest-corner};
 ghost use Rattle.model.specs.Sound.{Shaped};
-ghost use Rattle.corners.specs.Listing.{HasRoom, ListsCorners, lower-at, written-over};
+ghost use Rattle.corners.specs.Listing.{HasRoom, ListsCorners, listed, lower-at};
 
 // The corners of a map are the first `count` of `places`, in listing order.
 pub struct CornerList {
@@ -78,7 +79,7 @@ fn lower_of<'a>(xs: &'a [i64], ys: &'a [i64], a: usize, b: usize) -> usize
 // Writes the corners into a lent list that has room for them; the rest of it stays as it is.
 pub fn write_corners(list: CornerList, lent: &mut [usize])
     requires { ⌜ HasRoom list (now lent) ⌝ }
-    ensures { λ _. ⌜ now (lent .exit) ≡ written-over list (now (lent .entry)) ⌝ }
+    ensures { λ _. ⌜ now (lent .exit) ≡ over (listed list) (now (lent .entry)) ⌝ }
 {
     let count = list.count;
     for i in 0..count {

@@ -3,10 +3,11 @@
 -- for it. Each law is over the call. Assumes nothing.
 use mathlib.Core.Path.{_≡_, sym, _∙_}
 use mathlib.Core.Bool.{true, false}
-use mathlib.Core.List.{List, [], _∷_, _++_}
+use mathlib.Core.List.{List, [], _∷_}
 use Prim.Native.Nat.{ℕ, _≤_, _<_}
 use borrow.Author.Tests.{lt-ltb, le-ltb}
-use lib.ListN.{length, drop}
+use lib.ListN.{length}
+use Rattle.finite.specs.Overwriting.{over}
 use Rattle.model.specs.declared.Refusal.{Refusal}
 use Rattle.model.specs.declared.Outcome.{Outcome}
 use Rattle.model.specs.declared.Written.{Written}
@@ -44,7 +45,7 @@ module _ {A : Type 0} {rule : Rule} {result lent : List A} where
         (rule-applies Written.Refused _ _ _ (lt-ltb (length lent) (length result) l)))
 
     pub result-written : {n : ℕ} {after : List A} → n ≡ length result →
-        length result ≤ length lent → after ≡ result ++ drop (length result) lent →
+        length result ≤ length lent → after ≡ over result lent →
         Wrote (rule ∷ []) result lent after (Written.Length n)
     result-written size l holds =
         wrote-result _ _ _ _ _ size

@@ -10,8 +10,9 @@ use native.Mathlib.Nat.{not-suc-le-zero, le-of-suc-le-suc}
 use lib.Dec.{T, T-not, eqb, eqb→eq}
 use lib.ListN.{length}
 use Rattle.finite.specs.Tests.{and-left, decide, is-true, is-false, equal-by}
-use Rattle.finite.specs.Lists.{elem, distinct, ring, elem-head, elem-tail, elem-cases, elem-one, elem-append, elem-append-left}
-use Rattle.finite.specs.ListLaws.{elem-cut, elem-swap}
+use Rattle.finite.specs.Lists.{elem, distinct, ring}
+use Rattle.finite.specs.ListLaws.{elem-head, elem-tail, elem-cases, elem-one, elem-append}
+use Rattle.finite.specs.ListLaws.{elem-append-left, elem-cut, elem-swap}
 use Rattle.finite.specs.Cycles.{Chain, Cycle, cycle-rotate}
 
 -- ---- along a chain

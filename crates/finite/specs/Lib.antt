@@ -1,21 +1,28 @@
--- Bounded tests, lists, cycles and loops. Nothing is assumed, and no map is known.
+-- Bounded tests, lists, cycles and loops. Nothing is assumed, and no map is known. What is defined
+-- over lists and cycles stands in Lists and Cycles, and the pages after each of the two have its laws.
 --     Tests        laws of Bool: `&&`, `||`, `⇒`, and from a test to its statement
 --     Bounded      `all`, `any`, `sum`, `count`, `table` below a bound, with the law of each
 --     Counting     counts compared: injections, the pigeonhole, the least number that passes
---     Lists        `elem`, `all-in`, `count-in`, `first-in`, `ring`, `distinct` and their laws
+--     Lists        `elem`, `all-in`, `count-in`, `first-in`, `ring`, `distinct`: the definitions
+--     ListLaws     members of a list, tests that pass at all of them, and what is put together
+--     Distinct     lists in which no member stands twice; how many members there are
+--     FirstPassing the first member that passes a test
+--     Overwriting  `over`: a result over the front of a list that keeps its tail; the loop that copies
 --     Cycles       a relation along a list and round it; cutting, joining, rotating
---     ListLaws     lists put together: members, distinct members, counts
 --     CycleLaws    what holds along a chain and round a cycle; the ring that a cycle is
---     Loops        invariants of loops that test, search, fill an array, or go round a ring
+--     Rings        a ring from its first member on; the member after a place of a cycle
 --     Reversal     chains and cycles read backwards
---     Rotations    rings read place by place; the first member that passes
+--     Loops        invariants of loops that test, search, fill an array, or go round a ring
 pub mod Tests
 pub mod Bounded
 pub mod Counting
 pub mod Lists
-pub mod Cycles
 pub mod ListLaws
+pub mod Distinct
+pub mod FirstPassing
+pub mod Overwriting
+pub mod Cycles
 pub mod CycleLaws
-pub mod Loops
+pub mod Rings
 pub mod Reversal
-pub mod Rotations
+pub mod Loops

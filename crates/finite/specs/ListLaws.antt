@@ -1,19 +1,170 @@
--- More laws of lists of numbers, in the order of this page: a member cuts its list in two; what is put
--- together in the other order has the same members, and none of them twice; counts of what is put
--- together. Assumes nothing.
-use mathlib.Core.Path.{_≡_, refl, sym, ap}
-use mathlib.Core.Logic.{_≢_, ⊎-elim}
+-- The laws of membership and of tests over lists, in the order of this page: a member of a list; a test
+-- that passes at all members; membership in what is put together; a member that cuts its list in two;
+-- the members of a list place by place; the sum of what is put together. No number of members is
+-- compared here: that is Distinct. Assumes nothing.
+use mathlib.Core.Path.{_≡_, refl, sym, ap, subst, _∙_}
+use mathlib.Core.Logic.{_⊎_, inl, inr, ⊎-elim}
 use mathlib.Core.Bool.{Bool, not}
-use mathlib.Core.List.{List, [], _∷_, _++_}
-use Prim.Native.Nat.{ℕ, _+_}
+use mathlib.Core.List.{List, [], _∷_, _++_, flatMap}
+use Prim.Native.Nat.{ℕ, zero, suc, _+_, _<_}
+use native.Mathlib.Nat.{not-suc-le-zero, le-of-suc-le-suc, add-zero, add-suc, suc-add}
 use native.Mathlib.Omega.{arith}
-use lib.Dec.{T, T-not, not-T}
-use lib.ListN.{length}
-use Rattle.finite.specs.Tests.{and-left, and-right, and-both, decide, is-true, is-false}
-use Rattle.finite.specs.Bounded.{one-if}
-use Rattle.finite.specs.Lists.{elem, count-in, distinct, elem-head, elem-tail, elem-cases, elem-append, elem-append-left, elem-append-right}
+use lib.Dec.{T, eqb, eqb→eq, eqb-refl, T-not}
+use lib.ListN.{length, getD}
+use Rattle.finite.specs.Tests.{and-left, and-right, and-both, or-cases, or-left, or-right}
+use Rattle.finite.specs.Tests.{decide, is-true, is-false}
+use Rattle.finite.specs.Lists.{elem, all-in, all-places, total, insert, union}
 
--- ---- members of what is put together
+-- ---- a member
+
+pub elem-head : (x : ℕ) (s : List ℕ) → T (elem x (x ∷ s))
+unfolding elem
+elem-head x s = or-left (eqb x x) (elem x s) (eqb-refl x)
+
+pub elem-tail : (x y : ℕ) (s : List ℕ) → T (elem x s) → T (elem x (y ∷ s))
+unfolding elem
+elem-tail x y s t = or-right (eqb x y) (elem x s) t
+
+pub elem-cases : (x y : ℕ) (s : List ℕ) → T (elem x (y ∷ s)) → (x ≡ y) ⊎ T (elem x s)
+unfolding elem
+elem-cases x y s t =
+    ⊎-elim (λ (h : T (eqb x y)). inl (eqb→eq x y h)) (λ h. inr h) (or-cases (eqb x y) (elem x s) t)
+
+pub elem-one : (x y : ℕ) → T (elem x (y ∷ [])) → x ≡ y
+unfolding elem
+elem-one x y t = ⊎-elim (λ (e : x ≡ y). e) (λ (h : ⊥). absurd h) (elem-cases x y [] t)
+
+-- a test that passes at all members passes at each, and the other way round
+pub all-elem : (p : ℕ → Bool) (s : List ℕ) → T (all-in p s) → (x : ℕ) → T (elem x s) → T (p x)
+unfolding all-in elem
+all-elem p [] t x h = absurd h
+all-elem p (y ∷ s) t x h =
+    ⊎-elim
+    (λ (e : x ≡ y). subst (λ (z : ℕ). T (p z)) (sym e) (and-left (p y) (all-in p s) t))
+    (λ (m : T (elem x s)). all-elem p s (and-right (p y) (all-in p s) t) x m)
+    (elem-cases x y s h)
+
+pub all-of-elem : (p : ℕ → Bool) (s : List ℕ) → ((x : ℕ) → T (elem x s) → T (p x)) → T (all-in p s)
+unfolding all-in
+all-of-elem p [] f = tt
+all-of-elem p (y ∷ s) f =
+    and-both (p y) (all-in p s) (f y (elem-head y s)) (all-of-elem p s (λ x h. f x (elem-tail x y s h)))
+
+-- a test that does not pass at all members fails at one
+pub some-fails : (p : ℕ → Bool) (s : List ℕ) → T (not (all-in p s)) → (x : ℕ) × T (elem x s) × T (not (p x))
+unfolding all-in
+some-fails p [] t = absurd t
+some-fails p (y ∷ s) t =
+    ⊎-elim
+    (λ (h : T (p y)).
+    let i = some-fails p s (rw (is-true (p y) h) at t) in (i .0, elem-tail (i .0) y s (i .1), i .2))
+    (λ (h : T (not (p y))). (y, elem-head y s, h))
+    (decide (p y))
+
+-- ---- membership in what is put together
+
+pub elem-append : (x : ℕ) (s t : List ℕ) → T (elem x (s ++ t)) → T (elem x s) ⊎ T (elem x t)
+elem-append x [] t h = inr h
+elem-append x (y ∷ s) t h =
+    ⊎-elim
+    (λ (e : x ≡ y). inl (rw e (elem-head y s)))
+    (λ (m : T (elem x (s ++ t))).
+    ⊎-elim (λ (l : T (elem x s)). inl (elem-tail x y s l)) (λ r. inr r) (elem-append x s t m))
+    (elem-cases x y (s ++ t) h)
+
+pub elem-append-left : (x : ℕ) (s t : List ℕ) → T (elem x s) → T (elem x (s ++ t))
+unfolding elem
+elem-append-left x [] t h = absurd h
+elem-append-left x (y ∷ s) t h =
+    ⊎-elim
+    (λ (e : x ≡ y). rw e (elem-head y (s ++ t)))
+    (λ (m : T (elem x s)). elem-tail x y (s ++ t) (elem-append-left x s t m))
+    (elem-cases x y s h)
+
+pub elem-append-right : (x : ℕ) (s t : List ℕ) → T (elem x t) → T (elem x (s ++ t))
+elem-append-right x [] t h = h
+elem-append-right x (y ∷ s) t h = elem-tail x y (s ++ t) (elem-append-right x s t h)
+
+-- what is inserted is there already, or goes to the end
+insert-cases : (y : ℕ) (s : List ℕ) → (T (elem y s) × (insert y s ≡ s)) ⊎ (insert y s ≡ s ++ y ∷ [])
+unfolding insert
+insert-cases y s =
+    ⊎-elim
+    (λ (t : T (elem y s)). inl (t, rw (is-true (elem y s) t)))
+    (λ (t : T (not (elem y s))). inr (rw (is-false (elem y s) (T-not (elem y s) t))))
+    (decide (elem y s))
+
+pub elem-insert : (x y : ℕ) (s : List ℕ) → T (elem x (insert y s)) → (x ≡ y) ⊎ T (elem x s)
+elem-insert x y s h =
+    ⊎-elim
+    (λ old. inr (rw (old .1) at h))
+    (λ (new : insert y s ≡ s ++ y ∷ []).
+    ⊎-elim
+    (λ (l : T (elem x s)). inr l)
+    (λ (r : T (elem x (y ∷ []))). inl (elem-one x y r))
+    (elem-append x s (y ∷ []) (rw new at h)))
+    (insert-cases y s)
+
+pub elem-inserted : (y : ℕ) (s : List ℕ) → T (elem y (insert y s))
+elem-inserted y s =
+    ⊎-elim
+    (λ old. rw (old .1) (old .0))
+    (λ (new : insert y s ≡ s ++ y ∷ []). rw new (elem-append-right y s (y ∷ []) (elem-head y [])))
+    (insert-cases y s)
+
+pub elem-insert-old : (x y : ℕ) (s : List ℕ) → T (elem x s) → T (elem x (insert y s))
+elem-insert-old x y s h =
+    ⊎-elim
+    (λ old. rw (old .1) h)
+    (λ (new : insert y s ≡ s ++ y ∷ []). rw new (elem-append-left x s (y ∷ []) h))
+    (insert-cases y s)
+
+pub elem-union : (x : ℕ) (s t : List ℕ) → T (elem x (union s t)) → T (elem x s) ⊎ T (elem x t)
+unfolding union
+elem-union x [] t h = inr h
+elem-union x (y ∷ s) t h =
+    ⊎-elim
+    (λ (l : T (elem x s)). inl (elem-tail x y s l))
+    (λ (r : T (elem x (insert y t))).
+    ⊎-elim (λ (e : x ≡ y). inl (rw e (elem-head y s))) (λ m. inr m) (elem-insert x y t r))
+    (elem-union x s (insert y t) h)
+
+pub elem-union-right : (x : ℕ) (s t : List ℕ) → T (elem x t) → T (elem x (union s t))
+unfolding union
+elem-union-right x [] t h = h
+elem-union-right x (y ∷ s) t h = elem-union-right x s (insert y t) (elem-insert-old x y t h)
+
+pub elem-union-left : (x : ℕ) (s t : List ℕ) → T (elem x s) → T (elem x (union s t))
+unfolding union elem
+elem-union-left x [] t h = absurd h
+elem-union-left x (y ∷ s) t h =
+    ⊎-elim
+    (λ (e : x ≡ y). rw e (elem-union-right y s (insert y t) (elem-inserted y t)))
+    (λ (m : T (elem x s)). elem-union-left x s (insert y t) m)
+    (elem-cases x y s h)
+
+pub elem-flatMap : (y : ℕ) (f : ℕ → List ℕ) (s : List ℕ) → T (elem y (flatMap f s)) →
+    (x : ℕ) × T (elem x s) × T (elem y (f x))
+unfolding flatMap elem
+elem-flatMap y f [] h = absurd h
+elem-flatMap y f (x ∷ s) h =
+    ⊎-elim
+    (λ (l : T (elem y (f x))). (x, elem-head x s, l))
+    (λ (r : T (elem y (flatMap f s))).
+    let i = elem-flatMap y f s r in (i .0, elem-tail (i .0) x s (i .1), i .2))
+    (elem-append y (f x) (flatMap f s) h)
+
+pub elem-flatMap-by : (y x : ℕ) (f : ℕ → List ℕ) (s : List ℕ) → T (elem x s) → T (elem y (f x)) →
+    T (elem y (flatMap f s))
+unfolding flatMap elem
+elem-flatMap-by y x f [] h m = absurd h
+elem-flatMap-by y x f (z ∷ s) h m =
+    ⊎-elim
+    (λ (e : x ≡ z). elem-append-left y (f z) (flatMap f s) (rw e at m))
+    (λ (t : T (elem x s)). elem-append-right y (f z) (flatMap f s) (elem-flatMap-by y x f s t m))
+    (elem-cases x z s h)
+
+-- ---- a member and its place
 
 -- a member cuts its list in two
 pub elem-cut : (x : ℕ) (s : List ℕ) → T (elem x s) → (u : List ℕ) × (v : List ℕ) × (s ≡ u ++ x ∷ v)
@@ -31,105 +182,47 @@ elem-middle x s t = elem-append-right x s (x ∷ t) (elem-head x t)
 pub elem-swap : (x : ℕ) (s t : List ℕ) → T (elem x (s ++ t)) → T (elem x (t ++ s))
 elem-swap x s t m = ⊎-elim (elem-append-right x t s) (elem-append-left x t s) (elem-append x s t m)
 
--- ---- no member twice
+-- ---- place by place
 
-pub distinct-head : (x : ℕ) (s : List ℕ) → T (distinct (x ∷ s)) → ¬ T (elem x s)
-unfolding distinct
-distinct-head x s t = T-not (elem x s) (and-left (not (elem x s)) (distinct s) t)
+module _ {ℓ} {A : Type ℓ} where
+  -- a test that passes at all members passes at each place, and the other way round
+  pub all-in-at : (p : A → Bool) (s : List A) → T (all-in p s) → (k : ℕ) (d : A) → k < length s → T (p (getD s k d))
+  unfolding all-in
+  all-in-at p [] t k d h = absurd (not-suc-le-zero h)
+  all-in-at p (x ∷ s) t zero d h = and-left (p x) (all-in p s) t
+  all-in-at p (x ∷ s) t (suc k) d h = all-in-at p s (and-right (p x) (all-in p s) t) k d (le-of-suc-le-suc h)
 
-pub distinct-cons : (x : ℕ) (s : List ℕ) → ¬ T (elem x s) → T (distinct s) → T (distinct (x ∷ s))
-unfolding distinct
-distinct-cons x s new t = and-both (not (elem x s)) (distinct s) (not-T (elem x s) new) t
+  pub all-in-by : (p : A → Bool) (s : List A) (d : A) → ((k : ℕ) → k < length s → T (p (getD s k d))) → T (all-in p s)
+  unfolding all-in
+  all-in-by p [] d f = tt
+  all-in-by p (x ∷ s) d f =
+      and-both (p x) (all-in p s) (f 0 (omega arith)) (all-in-by p s d (λ k h. f (suc k) (omega arith)))
 
--- two lists without repetition, and without a common member
-pub distinct-join : (s t : List ℕ) → T (distinct s) → T (distinct t) →
-    ((x : ℕ) → T (elem x s) → ¬ T (elem x t)) →
-    T (distinct (s ++ t))
-unfolding distinct
-distinct-join [] t d e apart = e
-distinct-join (y ∷ s) t d e apart =
-    and-both (not (elem y (s ++ t))) (distinct (s ++ t))
-    (not-T (elem y (s ++ t))
-    (λ m.
-    ⊎-elim
-    (T-not (elem y s) (and-left (not (elem y s)) (distinct s) d))
-    (apart y (elem-head y s))
-    (elem-append y s t m)))
-    (distinct-join s t (and-right (not (elem y s)) (distinct s) d) e (λ x m. apart x (elem-tail x y s m)))
+  pub all-places-at : (p : ℕ → A → Bool) (i : ℕ) (s : List A) → T (all-places p i s) → (k : ℕ) (d : A) → k < length s → T (p (i + k) (getD s k d))
+  unfolding all-places
+  all-places-at p i [] t k d h = absurd (not-suc-le-zero h)
+  all-places-at p i (x ∷ s) t zero d h =
+      rw add-zero (and-left (p i x) (all-places p (suc i) s) t)
+  all-places-at p i (x ∷ s) t (suc k) d h =
+      subst (λ (j : ℕ). T (p j (getD s k d))) (suc-add i k ∙ sym (add-suc i k))
+      (all-places-at p (suc i) s (and-right (p i x) (all-places p (suc i) s) t) k d (le-of-suc-le-suc h))
 
-pub distinct-left : (s t : List ℕ) → T (distinct (s ++ t)) → T (distinct s)
-unfolding distinct
-distinct-left [] t d = tt
-distinct-left (y ∷ s) t d =
-    and-both (not (elem y s)) (distinct s)
-    (not-T (elem y s)
-    (λ m.
-    T-not (elem y (s ++ t)) (and-left (not (elem y (s ++ t))) (distinct (s ++ t)) d) (elem-append-left y s t m)))
-    (distinct-left s t (and-right (not (elem y (s ++ t))) (distinct (s ++ t)) d))
+  pub all-places-by : (p : ℕ → A → Bool) (i : ℕ) (s : List A) (d : A) → ((k : ℕ) → k < length s → T (p (i + k) (getD s k d))) → T (all-places p i s)
+  unfolding all-places
+  all-places-by p i [] d f = tt
+  all-places-by p i (x ∷ s) d f =
+      and-both (p i x) (all-places p (suc i) s) (rw add-zero at (f 0 (omega arith)))
+      (all-places-by p (suc i) s d
+      (λ k h.
+      subst (λ (j : ℕ). T (p j (getD s k d))) (add-suc i k ∙ sym (suc-add i k)) (f (suc k) (omega arith))))
 
-pub distinct-right : (s t : List ℕ) → T (distinct (s ++ t)) → T (distinct t)
-unfolding distinct
-distinct-right [] t d = d
-distinct-right (y ∷ s) t d = distinct-right s t (and-right (not (elem y (s ++ t))) (distinct (s ++ t)) d)
+  -- within a list the default does not matter
+  pub getD-any : (s : List A) (k : ℕ) (d e : A) → k < length s → getD s k d ≡ getD s k e
+  getD-any [] k d e h = absurd (not-suc-le-zero h)
+  getD-any (x ∷ s) zero d e h = refl
+  getD-any (x ∷ s) (suc k) d e h = getD-any s k d e (le-of-suc-le-suc h)
 
-pub distinct-apart : (s t : List ℕ) → T (distinct (s ++ t)) → (x : ℕ) → T (elem x s) → ¬ T (elem x t)
-unfolding distinct elem
-distinct-apart [] t d x m k = m
-distinct-apart (y ∷ s) t d x m k =
-    ⊎-elim
-    (λ (e : x ≡ y).
-    T-not (elem y (s ++ t)) (and-left (not (elem y (s ++ t))) (distinct (s ++ t)) d)
-    (elem-append-right y s t (rw e at k)))
-    (λ (i : T (elem x s)).
-    distinct-apart s t (and-right (not (elem y (s ++ t))) (distinct (s ++ t)) d) x i k)
-    (elem-cases x y s m)
-
-pub distinct-swap : (s t : List ℕ) → T (distinct (s ++ t)) → T (distinct (t ++ s))
-distinct-swap s t d =
-    distinct-join t s (distinct-right s t d) (distinct-left s t d) (λ x m k. distinct-apart s t d x k m)
-
--- ---- counts
-
-module _ (p : ℕ → Bool) where
-  pub count-in-append : (s t : List ℕ) → count-in p (s ++ t) ≡ count-in p s + count-in p t
-  unfolding count-in
-  count-in-append [] t = omega arith
-  count-in-append (x ∷ s) t = omega (arith, count-in-append s t)
-
-  pub count-in-swap : (s t : List ℕ) → count-in p (s ++ t) ≡ count-in p (t ++ s)
-  count-in-swap s t = omega (arith, count-in-append s t, count-in-append t s)
-
-  pub count-in-all : (s : List ℕ) → ((x : ℕ) → T (elem x s) → T (p x)) → count-in p s ≡ length s
-  unfolding count-in one-if
-  count-in-all [] f = refl
-  count-in-all (x ∷ s) f =
-      rw (is-true (p x) (f x (elem-head x s)))
-      (omega (arith, count-in-all s (λ y m. f y (elem-tail y x s m))))
-
-  pub count-in-none : (s : List ℕ) → ((x : ℕ) → T (elem x s) → ¬ T (p x)) → count-in p s ≡ 0
-  unfolding count-in one-if
-  count-in-none [] f = refl
-  count-in-none (x ∷ s) f =
-      rw (is-false (p x) (f x (elem-head x s)))
-      (omega (arith, count-in-none s (λ y m. f y (elem-tail y x s m))))
-
-  pub count-in-zero : (s : List ℕ) → count-in p s ≡ 0 → (x : ℕ) → T (elem x s) → ¬ T (p x)
-  unfolding count-in elem one-if
-  count-in-zero [] e x m t = m
-  count-in-zero (y ∷ s) e x m t =
-      ⊎-elim
-      (λ (k : x ≡ y). let one = ap one-if (is-true (p y) (rw k at t)) in omega arith)
-      (λ (k : T (elem x s)). count-in-zero s (omega arith) x k t)
-      (elem-cases x y s m)
-
-  pub count-in-some : (s : List ℕ) → count-in p s ≢ 0 → (x : ℕ) × T (elem x s) × T (p x)
-  unfolding count-in one-if
-  count-in-some [] n = absurd (n refl)
-  count-in-some (y ∷ s) n =
-      ⊎-elim
-      (λ (t : T (p y)). (y, elem-head y s, t))
-      (λ (t : T (not (p y))).
-      let none = ap one-if (is-false (p y) (T-not (p y) t)) in
-      let r = count-in-some s (omega arith) in
-      (r .0, elem-tail (r .0) y s (r .1), r .2))
-      (decide (p y))
+pub total-append : (s t : List ℕ) → total (s ++ t) ≡ total s + total t
+unfolding total
+total-append [] t = omega arith
+total-append (x ∷ s) t = omega (arith, total-append s t)

@@ -20,8 +20,9 @@ use lib.ListN.{length, getD, set, drop, length-drop, length-set}
 use lib.Seq.{getD-drop, getD-set-same, getD-set-other, ext-getD}
 use Rattle.finite.specs.Tests.{of-true, same-test}
 use Rattle.finite.specs.Bounded.{all, any, table, all-at, all-by, any-at, any-by, below-suc, length-table, getD-table}
-use Rattle.finite.specs.Lists.{all-in, all-places, ring, getD-any}
-use Rattle.finite.specs.Lists.{all-in-at, all-in-by, all-places-at, all-places-by}
+use Rattle.finite.specs.Lists.{all-in, all-places, ring}
+use Rattle.finite.specs.ListLaws.{getD-any, all-in-at, all-in-by, all-places-at}
+use Rattle.finite.specs.ListLaws.{all-places-by}
 
 -- what `if !r { return false; }` tells, where the code found r for the test t
 pub passes : {r t : Bool} → r ≡ t → not r ≡ false → t ≡ true

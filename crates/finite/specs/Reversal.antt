@@ -8,7 +8,8 @@ use Prim.Native.Nat.{ℕ}
 use native.Mathlib.Omega.{arith}
 use lib.Dec.{T}
 use lib.ListN.{length, length-append}
-use Rattle.finite.specs.Lists.{elem, elem-head, elem-tail, elem-one, elem-append}
+use Rattle.finite.specs.Lists.{elem}
+use Rattle.finite.specs.ListLaws.{elem-head, elem-tail, elem-one, elem-append}
 use Rattle.finite.specs.Cycles.{Chain, Cycle, chain-join}
 
 module _ (E : ℕ → ℕ → Type 0) where

@@ -10,8 +10,9 @@ use Prim.Native.Nat.{ℕ, _+_, _≤_}
 use native.Mathlib.Omega.{arith}
 use lib.Dec.{T}
 use lib.ListN.{length}
-use Rattle.finite.specs.Lists.{elem, elem-append-left}
-use Rattle.finite.specs.ListLaws.{count-in-zero, count-in-some}
+use Rattle.finite.specs.Lists.{elem}
+use Rattle.finite.specs.ListLaws.{elem-append-left}
+use Rattle.finite.specs.Distinct.{count-in-zero, count-in-some}
 use Rattle.model.specs.declared.Point.{Point}
 use Rattle.model.specs.declared.Map.{Map}
 use Rattle.model.specs.declared.Offered.{Offered}

@@ -13,7 +13,8 @@ use lib.Dec.{T, ltb, lt→ltb}
 use lib.ListN.{length}
 use Rattle.finite.specs.Tests.{is-true, is-false, same-or-not}
 use Rattle.finite.specs.Bounded.{one-if, table, table-onto, table-more, table-same, lt-or-ge}
-use Rattle.finite.specs.Lists.{elem, distinct, count-in, total, total-append}
+use Rattle.finite.specs.Lists.{elem, distinct, count-in, total}
+use Rattle.finite.specs.ListLaws.{total-append}
 use Rattle.model.specs.declared.Point.{Point}
 use Rattle.model.specs.declared.Map.{Map}
 use Rattle.model.specs.declared.Offered.{Offered}

@@ -14,7 +14,8 @@ use lib.ListN.{length, getD, set}
 use lib.Seq.{set-out, getD-set-same, getD-set-other}
 use Rattle.finite.specs.Tests.{and-both, decide, same-or-not}
 use Rattle.finite.specs.Bounded.{lt-or-ge}
-use Rattle.finite.specs.Lists.{elem, first-in, elem-head, elem-tail}
+use Rattle.finite.specs.Lists.{elem, first-in}
+use Rattle.finite.specs.ListLaws.{elem-head, elem-tail}
 use Rattle.orbits.specs.Sets.{dart-limit}
 use Rattle.model.specs.declared.Point.{Point}
 use Rattle.model.specs.declared.Map.{Map}

@@ -13,8 +13,8 @@ use borrow.Rule.Slice.PartMut.{midOf, putMid}
 use lib.ListN.{length, take, drop, length-append, length-drop, drop-of-length-le}
 use lib.Seq.{take-add, take-all, drop-drop, take-append-seam, drop-append-seam}
 use Rattle.finite.specs.Bounded.{table, table-onto, table-same, flatten-more, below-suc}
+use Rattle.finite.specs.Overwriting.{over}
 use Rattle.model.specs.Saved.{Bytes, big-endian, number-at, block, field}
-use Rattle.layout.specs.Writing.{over}
 use Rattle.layout.proofs.Digits.{length-big-endian, number-past, number-before, number-back}
 use Rattle.layout.proofs.Digits.{bytes-back}
 
@@ -86,11 +86,6 @@ block-back {s} b at (suc k) w h =
     ∙ ap (λ (j : ℕ). take j (drop at s)) (sym (mul-suc w k))
 
 -- ---- written over the front of a list
-
-pub length-over : (s before : List ℕ) → length s ≤ length before →
-    length (over s before) ≡ length before
-length-over s before h =
-    length-append s (drop (length s) before) ∙ omega (arith, length-drop (length s) before)
 
 -- the piece b is written over what follows the piece a: `last` is what the part from `at` on then
 -- holds

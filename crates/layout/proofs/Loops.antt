@@ -1,20 +1,19 @@
 -- The loops that read a number byte by byte, highest first, and write one, lowest first: each an
 -- invariant with the laws of its start, of one byte more, and of its end. Assumes nothing.
 use mathlib.Core.Path.{_≡_, refl, sym, ap, subst, _∙_}
-use mathlib.Core.List.{List, _∷_, _++_, flatten, append-assoc}
+use mathlib.Core.List.{List, flatten}
 use Prim.Native.Nat.{ℕ, suc, _+_, _-_, _*_, _/_, _%_, _^_, _≤_, _<_}
 use native.Mathlib.Nat.{pow-suc, div-one, div-div-eq-div-mul, le-trans, pow-le-pow-right, mul-add}
 use native.Mathlib.Numerals.{add-one}
 use native.Mathlib.Omega.{arith}
 use borrow.Rule.Slice.PartMut.{midOf, putMid}
 use lib.Arith.{digits-lt}
-use lib.ListN.{length, getD, take, drop, set, take-append-drop}
-use lib.Seq.{take-suc, set-at, length-take-le}
+use lib.ListN.{length, getD, set}
 use Rattle.finite.specs.Bounded.{table, table-onto}
+use Rattle.finite.specs.Overwriting.{over, over-at, over-front, over-length, over-nothing, over-before}
 use Rattle.model.specs.Saved.{big-endian, number-at, block}
-use Rattle.layout.specs.Writing.{over}
 use Rattle.layout.proofs.Digits.{length-big-endian}
-use Rattle.layout.proofs.Blocks.{block-more, length-block, length-over, piece-written}
+use Rattle.layout.proofs.Blocks.{block-more, length-block, piece-written}
 
 -- ---- a number that is read byte by byte
 
@@ -52,14 +51,7 @@ module _ {s : List ℕ} {at i number : ℕ} (r : NumberRead s at i number) where
 pub record NumberPut (before : List ℕ) (width value left rest : ℕ) (lent : List ℕ) : Type 0 where
   pub ahead : left ≤ width
   pub rest-is : rest ≡ value / 256 ^ (width - left)
-  pub lent-is : lent ≡ take left before ++ (big-endian (width - left) value ++ drop width before)
-
--- the byte before what is written
-put-byte : (before : List ℕ) (j v : ℕ) (written : List ℕ) → j < length before →
-    set (take (suc j) before ++ written) j v ≡ take j before ++ (v ∷ written)
-put-byte before j v written l =
-    rw (take-suc before j 0, append-assoc)
-    (set-at (take j before) (getD before j 0) written v j (length-take-le j before (omega arith)))
+  pub lent-is : lent ≡ over-at before left (big-endian (width - left) value)
 
 pub no-byte-put : (before : List ℕ) (width value : ℕ) →
     NumberPut before width value width value before
@@ -69,7 +61,7 @@ no-byte-put before width value =
     record {
       ahead = omega arith;
       rest-is = rw e (sym (div-one value));
-      lent-is = rw e (sym (take-append-drop width before));
+      lent-is = rw e (sym (over-nothing before width));
     }
 
 pub one-byte-put : {before : List ℕ} {width value left rest : ℕ} {lent : List ℕ} →
@@ -79,7 +71,7 @@ pub one-byte-put : {before : List ℕ} {width value left rest : ℕ} {lent : Lis
 unfolding big-endian
 one-byte-put {before} {width} {value} {left} {rest} {lent} p fits l =
     let h = p .ahead in
-    let e : left ≡ suc (left - 1) = omega arith in
+    let e : left ≡ left - 1 + 1 = omega arith in
     let f : width - (left - 1) ≡ suc (width - left) = omega arith in
     record {
       ahead = omega arith;
@@ -87,12 +79,13 @@ one-byte-put {before} {width} {value} {left} {rest} {lent} p fits l =
       lent-is =
           rw (f, ← p .rest-is)
           (ap (λ (s : List ℕ). set s (left - 1) (rest % 256))
-          (p .lent-is ∙ ap (λ (j : ℕ). take j before ++ written) e)
-          ∙ put-byte before (left - 1) (rest % 256) written (omega arith));
+          (p .lent-is ∙ ap (λ (j : ℕ). over-at before j written) e)
+          ∙ over-before before (left - 1) (rest % 256) written
+          (omega (arith, length-big-endian (width - left) value)));
     }
   where
     written : List ℕ
-    written = big-endian (width - left) value ++ drop width before
+    written = big-endian (width - left) value
 
 pub all-bytes-put : {before : List ℕ} {width value left rest : ℕ} {lent : List ℕ} →
     NumberPut before width value left rest lent →
@@ -100,7 +93,7 @@ pub all-bytes-put : {before : List ℕ} {width value left rest : ℕ} {lent : Li
 all-bytes-put {before} {width} {value} {left} p l =
     let e : left ≡ 0 = omega arith in
     let f : width - left ≡ width = omega arith in
-    rw (length-big-endian) (rw (e) at (rw f at (p .lent-is)))
+    rw e at (rw f at (p .lent-is)) ∙ over-front before (big-endian width value)
 
 -- ---- a block that is written field by field
 
@@ -126,7 +119,7 @@ module _ {f : ℕ → ℕ} {w n : ℕ} {before : List ℕ} {k : ℕ} {lent : Lis
       record {
         within = omega arith;
         lent-is = written;
-        same-length = ap length written ∙ length-over (block (k + 1) w f) before (rw length-block h);
+        same-length = ap length written ∙ over-length (block (k + 1) w f) before (rw length-block h);
       }
     where
       written : putMid at (length lent - at) lent last ≡ over (block (k + 1) w f) before

@@ -6,7 +6,7 @@ ghost use Rattle.integers.specs.Range.{Bounded};
 ghost use lib.ListN.{length};
 ghost use Rattle.model.specs.Plane.{coordinate-limit};
 ghost use Rattle.model.specs.Saved.{big-endian, complement, number-at, signed};
-ghost use Rattle.layout.specs.Writing.{over};
+ghost use Rattle.finite.specs.Overwriting.{over};
 
 // What a number of 4 bytes stands below.
 const WORD: i64 = 4294967296;

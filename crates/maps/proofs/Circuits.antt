@@ -14,9 +14,10 @@ use lib.ListN.{length}
 use borrow.Author.Tests.{le-ltb}
 use Rattle.finite.specs.Bounded.{count}
 use Rattle.finite.specs.Counting.{count-small}
-use Rattle.finite.specs.Lists.{elem, distinct, length-distinct}
+use Rattle.finite.specs.Lists.{elem, distinct}
+use Rattle.finite.specs.ListLaws.{elem-swap}
+use Rattle.finite.specs.Distinct.{length-distinct, distinct-swap}
 use Rattle.finite.specs.Cycles.{Cycle, cycle-rotate}
-use Rattle.finite.specs.ListLaws.{distinct-swap, elem-swap}
 use Rattle.finite.specs.CycleLaws.{cycle-change, cycle-after, cycle-before, cycle-holds, ring-of-cycle}
 use Rattle.orbits.specs.Reach.{Reach, here}
 use Rattle.orbits.specs.Classes.{is-closed}

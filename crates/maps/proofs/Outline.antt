@@ -15,7 +15,8 @@ use Prim.Native.Nat.{ℕ, _≤_}
 use native.Mathlib.Omega.{arith}
 use lib.Dec.{T}
 use lib.ListN.{length}
-use Rattle.finite.specs.Lists.{elem, elem-head, elem-one}
+use Rattle.finite.specs.Lists.{elem}
+use Rattle.finite.specs.ListLaws.{elem-head, elem-one}
 use Rattle.finite.specs.Cycles.{Cycle}
 use Rattle.finite.specs.CycleLaws.{cycle-change}
 use Rattle.orbits.specs.Reach.{Reach, here, reaches}

@@ -11,7 +11,8 @@ use lib.Dec.{T}
 use lib.ListN.{set, length-set}
 use lib.Seq.{getD-set-same, getD-set-other}
 use Rattle.finite.specs.Tests.{same-or-not, of-true}
-use Rattle.finite.specs.Lists.{elem, distinct, elem-head, elem-tail, elem-cases, elem-one}
+use Rattle.finite.specs.Lists.{elem, distinct}
+use Rattle.finite.specs.ListLaws.{elem-head, elem-tail, elem-cases, elem-one}
 use Rattle.finite.specs.Cycles.{Chain, Cycle}
 use Rattle.model.specs.declared.Point.{Point}
 use Rattle.model.specs.declared.Map.{Map}

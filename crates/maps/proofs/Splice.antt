@@ -10,9 +10,11 @@ use native.Mathlib.Omega.{arith}
 use lib.Dec.{T, T-not}
 use lib.ListN.{length}
 use Rattle.finite.specs.Tests.{decide, same-or-not}
-use Rattle.finite.specs.Lists.{elem, distinct, elem-head, elem-tail, elem-cases, elem-append-left, elem-append-right}
+use Rattle.finite.specs.Lists.{elem, distinct}
+use Rattle.finite.specs.ListLaws.{elem-head, elem-tail, elem-cases, elem-append-left}
+use Rattle.finite.specs.ListLaws.{elem-append-right}
+use Rattle.finite.specs.Distinct.{distinct-head, distinct-cons, distinct-left, distinct-apart}
 use Rattle.finite.specs.Cycles.{Chain, Cycle, chain-cut, chain-join}
-use Rattle.finite.specs.ListLaws.{distinct-head, distinct-cons, distinct-left, distinct-apart}
 use Rattle.finite.specs.CycleLaws.{chain-change, chain-next}
 use Rattle.orbits.specs.Sets.{dart-limit}
 use Rattle.orbits.specs.Reach.{Reach}

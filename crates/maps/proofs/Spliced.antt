@@ -13,7 +13,9 @@ use lib.Dec.{T}
 use lib.ListN.{length, set, length-set}
 use lib.Seq.{getD-set-same, getD-set-other}
 use Rattle.finite.specs.Tests.{same-or-not, of-true}
-use Rattle.finite.specs.Lists.{elem, elem-head, elem-cases, elem-one, elem-append, elem-append-left, elem-append-right}
+use Rattle.finite.specs.Lists.{elem}
+use Rattle.finite.specs.ListLaws.{elem-head, elem-cases, elem-one, elem-append, elem-append-left}
+use Rattle.finite.specs.ListLaws.{elem-append-right}
 use Rattle.orbits.specs.Sets.{dart-limit}
 use Rattle.orbits.specs.Links.{link-of}
 use Rattle.model.specs.declared.Point.{Point}

@@ -19,8 +19,9 @@ use lib.ListN.{length, length-append}
 use borrow.Author.Tests.{lt-ltb}
 use Rattle.finite.specs.Tests.{decide}
 use Rattle.finite.specs.Bounded.{lt-or-ge}
-use Rattle.finite.specs.Lists.{elem, elem-head, elem-tail, elem-cases}
-use Rattle.finite.specs.ListLaws.{elem-cut, distinct-head}
+use Rattle.finite.specs.Lists.{elem}
+use Rattle.finite.specs.ListLaws.{elem-head, elem-tail, elem-cases, elem-cut}
+use Rattle.finite.specs.Distinct.{distinct-head}
 use Rattle.finite.specs.CycleLaws.{cycle-change}
 use Rattle.finite.specs.Reversal.{Converse, Reversed, cycle-reversed}
 use Rattle.orbits.specs.Reach.{here}

@@ -15,7 +15,9 @@ use lib.Seq.{getD-drop}
 use Rattle.integers.specs.Order.{eqZ, eqZ-true, eq-eqZ}
 use Rattle.finite.specs.Tests.{_⇒_, and-left, and-right, and-both, or-cases, or-left, or-right, implies-use, implies-by, decide, is-true, of-true, differ-use, differ-by, equal-by}
 use Rattle.finite.specs.Bounded.{all-at, all-by, lt-or-ge}
-use Rattle.finite.specs.Lists.{elem, all-in, all-elem, all-of-elem, all-in-at, all-in-by, all-places-at, all-places-by, getD-any}
+use Rattle.finite.specs.Lists.{elem, all-in}
+use Rattle.finite.specs.ListLaws.{all-elem, all-of-elem, all-in-at, all-in-by, all-places-at}
+use Rattle.finite.specs.ListLaws.{all-places-by, getD-any}
 use Rattle.orbits.specs.Sets.{dart-limit}
 use Rattle.orbits.specs.Classes.{is-fixed, is-closed}
 use Rattle.model.specs.declared.Point.{Point}

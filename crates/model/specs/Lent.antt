@@ -1,15 +1,25 @@
--- Results that are written into a lent list of any element, in the order of this page: the call, with the
--- rules that come before number 10; what the list then holds; what an entry promises of both.
+-- Results that are written into a lent list of any element, in the order of this page: number 10; the
+-- call, with the rules that come before it; what the list then holds; what an entry promises of both.
 -- Document 01, number 10: "lent list shorter than the result; a longer one keeps its tail". A
 -- refused call leaves the list as it was. Assumes nothing.
 use mathlib.Core.Path.{_≡_}
+use mathlib.Core.Bool.{Bool}
 use mathlib.Core.List.{List, [], _∷_, _++_}
 use lib.Dec.{ltb}
-use lib.ListN.{length, drop}
+use lib.ListN.{length}
+use Rattle.finite.specs.Overwriting.{over}
 use Rattle.model.specs.declared.Refusal.{Refusal}
 use Rattle.model.specs.declared.Written.{Written}
-use Rattle.model.specs.Refusals.{Rule, _when_}
+use Rattle.model.specs.Refusals.{Rule, _when_, unless}
 use Rattle.model.specs.Answers.{Call, Answered, written-answer}
+
+-- the list is shorter than the result
+abbrev pub is-short : {A : Type 0} → List A → List A → Bool
+is-short result lent = ltb (length lent) (length result)
+
+-- number 10 after the other rules
+abbrev pub and-short : List Rule → Bool → List Rule
+and-short rules short = rules ++ (Refusal.ShortList when short) ∷ []
 
 module _ {A : Type 0} (rules : List Rule) (result lent : List A) where
   -- a call that writes `result` into the list, after the rules that come before 10
@@ -18,16 +28,16 @@ module _ {A : Type 0} (rules : List Rule) (result lent : List A) where
       record {
         meaning = written-answer;
         refuse = Written.Refused;
-        rules = rules ++ (Refusal.ShortList when ltb (length lent) (length result)) ∷ [];
+        rules = and-short rules (is-short result lent);
         value = Written.Length (length result);
       }
 
--- what the list then holds
-unfoldable pub lent-after {ℓ} : {A : Type ℓ} → Written → List A → List A → List A
-lent-after (Written.Length n) result lent = result ++ drop (length result) lent
-lent-after (Written.Refused r) result lent = lent
+  -- what the list holds after a call with these rules: what it held where one applies, and otherwise
+  -- the result over its front
+  abbrev pub lent-after : List A
+  lent-after = unless (λ r. lent) rules (over result lent)
 
 -- what an entry promises that is lent a list: its answer, and the list as it leaves it
 pub record Wrote {A : Type 0} (rules : List Rule) (result before after : List A) (r : Written) : Type 0 where
   pub answer : Answered (writing rules result before) r
-  pub list : after ≡ lent-after r result before
+  pub list : after ≡ lent-after (writing rules result before .rules) result before

@@ -14,7 +14,11 @@ use lib.Dec.{T, T-not, not-T, eqb, ltb, ltb→lt, nltb→le}
 use Rattle.finite.specs.Tests.{and-left, and-right, and-both, decide, same-test, differ-by, differ-use}
 use Rattle.finite.specs.Bounded.{all-at, all-by, count}
 use Rattle.finite.specs.Counting.{count-same, count-one-more, count-injection, least-passing}
-use Rattle.finite.specs.Lists.{elem, first-in, distinct, members, all-elem, all-of-elem, length-distinct, elem-members, elem-members-by, distinct-members, length-members, first-found}
+use Rattle.finite.specs.Lists.{elem, first-in, distinct, members}
+use Rattle.finite.specs.ListLaws.{all-elem, all-of-elem}
+use Rattle.finite.specs.Distinct.{length-distinct, elem-members, elem-members-by, distinct-members}
+use Rattle.finite.specs.Distinct.{length-members}
+use Rattle.finite.specs.FirstPassing.{first-found}
 use Rattle.orbits.specs.Reach.{Reach, here, by-one, by-two, reached, reaches}
 use Rattle.orbits.specs.Classes.{is-least, classes, is-fixed, is-closed}
 use Rattle.orbits.proofs.Reach.{Dart, Keeps, Symmetric, reach-dart, reach-trans, reach-sym, reaches-sound, reaches-complete, by-one-link}

@@ -11,8 +11,9 @@ use native.Mathlib.Omega.{arith}
 use lib.Dec.{T}
 use lib.ListN.{length}
 use Rattle.finite.specs.Tests.{and-left, and-right, and-both}
-use Rattle.finite.specs.Lists.{elem, distinct, members, elem-head, elem-one}
-use Rattle.finite.specs.ListLaws.{distinct-cons}
+use Rattle.finite.specs.Lists.{elem, distinct, members}
+use Rattle.finite.specs.ListLaws.{elem-head, elem-one}
+use Rattle.finite.specs.Distinct.{distinct-cons}
 use Rattle.orbits.specs.Reach.{Reach, here, there, by-two}
 use Rattle.orbits.specs.Classes.{is-least, is-closed, closed-walks}
 use Rattle.orbits.proofs.Reach.{Dart, Symmetric, reach-trans, reach-sym, by-two-each, one-link, by-first-link, by-second-link}

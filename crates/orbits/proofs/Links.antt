@@ -9,7 +9,7 @@ use Prim.Native.Nat.{ℕ, _≤_, _<_}
 use native.Mathlib.Omega.{arith}
 use lib.ListN.{length, getD, List·getD-eq-default}
 use Rattle.finite.specs.Bounded.{lt-or-ge}
-use Rattle.finite.specs.Lists.{getD-any}
+use Rattle.finite.specs.ListLaws.{getD-any}
 use Rattle.finite.specs.Loops.{Filled}
 use Rattle.orbits.specs.Sets.{dart-limit}
 use Rattle.orbits.specs.Links.{link-of, _then_, Composed, Permutes, Permutation, Permuted}

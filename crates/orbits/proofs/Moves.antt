@@ -10,7 +10,8 @@ use native.Mathlib.Numerals.{add-one}
 use native.Mathlib.Omega.{arith}
 use lib.Dec.{T}
 use lib.ListN.{length}
-use Rattle.finite.specs.Lists.{elem, elem-head, elem-tail}
+use Rattle.finite.specs.Lists.{elem}
+use Rattle.finite.specs.ListLaws.{elem-head, elem-tail}
 use Rattle.finite.specs.Cycles.{Chain, Cycle}
 use Rattle.orbits.specs.Walks.{ends, edge-step, point-step, walk}
 use Rattle.orbits.specs.declared.Ending.the-variants.{Home, Loose}

@@ -16,7 +16,7 @@ use borrow.Author.Tests.{ne-eqb, eq-eqb}
 use Rattle.finite.specs.Tests.{same-or-not}
 use Rattle.finite.specs.Bounded.{count}
 use Rattle.finite.specs.Counting.{pigeonhole}
-use Rattle.finite.specs.Lists.{elem-one}
+use Rattle.finite.specs.ListLaws.{elem-one}
 use Rattle.orbits.specs.Reach.{Reach, here, there, by-one, by-two}
 pub use Rattle.orbits.specs.Links.{Permutes, Involutes, _then_}
 use Rattle.orbits.proofs.Reach.{Dart, Keeps, Symmetric, reach-trans, reach-holds, by-one-each, by-two-each, by-one-link, by-first-link, by-second-link}

@@ -14,7 +14,10 @@ use lib.Dec.{T, T-not}
 use Rattle.finite.specs.Tests.{decide, same-test}
 use Rattle.finite.specs.Bounded.{count}
 use Rattle.finite.specs.Counting.{count-small, count-less, count-some}
-use Rattle.finite.specs.Lists.{elem, union, all-in, elem-one, elem-head, elem-tail, elem-cases, all-elem, some-fails, elem-union, elem-union-left, elem-union-right, elem-flatMap, elem-flatMap-by}
+use Rattle.finite.specs.Lists.{elem, union, all-in}
+use Rattle.finite.specs.ListLaws.{elem-one, elem-head, elem-tail, elem-cases, all-elem, some-fails}
+use Rattle.finite.specs.ListLaws.{elem-union, elem-union-left, elem-union-right, elem-flatMap}
+use Rattle.finite.specs.ListLaws.{elem-flatMap-by}
 use Rattle.orbits.specs.Reach.{Reach, here, there, by-one, by-two, grow, reached, reaches, StaysBelow}
 pub use Rattle.orbits.specs.Links.{Dart, Keeps}
 

@@ -14,9 +14,10 @@ use lib.ListN.{length}
 use Rattle.finite.specs.Tests.{equal-by}
 use Rattle.finite.specs.Bounded.{count}
 use Rattle.finite.specs.Counting.{least-passing}
-use Rattle.finite.specs.Lists.{elem, distinct, elem-head, elem-cases}
+use Rattle.finite.specs.Lists.{elem, distinct}
+use Rattle.finite.specs.ListLaws.{elem-head, elem-cases}
+use Rattle.finite.specs.Distinct.{distinct-cons}
 use Rattle.finite.specs.Cycles.{Chain, Cycle}
-use Rattle.finite.specs.ListLaws.{distinct-cons}
 use Rattle.finite.specs.CycleLaws.{cycle-holds}
 use Rattle.orbits.specs.Reach.{Reach, here, by-one}
 use Rattle.orbits.proofs.Reach.{Dart, reach-dart, reach-trans, by-one-link}

@@ -20,7 +20,9 @@ use borrow.Author.Tests.{ne-eqb, eq-eqb}
 use Rattle.finite.specs.Tests.{same-or-not}
 use Rattle.finite.specs.Bounded.{count}
 use Rattle.finite.specs.Counting.{count-mono, count-less, count-none}
-use Rattle.finite.specs.Lists.{elem, elem-head, elem-tail, elem-cases, count-members}
+use Rattle.finite.specs.Lists.{elem}
+use Rattle.finite.specs.ListLaws.{elem-head, elem-tail, elem-cases}
+use Rattle.finite.specs.Distinct.{count-members}
 use Rattle.orbits.specs.Reach.{Reach, here, by-two}
 use Rattle.orbits.specs.Classes.{is-fixed, is-closed}
 use Rattle.orbits.specs.Walks.{ends, edge-step, point-step, walk}

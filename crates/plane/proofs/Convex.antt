@@ -18,9 +18,10 @@ use Rattle.integers.specs.Order.{order, negℤ-splits, <ℤ-weaken, ≡-≤ℤ}
 use Rattle.finite.specs.Tests.{and-left, decide, same-or-not}
 use Rattle.finite.specs.Bounded.{lt-or-ge}
 use Rattle.finite.specs.Counting.{count-small}
-use Rattle.finite.specs.Lists.{elem, distinct, ring, length-distinct, all-in, elem-head, elem-tail, all-elem, some-fails}
+use Rattle.finite.specs.Lists.{elem, distinct, ring, all-in}
+use Rattle.finite.specs.ListLaws.{elem-head, elem-tail, all-elem, some-fails, elem-cut, elem-swap}
+use Rattle.finite.specs.Distinct.{length-distinct, distinct-apart, distinct-swap}
 use Rattle.finite.specs.Cycles.{Chain, Cycle}
-use Rattle.finite.specs.ListLaws.{elem-cut, elem-swap, distinct-apart, distinct-swap}
 use Rattle.finite.specs.CycleLaws.{cycle-swap, cycle-change, cycle-after, cycle-before, cycle-map, chain-last, ring-of-cycle}
 use Rattle.model.specs.declared.Point.{Point}
 use Rattle.model.specs.Plane.{orientation, left-of, sees-edge, in-line}

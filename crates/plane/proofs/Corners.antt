@@ -11,7 +11,8 @@ use mathlib.Core.List.{List}
 use Prim.Native.Nat.{ℕ, _<_}
 use lib.Dec.{T, T-not, not-T}
 use Rattle.finite.specs.Tests.{and-left, and-right, and-both, decide, same-or-not}
-use Rattle.finite.specs.Lists.{elem, first-in, first-found}
+use Rattle.finite.specs.Lists.{elem, first-in}
+use Rattle.finite.specs.FirstPassing.{first-found}
 use Rattle.finite.specs.CycleLaws.{cycle-switch}
 use Rattle.model.specs.declared.Point.{Point}
 use Rattle.model.specs.Plane.{left-of, sees-edge}

@@ -12,9 +12,12 @@ use native.Mathlib.Omega.{arith}
 use lib.Dec.{T, T-not}
 use lib.ListN.{length, length-append}
 use Rattle.finite.specs.Tests.{decide}
-use Rattle.finite.specs.Lists.{elem, count-in, elem-head, elem-tail, elem-cases, elem-append-left, elem-append-right}
+use Rattle.finite.specs.Lists.{elem, count-in}
+use Rattle.finite.specs.ListLaws.{elem-head, elem-tail, elem-cases, elem-append-left}
+use Rattle.finite.specs.ListLaws.{elem-append-right, elem-cut, elem-swap}
+use Rattle.finite.specs.Distinct.{distinct-apart, count-in-append, count-in-swap, count-in-all}
+use Rattle.finite.specs.Distinct.{count-in-none}
 use Rattle.finite.specs.Cycles.{Chain, Cycle, chain-cut}
-use Rattle.finite.specs.ListLaws.{elem-cut, elem-swap, distinct-apart, count-in-append, count-in-swap, count-in-all, count-in-none}
 use Rattle.finite.specs.CycleLaws.{chain-front, chain-carry}
 use Rattle.model.specs.declared.Point.{Point}
 use Rattle.plane.proofs.Convex.{Link, Convex, GeneralPosition, sees, convex-swap}

@@ -140,7 +140,7 @@ module _ {lent : List ℕ} {at n : ℕ} (room : Room lent at (spelt (pos n))) (f
         back = [];
         splits = sym (append-nil (spelt (pos n)));
         begins = last ∙ e;
-        wrote = rw last (wrote-none lent end (omega (arith, room .room)));
+        wrote = rw last (wrote-none lent end);
         less = omega arith;
       }
 

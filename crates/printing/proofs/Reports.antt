@@ -1,26 +1,22 @@
 -- The report by places, in the order of this page: its lines from a place of the survey text on
 -- are the line of one arrival and the lines from the next place on, or the last two; what those
--- two are; what a list that is written from its start holds. For a loop that writes the report.
+-- two are. For a loop that writes the report.
 -- Assumes nothing.
 use mathlib.Core.Path.{_≡_, refl, ap}
 use mathlib.Core.Bool.{true, false}
 use mathlib.Core.List.{List, [], _∷_, _++_}
 use Prim.Native.Nat.{ℕ, suc}
-use native.Mathlib.Nat.{zero-add}
 use lib.ListN.{drop}
 use Rattle.model.specs.declared.Map.{Map}
 use Rattle.model.specs.declared.Offered.{Offered}
-use Rattle.model.specs.declared.Written.{Written}
 use Rattle.model.specs.Spelling.{bytes}
 use Rattle.model.specs.Answers.{counted-answer}
-use Rattle.model.specs.Lent.{lent-after}
 use Rattle.model.specs.Outline.{corners}
 use Rattle.model.specs.Reading.{counts}
 use Rattle.model.specs.Report.{arrivals, closing, offer-line, printed}
 use Rattle.model.specs.Text.{lines}
 use Rattle.survey.specs.Places.{at-end, line-at, next-line}
 use Rattle.printing.specs.Printing.{answer-line, arrival-line}
-use Rattle.printing.specs.Writing.{overwritten}
 use Rattle.survey.proofs.Texts.{none-left, one-left}
 
 module _ (m : Map) (n : ℕ) (text : List ℕ) (at : ℕ) where
@@ -46,8 +42,3 @@ pub closing-lines : (m : Map) →
     ++ answer-line (bytes "counts") (c .darts ∷ c .vertices ∷ c .edges ∷ c .faces ∷ c .parts ∷ [])
 unfolding closing printed answer-line counted-answer
 closing-lines m = refl
-
-pub written-from-start : (lent result : List ℕ) (n : ℕ) →
-    overwritten lent 0 result ≡ lent-after (Written.Length n) result lent
-unfolding overwritten lent-after
-written-from-start lent result n = rw zero-add

@@ -16,7 +16,8 @@ use lib.ListN.{length, getD, length-append, List·getD-append}
 use lib.Seq.{append-snoc}
 use Rattle.finite.specs.Tests.{and-left, and-right, and-both, or-cases, or-left, or-right, is-true, of-true, same-or-not, differ-use, differ-by, equal-by}
 use Rattle.finite.specs.Bounded.{lt-or-ge}
-use Rattle.finite.specs.Lists.{all-in, all-in-at}
+use Rattle.finite.specs.Lists.{all-in}
+use Rattle.finite.specs.ListLaws.{all-in-at}
 use Rattle.model.specs.Spelling.{decimal, digit-zero, minus, spelt}
 use Rattle.model.specs.Text.{digit-limit, digits, has-minus, is-digit, is-number, magnitude, number-value, value-after}
 use Rattle.survey.specs.Numbers.{is-magnitude, no-leading-zero}

@@ -75,7 +75,7 @@ module _ {lent : List ℕ} {at : ℕ} (values : List ℕ) (r : Room lent at (val
   pub printed-none : Printed lent at values lent at 0
   unfolding spaced
   printed-none = record {
-    so-far = wrote-none lent at (omega (arith, r .room));
+    so-far = wrote-none lent at;
     inside = omega
         arith;
   }

@@ -3,18 +3,19 @@
 -- Assumes nothing.
 use mathlib.Core.Path.{_≡_, refl, sym, ap, _∙_}
 use mathlib.Core.Bool.{Bool, true, false, cond, _||_, or-true, or-false}
-use mathlib.Core.List.{List, [], _∷_, _++_}
+use mathlib.Core.List.{List, [], _∷_}
 use Prim.Native.Nat.{ℕ, _≤_, _<_}
 use borrow.Author.Tests.{lt-ltb, le-ltb}
-use lib.ListN.{length, drop, set}
+use lib.ListN.{length, set}
+use Rattle.finite.specs.Overwriting.{over}
 use Rattle.model.specs.declared.Refusal.{Refusal}
 use Rattle.model.specs.declared.Outcome.{Outcome}
 use Rattle.model.specs.declared.Written.{Written}
 use Rattle.model.specs.Refusals.{number, Rule, _when_, unless}
 use Rattle.model.specs.Answers.{outcome-by}
-use Rattle.model.specs.Lent.{Wrote, lent-after}
+use Rattle.model.specs.Lent.{is-short, and-short, lent-after, Wrote}
 use Rattle.model.proofs.Answers.{outcome-refuses, outcome-serves}
-use Rattle.replies.specs.Served.{and-short, is-short, number-by, left-by, ServedBoth}
+use Rattle.replies.specs.Served.{number-by, ServedBoth}
 use Rattle.replies.proofs.Serving.{unless-append, answer-outcome, stored, room-serves}
 
 -- every refusal leaves the same
@@ -39,21 +40,21 @@ module _ (rules : List Rule) (u before : List ℕ) (before′ : List ℕ) where
   -- the promise, by whether one of the lists is too short
   both-by : (short : Bool) → (is-short u before || is-short v before′) ≡ short →
       {after after′ : List ℕ} {k : ℕ} →
-      k ≡ number-by (and-short rules short) → after ≡ left-by (and-short rules short) u before →
-      after′ ≡ left-by (and-short rules short) v before′ →
+      k ≡ number-by (and-short rules short) → after ≡ lent-after (and-short rules short) u before →
+      after′ ≡ lent-after (and-short rules short) v before′ →
       ServedBoth rules u v before after before′ after′ k
   both-by short e n l l′ =
       record {
         code = n ∙ ap (λ (b : Bool). number-by (and-short rules b)) (sym e);
-        list = l ∙ ap (λ (b : Bool). left-by (and-short rules b) u before) (sym e);
-        list′ = l′ ∙ ap (λ (b : Bool). left-by (and-short rules b) v before′) (sym e);
+        list = l ∙ ap (λ (b : Bool). lent-after (and-short rules b) u before) (sym e);
+        list′ = l′ ∙ ap (λ (b : Bool). lent-after (and-short rules b) v before′) (sym e);
       }
 
-  unwritten : (w lent : List ℕ) → lent ≡ left-by (and-short rules true) w lent
+  unwritten : (w lent : List ℕ) → lent ≡ lent-after (and-short rules true) w lent
   unfolding unless
   unwritten w lent =
       sym (unless-append (λ r. lent) rules ((Refusal.ShortList when true) ∷ [])
-      (w ++ drop (length w) lent)
+      (over w lent)
       ∙ unless-same rules lent)
 
   pub no-room-for-length : {k : ℕ} → length before′ < 1 → k ≡ number-by (and-short rules true) →
@@ -80,18 +81,15 @@ module _ (rules : List Rule) (u before : List ℕ) (before′ : List ℕ) where
 
     pub result-refused : {k : ℕ} {r : Refusal} → w ≡ Written.Refused r → k ≡ number r →
         ServedBoth rules u v before after before′ before′ k
-    unfolding lent-after
     result-refused {k} {r} e n =
         let f = sym (ap written-outcome e) ∙ outcome in
         both-by (is-short u before) enough
         (n ∙ outcome-refuses number 0 _ r f)
-        (p .list ∙ ap (λ (x : Written). lent-after x u before) e
-        ∙ outcome-refuses (λ x. before) (u ++ drop (length u) before) _ r f)
-        (outcome-refuses (λ x. before′) (v ++ drop (length v) before′) _ r f)
+        (p .list)
+        (outcome-refuses (λ x. before′) (over v before′) _ r f)
 
     pub result-written : {n : ℕ} → w ≡ Written.Length n →
         ServedBoth rules u v before after before′ (set before′ 0 n) 0
-    unfolding lent-after
     result-written {n} e =
         let f = sym (ap written-outcome e) ∙ outcome in
         let is = sym e ∙ p .answer .equal ∙ sym
@@ -99,7 +97,6 @@ module _ (rules : List Rule) (u before : List ℕ) (before′ : List ℕ) where
         let size : n ≡ length u = cc in
         both-by (is-short u before) enough
         (outcome-serves number 0 _ f)
-        (p .list ∙ ap (λ (x : Written). lent-after x u before) e
-        ∙ outcome-serves (λ x. before) (u ++ drop (length u) before) _ f)
+        (p .list)
         (ap (set before′ 0) size ∙ room-serves room (stored v before′ room) .1
-        ∙ outcome-serves (λ x. before′) (v ++ drop (length v) before′) _ f)
+        ∙ outcome-serves (λ x. before′) (over v before′) _ f)

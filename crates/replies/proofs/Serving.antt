@@ -4,25 +4,25 @@
 use mathlib.Core.Path.{_≡_, refl, sym, ap, ap₂, subst, _∙_}
 use mathlib.Core.Bool.{Bool, true, false, cond, _||_, or-true}
 use mathlib.Core.List.{List, [], _∷_, _++_, append-assoc}
-use Prim.Native.Nat.{ℕ, suc, _+_, _≤_, _<_}
+use Prim.Native.Nat.{ℕ, _≤_, _<_}
 use native.Mathlib.Omega.{arith}
 use mir.Syntax.{w64}
 use mir.Val.{SFits, toZ, ofZ}
 use mir.ValLaws.{toZ-ofZ}
 use lib.IntN.{ℤ}
-use lib.ListN.{length, drop, getD, set, length-append}
-use lib.Seq.{take-length, drop-cons, set-at, append-snoc, sets, sets-eq}
+use lib.ListN.{length}
+use lib.Seq.{sets}
 use borrow.Author.Tests.{lt-ltb, le-ltb}
+use Rattle.finite.specs.Overwriting.{over, over-front, over-stores}
 use Rattle.model.specs.declared.Refusal.{Refusal}
 use Rattle.model.specs.declared.Outcome.{Outcome}
 use Rattle.model.specs.declared.Point.{Point}
 use Rattle.model.specs.Plane.{at}
 use Rattle.model.specs.Refusals.{number, Rule, _when_, unless}
 use Rattle.model.specs.Answers.{Answer, Call, answer-of, outcome-by}
+use Rattle.model.specs.Lent.{is-short}
 use Rattle.model.proofs.Answers.{outcome-refuses, outcome-serves, unless-made}
-use Rattle.corners.proofs.CornerLoops.{Writing, writing-end}
-use Rattle.replies.specs.Served.{Reply, only, is-short}
-use Rattle.replies.specs.Served.{Served, ServedBoth}
+use Rattle.replies.specs.Served.{Reply, only, Served, ServedBoth}
 use Rattle.replies.specs.Replies.{meaning-of}
 
 -- ---- rules in two parts
@@ -60,7 +60,7 @@ module _ {A : Type 0} (values before : List A) where
 
   -- with room: the values, and what stood past them
   pub with-room : {after : List A} → length values ≤ length before →
-      after ≡ values ++ drop (length values) before → Served (only values) before after 0
+      after ≡ over values before → Served (only values) before after 0
   unfolding unless number
   with-room l w =
       let e = le-ltb (length before) (length values) l in record { code = rw e; list = rw e w }
@@ -69,27 +69,8 @@ module _ {A : Type 0} (values before : List A) where
 pub stored : {A : Type 0} (values before : List A) → length values ≤ length before →
     Served (only values) before (sets before 0 values) 0
 stored values before l =
-    let e : 0 + length values ≡ length values = omega arith in
     with-room values before l
-    (sets-eq values before 0 (omega arith) ∙ ap (λ (n : ℕ). values ++ drop n before) e)
-
--- a value after values that were written
-pub one-more : (values before : List ℕ) (v n : ℕ) → length values ≡ n → n < length before →
-    set (values ++ drop n before) n v ≡ (values ++ v ∷ []) ++ drop
-    (length (values ++ v ∷ [])) before
-one-more values before v n e l =
-    let more : suc n ≡ length (values ++ v ∷ []) = omega (arith, length-append values (v ∷ [])) in
-    ap (λ (s : List ℕ). set (values ++ s) n v) (drop-cons before n 0 l)
-    ∙ set-at values (getD before n 0) (drop (suc n) before) v n e
-    ∙ sym (append-snoc values v (drop (suc n) before))
-    ∙ ap (λ (k : ℕ). (values ++ v ∷ []) ++ drop k before) more
-
--- where a loop has written all values
-pub all-written : (values before : List ℕ) {now : List ℕ} {i : ℕ} → Writing values before now i →
-    i ≤ length values → length values ≤ i → now ≡ values ++ drop (length values) before
-all-written values before u h l =
-    writing-end values before u h l
-    ∙ ap (λ (s : List ℕ). s ++ drop (length values) before) (take-length values)
+    (sym (over-stores before 0 values (omega arith)) ∙ over-front before values)
 
 -- rules that were checked before, in a list of their own
 module _ {A : Type 0} (rules : List Rule) (q : Reply A) (before : List A) where
@@ -99,15 +80,12 @@ module _ {A : Type 0} (rules : List Rule) (q : Reply A) (before : List A) where
   abbrev last : List Rule
   last = (Refusal.ShortList when is-short (q .values) before) ∷ []
 
-  abbrev over : List A
-  over = q .values ++ drop (length (q .values)) before
-
   pub refused-before : {k : ℕ} (r : Refusal) → Outcome.Refused r ≡ outcome-by rules → k ≡ number r →
       Served both before before k
   refused-before r e n =
       record {
         code = n ∙ first-refuses number rules (q .rules) last 0 r e;
-        list = first-refuses (λ x. before) rules (q .rules) last over r e;
+        list = first-refuses (λ x. before) rules (q .rules) last (over (q .values) before) r e;
       }
 
   pub served-after : {after : List A} {k : ℕ} → Outcome.Served ≡ outcome-by rules →
@@ -115,7 +93,8 @@ module _ {A : Type 0} (rules : List Rule) (q : Reply A) (before : List A) where
   served-after e s =
       record {
         code = first-serves number rules (q .rules) last 0 e (s .code);
-        list = first-serves (λ x. before) rules (q .rules) last over e (s .list);
+        list =
+            first-serves (λ x. before) rules (q .rules) last (over (q .values) before) e (s .list);
       }
 
 -- the same values by another name
@@ -128,7 +107,7 @@ served-as {A} {u} {v} {before} {after} {k} e s =
 -- what a list with room has been left as
 pub room-serves : {A : Type 0} {values before after : List A} {k : ℕ} →
     length values ≤ length before →
-    Served (only values) before after k → (k ≡ 0) × (after ≡ values ++ drop (length values) before)
+    Served (only values) before after k → (k ≡ 0) × (after ≡ over values before)
 unfolding unless number
 room-serves {A} {values} {before} l s =
     let e = le-ltb (length before) (length values) l in (rw e at (s .code), rw e at (s .list))
@@ -152,7 +131,7 @@ module _ {A B : Type 0} (u : List A) (v : List B) (before : List A) (before′ :
 
   pub both-room : {after : List A} {after′ : List B} {k : ℕ} → k ≡ 0 → length u ≤ length before →
       length v ≤ length before′ →
-      after ≡ u ++ drop (length u) before → after′ ≡ v ++ drop (length v) before′ →
+      after ≡ over u before → after′ ≡ over v before′ →
       ServedBoth [] u v before after before′ after′ k
   unfolding unless number
   both-room n l l′ w w′ =
@@ -171,9 +150,8 @@ module _ {A B : Type 0} (rules more : List Rule) (u : List A) (v : List B) (befo
   both-refused-before r e n =
       record {
         code = n ∙ first-refuses number rules more last-both 0 r e;
-        list = first-refuses (λ x. before) rules more last-both (u ++ drop (length u) before) r e;
-        list′ = first-refuses (λ x. before′) rules more last-both
-            (v ++ drop (length v) before′) r e;
+        list = first-refuses (λ x. before) rules more last-both (over u before) r e;
+        list′ = first-refuses (λ x. before′) rules more last-both (over v before′) r e;
       }
 
   pub both-served-after : {after : List A} {after′ : List B} {k : ℕ} →
@@ -183,10 +161,8 @@ module _ {A B : Type 0} (rules more : List Rule) (u : List A) (v : List B) (befo
   both-served-after e s =
       record {
         code = first-serves number rules more last-both 0 e (s .code);
-        list = first-serves (λ x. before) rules more last-both (u ++ drop (length u) before) e
-            (s .list);
-        list′ = first-serves (λ x. before′) rules more last-both (v ++ drop (length v) before′) e
-            (s .list′);
+        list = first-serves (λ x. before) rules more last-both (over u before) e (s .list);
+        list′ = first-serves (λ x. before′) rules more last-both (over v before′) e (s .list′);
       }
 
 -- ---- equal arguments

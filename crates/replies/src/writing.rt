@@ -26,7 +26,8 @@ ghost use Rattle.model.specs.Outline.{corners};
 ghost use Rattle.model.specs.Arrival.{admission-rules, arrive};
 ghost use Rattle.model.specs.Saved.{saved};
 ghost use Rattle.model.specs.Report.{report-rules};
-ghost use Rattle.replies.specs.Served.{Served, ServedBoth, and-short, number-by, only};
+ghost use Rattle.model.specs.Lent.{and-short};
+ghost use Rattle.replies.specs.Served.{Served, ServedBoth, number-by, only};
 ghost use Rattle.replies.specs.Replies.{arrival-told};
 
 // The number of a call that is lent a list shorter than its result.

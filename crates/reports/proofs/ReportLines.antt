@@ -299,7 +299,7 @@ module _ (answers corners : List ℕ) (ends : Ends) (from : ℕ) (lent : List �
         wrote =
             wrote-as
             (ap (lines-from answers corners ends from) e ∙ lines-none answers corners ends from)
-            (wrote-none lent 0 (omega arith));
+            (wrote-none lent 0);
         further = omega arith;
         inside = omega arith;
         long = refl;

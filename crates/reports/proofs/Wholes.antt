@@ -9,23 +9,22 @@ use mathlib.Core.List.{List, _++_}
 use Prim.Native.Nat.{ℕ, suc, _+_, _-_, _≤_, _<_}
 use native.Mathlib.Omega.{arith}
 use borrow.Author.Tests.{lt-ltb, le-ltb}
-use lib.ListN.{length, take, drop, length-append, length-take}
+use lib.ListN.{length, take, length-append, length-take}
 use lib.Seq.{take-at}
 use Rattle.finite.specs.Tests.{same-or-not}
 use Rattle.finite.specs.Bounded.{lt-or-ge}
+use Rattle.finite.specs.Overwriting.{over, over-at, over-front}
 use Rattle.model.specs.declared.Refusal.{Refusal}
 use Rattle.model.specs.declared.Counts.{Counts}
 use Rattle.model.specs.Maps.{point-limit, empty-map}
 use Rattle.model.specs.Answers.{refused}
 use Rattle.model.specs.Reading.{counts}
 use Rattle.model.specs.Text.{lines}
-use Rattle.model.specs.Lent.{lent-after}
 use Rattle.model.specs.Report.{text-limit, printed, arrivals, report}
 use Rattle.corners.specs.declared.listing.CornerList.{CornerList}
 use Rattle.corners.specs.Listing.{ListsCorners}
-use Rattle.printing.specs.Writing.{overwritten}
 use Rattle.printing.proofs.Overwriting.{wrote-length}
-use Rattle.printing.proofs.Reports.{closing-lines, written-from-start}
+use Rattle.printing.proofs.Reports.{closing-lines}
 use Rattle.reports.specs.declared.Decided.{Decided}
 use Rattle.reports.specs.declared.deciding.Surveyed.{Surveyed}
 use Rattle.reports.specs.declared.positions.Ends.{Ends}
@@ -118,13 +117,11 @@ module _ {answers corners : List ℕ} {ends : Ends} {lent after : List ℕ} {r :
       (λ (h : line-count ends ≤ r .next). omega (arith, p .whole (omega arith)))
       (lt-or-ge (r .next) (line-count ends))
 
-  pub all-written : after ≡ lines-from answers corners ends 0 (line-count ends)
-      ++ drop (length (lines-from answers corners ends 0 (line-count ends))) lent
-  unfolding lent-after
+  pub all-written : after ≡ over (lines-from answers corners ends 0 (line-count ends)) lent
   all-written =
       let e : r .next - 0 ≡ line-count ends = omega (arith, nothing-left) in
       rw e at (p .wrote .holds)
-      ∙ written-from-start lent (lines-from answers corners ends 0 (line-count ends)) 0
+      ∙ over-front lent (lines-from answers corners ends 0 (line-count ends))
 
 -- ---- what was decided, lent as lists
 
@@ -191,7 +188,7 @@ module _ (d : Decided) {from : ℕ} {lent after : List ℕ} {r : Piece}
 
   -- its bytes
   piece-bytes : take (r .length) after ≡ piece (r .next - from)
-  unfolding overwritten
+  unfolding over-at
   piece-bytes =
       let e : r .length ≡ length (piece (r .next - from)) = omega (arith, p .wrote .ends) in
       ap (take (r .length)) (p .wrote .holds)

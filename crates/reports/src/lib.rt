@@ -16,9 +16,9 @@ use maps::traversal::counts_of;
 use model::Counts;
 use model::POINT_LIMIT;
 ghost use mathlib.Core.Path.{_≡_};
-ghost use mathlib.Core.List.{_++_};
 ghost use Prim.Native.Nat.{_≤_};
-ghost use lib.ListN.{drop, length};
+ghost use lib.ListN.{length};
+ghost use Rattle.finite.specs.Overwriting.{over};
 ghost use Rattle.reports.specs.Lines.{report-of};
 ghost use Rattle.reports.specs.Deciding.{Decides, Fits};
 ghost use Rattle.reports.specs.Pieces.{WroteLines};
@@ -97,8 +97,7 @@ pub fn length_of(decided: Decided) -> usize
 pub fn write_report(decided: Decided, lent: &mut [u8])
     requires { ⌜ Fits decided ⌝ }
     requires { ⌜ length (report-of decided) ≤ length (now lent) ⌝ }
-    ensures { λ _. ⌜ now (lent .exit) ≡
-        report-of decided ++ drop (length (report-of decided)) (now (lent .entry)) ⌝ }
+    ensures { λ _. ⌜ now (lent .exit) ≡ over (report-of decided) (now (lent .entry)) ⌝ }
 {
     let corners = decided.corners;
     let listed = decided.listed;

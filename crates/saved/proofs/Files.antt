@@ -17,7 +17,7 @@ use lib.Seq.{take-add, take-length}
 use Rattle.finite.specs.Tests.{decide, is-true, is-false, same-or-not}
 use Rattle.finite.specs.Bounded.{one-if, lt-or-ge}
 use Rattle.finite.specs.Counting.{one-if-small, one-if-is}
-use Rattle.finite.specs.Lists.{getD-any}
+use Rattle.finite.specs.ListLaws.{getD-any}
 use Rattle.orbits.specs.Sets.{dart-limit}
 use Rattle.model.specs.declared.Map.{Map}
 use Rattle.model.specs.declared.Outcome.{Outcome}

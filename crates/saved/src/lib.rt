@@ -8,10 +8,10 @@ use layout::links_place;
 use layout::numbers::number_at;
 use model::Map;
 ghost use mathlib.Core.Path.{_≡_};
-ghost use mathlib.Core.List.{_++_};
 ghost use Prim.Native.Nat.{_≤_};
 ghost use lib.Dec.{T};
-ghost use lib.ListN.{drop, length};
+ghost use lib.ListN.{length};
+ghost use Rattle.finite.specs.Overwriting.{over};
 ghost use Rattle.model.specs.Sound.{Shaped};
 ghost use Rattle.model.specs.Saved.{file-in-form, map-in, saved, saved-length};
 
@@ -22,8 +22,7 @@ mod writing;
 pub fn write_map(map: Map, lent: &mut [u8])
     requires { ⌜ Shaped map ⌝ }
     requires { ⌜ saved-length (map .count) ≤ length (now lent) ⌝ }
-    ensures { λ _. ⌜ now (lent .exit) ≡
-        saved map ++ drop (length (saved map)) (now (lent .entry)) ⌝ }
+    ensures { λ _. ⌜ now (lent .exit) ≡ over (saved map) (now (lent .entry)) ⌝ }
 {
     let count = map.count;
     let reference = map.reference;

@@ -14,13 +14,13 @@ ghost use mathlib.Core.Path.{_≡_};
 ghost use Prim.Native.Nat.{ℕ, _*_, _≤_};
 ghost use lib.Dec.{T};
 ghost use lib.ListN.{length};
+ghost use Rattle.finite.specs.Overwriting.{over};
 ghost use Rattle.model.specs.Plane.{in-range};
 ghost use Rattle.model.specs.Maps.{point-limit};
 ghost use Rattle.model.specs.Saved.{block, header, header-length, version};
 ghost use Rattle.orbits.specs.Links.{link-of};
 ghost use Rattle.model.specs.Maps.{point-at};
 ghost use Rattle.saved.specs.Fields.{coordinate-field, helper-field};
-ghost use Rattle.layout.specs.Writing.{over};
 
 // The header of a map of so many points with a reference.
 pub fn write_header(count: usize, reference: usize, lent: &mut [u8])

@@ -1,9 +1,12 @@
 -- `engine::list_corners` meets its contract: the map is checked, then the room, and then the corners are
 -- written. Assumes nothing.
 use borrow.Author.Needs.{needs}
-use mathlib.Core.Path.{_∙_}
+use mathlib.Core.Path.{ap, _∙_}
+use mathlib.Core.List.{List}
+use Prim.Native.Nat.{ℕ}
 use native.Mathlib.Omega.{arith}
-use Rattle.corners.proofs.CornerLoops.{corners-written}
+use denote.Ref.{now}
+use Rattle.finite.specs.Overwriting.{over}
 use Rattle.engine.proofs.Rules.{tested, found-sound}
 use Rattle.engine.proofs.Entries.{rule-refused, short-refused, result-written}
 use Rattle.engine.proofs.list_corners.Statement.{statement}
@@ -29,7 +32,8 @@ returns-3 c =
     let d = room .before .before in
     result-written (tested (d .before .is-sound .ensures) (d .if1 .left)) (lists .number)
     (omega (arith, lists .number, room .if2 .left))
-    (w .write-corners .ensures ∙ corners-written lists _)
+    (w .write-corners .ensures
+    ∙ ap (λ (s : List ℕ). over s (now (d .before .before .before .args .lent))) (lists .members))
 
 pub list-corners-spec : {M : Type 1} → statement M
 list-corners-spec =

@@ -2,7 +2,7 @@
 use borrow.Author.Needs.{needs}
 use mathlib.Core.Path.{sym}
 use lib.ListN.{List·getD-eq-default}
-use Rattle.finite.specs.Lists.{getD-any}
+use Rattle.finite.specs.ListLaws.{getD-any}
 use Rattle.orbits.proofs.link_of.Statement.{statement}
 use Rattle.orbits.proofs.link_of.Tie as tie
 

@@ -1,10 +1,9 @@
 -- `reach::reach_empty` meets its contract: the empty map is sound, and has 9 bytes.
 -- Assumes nothing.
 use mathlib.Core.Path.{sym, ap, subst, _∙_}
-use mathlib.Core.List.{_++_}
 use native.Mathlib.Omega.{arith}
 use denote.Ref.{now}
-use lib.ListN.{length, drop}
+use Rattle.finite.specs.Overwriting.{over}
 use Rattle.model.specs.declared.Map.{Map}
 use Rattle.model.specs.Maps.{empty-map}
 use Rattle.model.specs.Sound.{Shaped}
@@ -41,7 +40,7 @@ returns-2 c =
     with-room (saved empty-map) _
     (omega (arith, length-saved empty-map, d .before .saved-length .ensures, d .if1 .left))
     (w .write-map .ensures
-    ∙ ap (λ (m : Map). saved m ++ drop (length (saved m)) (now (s .out))) (m .empty-map .ensures))
+    ∙ ap (λ (m : Map). over (saved m) (now (s .out))) (m .empty-map .ensures))
 
 pub reach-empty-spec : {M : Type 1} → statement M
 reach-empty-spec =

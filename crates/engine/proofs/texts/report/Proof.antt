@@ -2,12 +2,13 @@
 -- then the report is written. Assumes nothing.
 use borrow.Author.Needs.{needs}
 use mathlib.Core.Path.{_≡_, ap, _∙_}
-use mathlib.Core.List.{List, _++_}
+use mathlib.Core.List.{List}
 use Prim.Native.Nat.{ℕ}
 use native.Mathlib.Omega.{arith}
 use borrow.Author.Tests.{lt-ltb, le-ltb}
 use denote.Ref.{now}
-use lib.ListN.{length, drop}
+use lib.ListN.{length}
+use Rattle.finite.specs.Overwriting.{over}
 use Rattle.model.specs.Report.{text-limit, report}
 use Rattle.engine.proofs.Entries.{rule-refused, short-refused, result-written}
 use Rattle.engine.proofs.texts.report.Statement.{statement}
@@ -38,7 +39,7 @@ returns-3 c =
     result-written (le-ltb text-limit _ (test .if1 .left)) (found-length size)
     (omega (arith, found-length size, room .if2 .left))
     (call .write-report .ensures
-    ∙ ap (λ (l : List ℕ). l ++ drop (length l) (now (test .before .before .before .args .lent)))
+    ∙ ap (λ (l : List ℕ). over l (now (test .before .before .before .args .lent)))
     (size .before .decide .ensures .is-report))
 
 pub report-spec : {M : Type 1} → statement M

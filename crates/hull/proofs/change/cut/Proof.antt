@@ -5,7 +5,7 @@ use Prim.Native.Nat.{_<_}
 use native.Mathlib.Omega.{arith}
 use lib.ListN.{getD}
 use denote.Ref.{now}
-use Rattle.finite.specs.Lists.{getD-any}
+use Rattle.finite.specs.ListLaws.{getD-any}
 use Rattle.model.specs.Arrival.{cut}
 use Rattle.hull.proofs.change.cut.Statement.{statement}
 use Rattle.hull.proofs.change.cut.Tie as tie

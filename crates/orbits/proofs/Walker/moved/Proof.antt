@@ -3,7 +3,7 @@
 use borrow.Author.Needs.{needs}
 use mathlib.Core.Path.{sym, ap}
 use lib.ListN.{List·getD-eq-default}
-use Rattle.finite.specs.Lists.{getD-any}
+use Rattle.finite.specs.ListLaws.{getD-any}
 use Rattle.orbits.specs.Walks.{walker-at}
 use Rattle.orbits.proofs.Walker.moved.Statement.{statement}
 use Rattle.orbits.proofs.Walker.moved.Tie as tie

@@ -1,13 +1,13 @@
 -- `reach::writing::write_corner_list` meets its contract: the room of both lists is checked, and then both are written.
 -- Assumes nothing.
 use mathlib.Core.Path.{refl, ap, _∙_}
-use mathlib.Core.List.{[], _∷_}
+use mathlib.Core.List.{List, [], _∷_}
 use Prim.Native.Nat.{ℕ}
 use native.Mathlib.Omega.{arith}
 use denote.Ref.{now}
 use lib.ListN.{length, set}
+use Rattle.finite.specs.Overwriting.{over}
 use Rattle.model.specs.Outline.{corners}
-use Rattle.corners.proofs.CornerLoops.{corners-written}
 use Rattle.replies.proofs.Serving.{first-short, second-short, both-room, room-serves, stored}
 use borrow.Author.Needs.{needs}
 use Rattle.replies.proofs.writing.write_corner_list.Statement.{statement}
@@ -35,7 +35,7 @@ returns-3 c =
     let count = length (corners (s .map)) in
     both-room (corners (s .map)) (count ∷ []) _ (now (s .count)) refl
     (omega (arith, lists .number, d .if1 .left)) (e .if2 .left)
-    (w .write-corners .ensures ∙ corners-written lists (now (s .out)))
+    (w .write-corners .ensures ∙ ap (λ (l : List ℕ). over l (now (s .out))) (lists .members))
     (ap (λ (n : ℕ). set (now (s .count)) 0 n) (lists .number)
     ∙ room-serves (e .if2 .left) (stored (count ∷ []) (now (s .count)) (e .if2 .left)) .1)
 

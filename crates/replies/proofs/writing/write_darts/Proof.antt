@@ -1,12 +1,13 @@
 -- `reach::writing::write_darts` meets its contract: the room is checked, then the words are written, and then the size.
 -- Assumes nothing.
-use mathlib.Core.Path.{ap, _∙_}
+use mathlib.Core.Path.{sym, ap, _∙_}
 use mathlib.Core.List.{List, [], _∷_, _++_}
 use Prim.Native.Nat.{ℕ}
 use native.Mathlib.Omega.{arith}
 use denote.Ref.{now}
-use lib.ListN.{drop, set, length-append}
-use Rattle.replies.proofs.Serving.{short-list, with-room, one-more, room-serves}
+use lib.ListN.{set, length-append}
+use Rattle.finite.specs.Overwriting.{over, over-more}
+use Rattle.replies.proofs.Serving.{short-list, with-room, room-serves}
 use borrow.Author.Needs.{needs}
 use Rattle.replies.proofs.writing.write_darts.Statement.{statement}
 use Rattle.replies.proofs.writing.write_darts.Tie as tie
@@ -31,9 +32,9 @@ returns-2 c =
     with-room (words ++ size ∷ []) _
     (omega (arith, s .pre, length-append words (size ∷ []), d .if1 .left))
     (ap (λ (l : List ℕ). set l 16 size)
-    (room-serves (omega (arith, s .pre, d .if1 .left)) (w .write-values .ensures) .1
-    ∙ ap (λ (n : ℕ). words ++ drop n (now (s .args .out))) (s .pre))
-    ∙ one-more words (now (s .args .out)) size 16 (s .pre) (d .if1 .left))
+    (room-serves (omega (arith, s .pre, d .if1 .left)) (w .write-values .ensures) .1)
+    ∙ ap (λ (n : ℕ). set (over words (now (s .args .out))) n size) (sym (s .pre))
+    ∙ over-more words (now (s .args .out)) size (omega (arith, s .pre, d .if1 .left)))
 
 pub write-darts-spec : {M : Type 1} → statement M
 write-darts-spec =

@@ -6,7 +6,7 @@ use Prim.Native.Nat.{ℕ, _-_}
 use native.Mathlib.Omega.{arith}
 use Rattle.model.specs.Saved.{version, big-endian, version-place, count-place, reference-place}
 use Rattle.model.specs.Saved.{following, header}
-use Rattle.layout.specs.Writing.{over}
+use Rattle.finite.specs.Overwriting.{over}
 use Rattle.layout.proofs.Blocks.{piece-written}
 use borrow.Author.Needs.{needs}
 use Rattle.saved.proofs.writing.write_header.Statement.{statement}

@@ -1,21 +1,19 @@
--- Rings read place by place, in the order of this page: a ring is its first member and the ring from
--- the next one; the member after a place of a cycle; the first member that passes a test, which all
--- before it fail, and which is that member where only one passes; where no member passes.
+-- Rings read place by place, in the order of this page: a ring is its first member and the ring from the
+-- next one; it has no more members than it may have; the member after a place of a cycle.
 -- Assumes nothing.
-use mathlib.Core.Path.{_≡_, refl, sym, ap, subst, _∙_}
+use mathlib.Core.Path.{_≡_, sym, ap, subst, _∙_}
 use mathlib.Core.Logic.{_≢_, ⊎-elim}
-use mathlib.Core.Bool.{Bool, not, _||_}
+use mathlib.Core.Bool.{Bool, true, false, cond}
 use mathlib.Core.List.{List, [], _∷_, _++_}
 use Prim.Native.Nat.{ℕ, zero, suc, _+_, _-_, _%_, _≤_, _<_}
 use native.Mathlib.Nat.{not-suc-le-zero, le-of-suc-le-suc, mod-eq-of-lt, mod-self}
 use native.Mathlib.Omega.{arith}
-use lib.Dec.{T, T-not, not-T}
+use lib.Dec.{eqb}
 use lib.ListN.{length, getD, length-append, List·getD-append}
 use lib.Seq.{getD-append-seam}
 use borrow.Author.Tests.{eq-eqb, ne-eqb}
-use Rattle.finite.specs.Tests.{or-left, or-right, decide, is-true, is-false}
 use Rattle.finite.specs.Bounded.{lt-or-ge}
-use Rattle.finite.specs.Lists.{elem, any-in, first-in, ring, elem-cases, first-found}
+use Rattle.finite.specs.Lists.{ring}
 use Rattle.finite.specs.Cycles.{Chain, Cycle}
 
 -- ---- a ring from its first member
@@ -34,6 +32,17 @@ module _ (f : ℕ → ℕ) (start : ℕ) where
   ring-more (suc k) a h n =
       let one-less : k ≡ suc k - 1 = omega arith in
       rw (ne-eqb (f a) start n) (ap (λ (j : ℕ). a ∷ ring f start j (f a)) one-less)
+
+  -- at most k of them
+  pub ring-most : (k a : ℕ) → length (ring f start k a) ≤ k
+  unfolding ring
+  ring-most zero a = omega arith
+  ring-most (suc k) a = go (eqb (f a) start) (ring-most k (f a))
+    where
+      go : (b : Bool) → length (ring f start k (f a)) ≤ k →
+          suc (length (cond b [] (ring f start k (f a)))) ≤ suc k
+      go true h = omega arith
+      go false h = omega arith
 
 -- ---- the member after a place
 
@@ -68,51 +77,3 @@ module _ {A : Type 0} (E : A → A → Type 0) where
           ap (λ (j : ℕ). getD (s ++ a ∷ []) j d) e ∙ getD-append-seam s a [] d
           ∙ ap (λ (j : ℕ). getD (a ∷ s) j d) (sym (ap (λ (j : ℕ). j % suc (length s)) w ∙ mod-self (suc (length s)))))
           (lt-or-ge (i + 1) (suc (length s)))
-
--- ---- the first member that passes
-
-pub first-only : (p : ℕ → Bool) (d x : ℕ) (s : List ℕ) → T (elem x s) → T (p x) →
-    ((y : ℕ) → T (elem y s) → T (p y) → y ≡ x) → first-in p d s ≡ x
-first-only p d x s m t only =
-    let found = first-found p d x s m t in only (first-in p d s) (found .0) (found .1)
-
--- it cuts the list in two, and all before it fail
-pub record FirstPassing (p : ℕ → Bool) (s : List ℕ) (x : ℕ) : Type 0 where
-  pub front : List ℕ
-  pub back : List ℕ
-  pub cut : s ≡ front ++ x ∷ back
-  pub passes : T (p x)
-  pub fails : (y : ℕ) → T (elem y front) → ¬ T (p y)
-
-pub first-passing : (p : ℕ → Bool) (d : ℕ) (s : List ℕ) → T (any-in p s) → FirstPassing p s (first-in p d s)
-unfolding any-in first-in elem
-first-passing p d [] t = absurd t
-first-passing p d (x ∷ s) t =
-    ⊎-elim
-    (λ (h : T (p x)).
-    rw (is-true (p x) h) (record { front = []; back = s; cut = refl; passes = h; fails = λ y m k. m }))
-    (λ (h : T (not (p x))).
-    let n = T-not (p x) h in
-    let r = first-passing p d s (rw (is-false (p x) n) at t) in
-    rw (is-false (p x) n)
-    (record {
-      front = x ∷ r .front;
-      back = r .back;
-      cut = ap (λ (t : List ℕ). x ∷ t) (r .cut);
-      passes = r .passes;
-      fails =
-          λ y m k.
-          ⊎-elim (λ (e : y ≡ x). n (rw e at k)) (λ l. r .fails y l k) (elem-cases y x (r .front) m);
-    }))
-    (decide (p x))
-
--- no member passes
-pub none-passes : (p : ℕ → Bool) (s : List ℕ) → T (not (any-in p s)) → (x : ℕ) → T (elem x s) → ¬ T (p x)
-unfolding any-in elem
-none-passes p [] t x m k = m
-none-passes p (y ∷ s) t x m k =
-    ⊎-elim
-    (λ (e : x ≡ y). T-not (p y || any-in p s) t (or-left (p y) (any-in p s) (rw e at k)))
-    (λ (l : T (elem x s)).
-    none-passes p s (not-T (any-in p s) (λ h. T-not (p y || any-in p s) t (or-right (p y) (any-in p s) h))) x l k)
-    (elem-cases x y s m)

@@ -3,14 +3,14 @@
 -- small. Assumes nothing.
 use mathlib.Core.Path.{_≡_, sym, ap}
 use mathlib.Core.Bool.{Bool, true, false, not, cond}
-use mathlib.Core.List.{List, [], _∷_}
-use Prim.Native.Nat.{ℕ, zero, suc, _+_, _≤_, _<_}
+use mathlib.Core.List.{[]}
+use Prim.Native.Nat.{_≤_, _<_}
 use native.Mathlib.Omega.{arith}
-use lib.Dec.{T-not, ltb, eqb}
+use lib.Dec.{T-not, ltb}
 use lib.ListN.{length}
 use Rattle.finite.specs.Tests.{is-true}
-use Rattle.finite.specs.Bounded.{one-if}
-use Rattle.finite.specs.Lists.{count-in, ring}
+use Rattle.finite.specs.Distinct.{count-in-most}
+use Rattle.finite.specs.Rings.{ring-most}
 use Rattle.model.specs.declared.Refusal.{Refusal}
 use Rattle.model.specs.declared.Outcome.{Outcome}
 use Rattle.model.specs.declared.Point.{Point}
@@ -64,25 +64,6 @@ pub accepted-room : {m : Map} {p : Point} → Accepted m p → RoomFor m p
 accepted-room a = record { is-sound = a .is-sound; room = a .room; offered = a .ranged }
 
 -- ---- how large the numbers are that an arrival reports
-
-count-in-most : (p : ℕ → Bool) (s : List ℕ) → count-in p s ≤ length s
-unfolding count-in one-if
-count-in-most p [] = omega arith
-count-in-most p (x ∷ s) = go (p x) (count-in-most p s)
-  where
-    go : (b : Bool) → count-in p s ≤ length s → one-if b + count-in p s ≤ suc (length s)
-    go true h = omega arith
-    go false h = omega arith
-
-ring-most : (f : ℕ → ℕ) (start k a : ℕ) → length (ring f start k a) ≤ k
-unfolding ring
-ring-most f start zero a = omega arith
-ring-most f start (suc k) a = go (eqb (f a) start) (ring-most f start k (f a))
-  where
-    go : (b : Bool) → length (ring f start k (f a)) ≤ k →
-        suc (length (cond b [] (ring f start k (f a)))) ≤ suc k
-    go true h = omega arith
-    go false h = omega arith
 
 outline-most : (m : Map) → length (outline m) ≤ m .count
 unfolding outline corners-from

@@ -13,7 +13,7 @@ use lib.Dec.{T, ltb, lt→ltb}
 use lib.ListN.{length}
 use Rattle.finite.specs.Tests.{is-true, is-false, same-or-not}
 use Rattle.finite.specs.Bounded.{one-if, table, table-onto, table-more, table-same, lt-or-ge}
-use Rattle.finite.specs.Lists.{elem, distinct, count-in, total}
+use Rattle.finite.specs.Lists.{distinct, count-in, total}
 use Rattle.finite.specs.ListLaws.{total-append}
 use Rattle.model.specs.declared.Point.{Point}
 use Rattle.model.specs.declared.Map.{Map}
@@ -26,7 +26,7 @@ use Rattle.model.specs.Offers.{offer}
 use Rattle.model.specs.History.{Entry, Run, is-accepted, extended, run-from, run, offered-point, reported, reported-edges, edges-seen, is-outside, outside-arrivals, Balanced}
 use Rattle.maps.proofs.Darts.{point-twice}
 use Rattle.maps.proofs.Links.{counts-balance}
-use Rattle.maps.proofs.Outline.{outline-circuit, outline-next, corners-on-it}
+use Rattle.maps.proofs.Outline.{outline-two, outline-circuit, outline-next, corners-on-it}
 use Rattle.maps.proofs.Points.{point-new, point-old}
 use Rattle.maps.proofs.Empty.{empty-sound}
 use Rattle.maps.proofs.Alone.{alone-outline}
@@ -239,15 +239,6 @@ pub run-sound : (ps : List Point) → Shaped (run ps .map)
 run-sound ps = invariant-run ps .is-sound
 
 -- ---- the claims
-
--- an outline that has a member is one of two points or more
-outline-two : (m : Map) (a : ℕ) → T (elem a (outline m)) → 2 ≤ m .count
-unfolding elem
-outline-two m a on =
-    ⊎-elim
-    (λ (few : m .count < 2). absurd (subst (λ (t : List ℕ). T (elem a t)) (few-outline m few) on))
-    (λ (two : 2 ≤ m .count). two)
-    (lt-or-ge (m .count) 2)
 
 invariant-balanced : (r : Run) → Invariant r → Balanced r
 unfolding distinct

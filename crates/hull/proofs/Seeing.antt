@@ -7,13 +7,14 @@ use mathlib.Core.Path.{_≡_, refl, sym, ap, subst, _∙_}
 use mathlib.Core.Logic.{_≢_}
 use mathlib.Core.Bool.{Bool, true, false, not, cond, _&&_, and-comm}
 use mathlib.Core.List.{List, [], _∷_}
-use Prim.Native.Nat.{ℕ, suc, _+_, _-_, _≤_, _<_}
+use Prim.Native.Nat.{ℕ, _+_, _-_, _≤_, _<_}
 use native.Mathlib.Omega.{arith}
 use lib.Dec.{T}
-use borrow.Author.Tests.{le-ltb, eq-eqb, ne-eqb}
+use borrow.Author.Tests.{le-ltb}
 use Rattle.finite.specs.Bounded.{one-if}
 use Rattle.finite.specs.Counting.{one-if-small}
 use Rattle.finite.specs.Lists.{elem, count-in, first-in, ring}
+use Rattle.finite.specs.Rings.{ring-last, ring-more}
 use Rattle.model.specs.declared.Point.{Point}
 use Rattle.model.specs.declared.Map.{Map}
 use Rattle.model.specs.Maps.{own, helper, owner, point, edge-link}
@@ -65,21 +66,6 @@ module _ (m : Map) where
   -- from a on, at most so many
   abbrev corners-ahead : ℕ → ℕ → List ℕ
   corners-ahead ahead a = ring (next-corner m) (owner (m .reference)) ahead a
-
-  -- a corner, and then none, since the next one is the first ..
-  last-ahead : (ahead a : ℕ) → 0 < ahead → next-corner m a ≡ owner (m .reference) →
-      corners-ahead ahead a ≡ a ∷ corners-ahead 0 (next-corner m a)
-  unfolding ring
-  last-ahead (suc k) a h e = rw (eq-eqb (next-corner m a) (owner (m .reference)) e)
-
-  -- .. or then those from the next one on
-  more-ahead : (ahead a : ℕ) → 0 < ahead → next-corner m a ≢ owner (m .reference) →
-      corners-ahead ahead a ≡ a ∷ corners-ahead (ahead - 1) (next-corner m a)
-  unfolding ring
-  more-ahead (suc k) a h e =
-      let one-less : k ≡ suc k - 1 = omega arith in
-      rw (ne-eqb (next-corner m a) (owner (m .reference)) e)
-      (ap (λ (j : ℕ). a ∷ corners-ahead j (next-corner m a)) one-less)
 
 -- ---- a corner whose two edges are both visible, or both hidden, is not sought
 
@@ -180,12 +166,14 @@ module _ (m : Map) (p : Point) where
 
       -- none, since the next corner is the first ..
       pub passed-last : b ≡ owner (m .reference) → SightAhead leaving left′ right′ visible′ b 0
-      passed-last e = passed 0 more (rw to (last-ahead m ahead a more (sym to ∙ e)))
+      passed-last e = passed 0 more (rw to (ring-last (next-corner m) (owner (m .reference)) ahead a more (sym to ∙ e)))
 
       -- .. or one less
       pub passed-one : {on : ℕ} → on ≡ ahead - 1 → b ≢ owner (m .reference) → SightAhead leaving left′ right′ visible′ b on
       passed-one one-less n =
-          rw one-less (passed (ahead - 1) (omega arith) (rw to (more-ahead m ahead a more (λ e. n (to ∙ e)))))
+          rw one-less
+          (passed (ahead - 1) (omega arith)
+          (rw to (ring-more (next-corner m) (owner (m .reference)) ahead a more (λ e. n (to ∙ e)))))
 
     -- none is ahead, and all is found
     pub at-end : {entering : Bool} {left right : Sought} {visible a ahead : ℕ} →

@@ -19,6 +19,7 @@ use Rattle.model.specs.Maps.{own, helper, owner, has-helper, is-present, edge-l
 use Rattle.model.specs.Outline.{next-corner}
 use Rattle.model.specs.Reading.{links-of, number-of, darts}
 use Rattle.model.specs.Sound.{Shaped}
+use Rattle.model.proofs.Sound.{moved-present}
 use Rattle.maps.proofs.Darts.{own-or-helper, present-helper, present-dart, point-twice, point-present}
 
 -- the edge link undoes itself and keeps the present darts
@@ -70,14 +71,9 @@ module _ {m : Map} (s : Shaped m) where
   unfolding number-of links-of darts face-link
   counts-balance = balance (edge-involutes (sound-linked s)) (point-involutes m)
 
-  -- a dart that is moved is present
-  pub moved-present : (d : ℕ) → edge-link m d ≢ d → T (is-present m d)
-  moved-present d moves =
-      ⊎-elim (λ t. t) (λ t. absurd (moves (s .links .absent d (T-not (is-present m d) t)))) (decide (is-present m d))
-
   -- a helper that is moved belongs to a point that has one
   pub moved-helper-owned : (a : ℕ) → edge-link m (helper a) ≢ helper a → T (has-helper m a)
-  moved-helper-owned a moves = present-helper m a (moved-present (helper a) moves)
+  moved-helper-owned a moves = present-helper m a (moved-present m (s .links .absent) (helper a) moves)
 
   -- an own dart that is moved belongs to a point with a helper ..
   pub moved-own-owned : (a : ℕ) → edge-link m (own a) ≢ own a → T (has-helper m a)

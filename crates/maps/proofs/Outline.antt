@@ -8,13 +8,15 @@
 -- own darts are reached to such points, no two to the same. So it comes back, and `ring` runs
 -- through all of them.
 use mathlib.Core.Path.{_≡_, refl, sym, ap, subst, _∙_}
-use mathlib.Core.Logic.{_≢_, _↔_}
+use mathlib.Core.Logic.{_≢_, _↔_, ⊎-elim}
 use mathlib.Core.Bool.{Bool}
 use mathlib.Core.List.{List, [], _∷_, _++_}
-use Prim.Native.Nat.{ℕ, _≤_}
+use Prim.Native.Nat.{ℕ, _≤_, _<_}
 use native.Mathlib.Omega.{arith}
 use lib.Dec.{T}
 use lib.ListN.{length}
+use borrow.Author.Tests.{lt-ltb}
+use Rattle.finite.specs.Bounded.{lt-or-ge}
 use Rattle.finite.specs.Lists.{elem}
 use Rattle.finite.specs.ListLaws.{elem-head, elem-one}
 use Rattle.finite.specs.Cycles.{Cycle}
@@ -33,6 +35,13 @@ use Rattle.model.specs.Sound.{Shaped}
 use Rattle.maps.proofs.Darts.{owner-own, own-dart, own-injective, present-owner, present-dart, point-helper}
 use Rattle.maps.proofs.Links.{Linked, sound-linked, links, DartOf, links-keep, links-symmetric, edge-injective, moved-own, moved-own-owned, next-owned, next-another}
 use Rattle.maps.proofs.Circuits.{Edge, Circuit, circuit-next, circuit-previous, circuit-both-ways, circuit-rotate, circuit-outline, circuit-iff, circuit-dart, circuit-closed-part}
+
+-- there is an outline only with two points or more
+pub outline-two : (m : Map) (a : ℕ) → T (elem a (outline m)) → 2 ≤ m .count
+unfolding outline elem
+outline-two m a h =
+    ⊎-elim (λ (few : m .count < 2). absurd (rw (lt-ltb (m .count) 2 few) at h)) (λ l. l)
+    (lt-or-ge (m .count) 2)
 
 -- a list from whose members f leads to other members has two
 two-or-more : (f : ℕ → ℕ) (x : ℕ) (t : List ℕ) → T (elem x t) →

@@ -16,7 +16,6 @@ use native.Mathlib.Nat.{le-refl}
 use native.Mathlib.Omega.{arith}
 use lib.Dec.{T, T-not}
 use lib.ListN.{length, length-append}
-use borrow.Author.Tests.{lt-ltb}
 use Rattle.finite.specs.Tests.{decide}
 use Rattle.finite.specs.Bounded.{lt-or-ge}
 use Rattle.finite.specs.Lists.{elem}
@@ -39,7 +38,7 @@ use Rattle.model.specs.Sound.{Shaped}
 use Rattle.maps.proofs.Darts.{own-differs, own-injective, helper-injective, own-or-helper, by-present, present-dart, point-own, point-helper, point-lone}
 use Rattle.maps.proofs.Links.{Linked, sound-linked, edge-involutes, point-involutes, links-keep}
 use Rattle.maps.proofs.Circuits.{Edge, Circuit, edge-back, circuit-dart}
-use Rattle.maps.proofs.Outline.{outline-circuit, outline-rotated, outline-reach, closed-reached}
+use Rattle.maps.proofs.Outline.{outline-two, outline-circuit, outline-rotated, outline-reach, closed-reached}
 
 -- the walk from a dart
 abbrev pub walk-from : Map → ℕ → Walk
@@ -135,15 +134,9 @@ module _ {m : Map} (s : Shaped m) where
 
   -- ---- from a dart of the outline
 
-  -- there is an outline only with two points or more
-  outline-two : (x : ℕ) → T (elem x (outline m)) → 2 ≤ m .count
-  unfolding outline elem
-  outline-two x h =
-      ⊎-elim (λ (few : m .count < 2). absurd (rw (lt-ltb (m .count) 2 few) at h)) (λ l. l) (lt-or-ge (m .count) 2)
-
   module _ (d : ℕ) (on : T (elem (owner d) (outline m))) where
     two : 2 ≤ m .count
-    two = outline-two (owner d) on
+    two = outline-two m (owner d) on
 
     outline-dart : T (is-present m d)
     outline-dart = circuit-dart (outline-circuit s two) d on .is-present

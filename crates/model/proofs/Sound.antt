@@ -10,14 +10,13 @@ use native.Mathlib.Nat.{zero-add}
 use native.Mathlib.Omega.{arith}
 use lib.Dec.{T, T-not, not-T, ltb, leb, eqb, ltb→lt, leb→le, eqb→eq, lt→ltb, le→leb}
 use lib.IntN.{ℤ, pos}
-use lib.ListN.{length, getD, drop, length-drop, List·getD-eq-default}
-use lib.Seq.{getD-drop}
+use lib.ListN.{length, getD, drop, List·getD-eq-default}
 use Rattle.integers.specs.Order.{eqZ, eqZ-true, eq-eqZ}
 use Rattle.finite.specs.Tests.{_⇒_, and-left, and-right, and-both, or-cases, or-left, or-right, implies-use, implies-by, decide, is-true, of-true, differ-use, differ-by, equal-by}
 use Rattle.finite.specs.Bounded.{all-at, all-by, lt-or-ge}
 use Rattle.finite.specs.Lists.{elem, all-in}
-use Rattle.finite.specs.ListLaws.{all-elem, all-of-elem, all-in-at, all-in-by, all-places-at}
-use Rattle.finite.specs.ListLaws.{all-places-by, getD-any}
+use Rattle.finite.specs.ListLaws.{all-elem, all-of-elem, all-places-at, all-places-by, getD-any}
+use Rattle.finite.specs.Loops.{from-on}
 use Rattle.orbits.specs.Sets.{dart-limit}
 use Rattle.orbits.specs.Classes.{is-fixed, is-closed}
 use Rattle.model.specs.declared.Point.{Point}
@@ -60,21 +59,24 @@ present-below m d t =
 -- the default passes; and the other way round
 module _ {A : Type 0} (p : A → Bool) (s : List A) (n : ℕ) (d : A) where
   from-place : T (p d) → T (all-in p (drop n s)) → (k : ℕ) → n ≤ k → T (p (getD s k d))
-  from-place past t k h = ⊎-elim within beyond (lt-or-ge k (length s))
-    where
-      within : k < length s → T (p (getD s k d))
-      within l =
-          let e : n + (k - n) ≡ k = omega arith in
-          subst (λ (a : A). T (p a)) (getD-drop n s (k - n) d ∙ ap (λ (j : ℕ). getD s j d) e)
-          (all-in-at p (drop n s) t (k - n) d (omega (arith, length-drop n s)))
-
-      beyond : length s ≤ k → T (p (getD s k d))
-      beyond l = subst (λ (a : A). T (p a)) (sym (List·getD-eq-default s d l)) past
+  from-place past t k h =
+      ⊎-elim (from-on s n d p .each t k h)
+      (λ (l : length s ≤ k). subst (λ (a : A). T (p a)) (sym (List·getD-eq-default s d l)) past)
+      (lt-or-ge k (length s))
 
   from-places : ((k : ℕ) → n ≤ k → T (p (getD s k d))) → T (all-in p (drop n s))
-  from-places f =
-      all-in-by p (drop n s) d
-      (λ i h. subst (λ (a : A). T (p a)) (sym (getD-drop n s i d)) (f (n + i) (omega arith)))
+  from-places f = from-on s n d p .whole (λ k h l. f k h)
+
+-- coordinates that are 0 from place n on
+pub zero-from : (s : List ℤ) (n : ℕ) → T (all-in (eqZ (pos 0)) (drop n s)) → (k : ℕ) → n ≤ k →
+    getD s k (pos 0) ≡ pos 0
+zero-from s n c k h = sym (eqZ-true _ _ (is-true _ (from-place (eqZ (pos 0)) s n (pos 0) tt c k h)))
+
+-- where the edge link leaves absent darts alone, a dart that it moves is present
+pub moved-present : (m : Map) → ((d : ℕ) → ¬ T (is-present m d) → edge-link m d ≡ d) →
+    (d : ℕ) → edge-link m d ≢ d → T (is-present m d)
+moved-present m absent d moves =
+    ⊎-elim (λ p. p) (λ p. absurd (moves (absent d (T-not (is-present m d) p)))) (decide (is-present m d))
 
 -- the tests one by one
 record EachTest (m : Map) : Type 0 where
@@ -110,16 +112,12 @@ module _ (m : Map) (t : EachTest m) where
   unfolding arrays-whole
   lengths = let w = t .whole in search (and-left, and-right, eqb→eq) depth 6
 
-  -- a coordinate list that is vacant from place `count` on
-  zero-from : (s : List ℤ) → T (all-in (eqZ (pos 0)) (drop (m .count) s)) → (k : ℕ) → m .count ≤ k → getD s k (pos 0) ≡ pos 0
-  zero-from s c k h = sym (eqZ-true _ _ (is-true _ (from-place (eqZ (pos 0)) s (m .count) (pos 0) tt c k h)))
-
   vacant : (k : ℕ) → m .count ≤ k → point m k ≡ origin
   unfolding places-vacant point
   vacant k h =
       let c = t .all-vacant in
-      let x = zero-from (m .xs) (search and-left) k h in
-      let y = zero-from (m .ys) (search and-right) k h in
+      let x = zero-from (m .xs) (m .count) (search and-left) k h in
+      let y = zero-from (m .ys) (m .count) (search and-right) k h in
       λ i. record { x = x i; y = y i }
 
   helper-owned : (k : ℕ) → T (has-helper m k) → k < m .count
@@ -151,15 +149,11 @@ module _ (m : Map) (t : EachTest m) where
       (λ p. let e = absent-is-fixed d (T-not (is-present m d) p) in ap (edge-link m) e ∙ e)
       (decide (is-present m d))
 
-  moved-present : (d : ℕ) → edge-link m d ≢ d → T (is-present m d)
-  moved-present d moves =
-      ⊎-elim (λ p. p) (λ p. absurd (moves (absent-is-fixed d (T-not (is-present m d) p)))) (decide (is-present m d))
-
   -- where an edge link moves a dart, the two tests of where it leads
   cross-tests : (d : ℕ) → edge-link m d ≢ d → T (not (eqb (d % 2) (edge-link m d % 2)) && not (eqb (owner d) (owner (edge-link m d))))
   unfolding edges-cross is-fixed
   cross-tests d moves =
-      let p = moved-present d moves in
+      let p = moved-present m absent-is-fixed d moves in
       implies-use (is-present m d && not (is-fixed (edge-link m) d))
       (not (eqb (d % 2) (edge-link m d % 2)) && not (eqb (owner d) (owner (edge-link m d))))
       (all-at (dart-bound m) _ (t .crossed) d (present-below m d p))

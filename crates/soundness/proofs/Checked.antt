@@ -1,27 +1,23 @@
 -- The soundness check: a sound map passes three groups of tests, and where the points have passed
 -- theirs every place lies in range, for a place without a point holds 0, 0.
 -- Assumes nothing.
-use mathlib.Core.Path.{_≡_, sym}
+use mathlib.Core.Path.{_≡_}
 use mathlib.Core.Logic.{⊎-elim}
 use mathlib.Core.Bool.{_&&_, and-assoc, and-true}
-use mathlib.Core.List.{List}
 use Prim.Native.Nat.{ℕ, _≤_, _<_}
 use borrow.Author.Tests.{lt-ltb, le-ltb, le-leb, lt-leb}
 use lib.Dec.{T, leb→le}
-use lib.IntN.{ℤ, pos}
-use lib.ListN.{length, getD, drop, List·getD-eq-default}
-use Rattle.integers.specs.Order.{eqZ, eqZ-true}
+use lib.ListN.{length}
 use Rattle.finite.specs.Tests.{and-left, and-right, and-both, is-true, equal-by}
 use Rattle.finite.specs.Bounded.{all-at, lt-or-ge}
-use Rattle.finite.specs.Lists.{all-in}
 use Rattle.orbits.specs.Sets.{dart-limit}
 use Rattle.model.specs.declared.Map.{Map}
 use Rattle.model.specs.Plane.{in-range, coordinate-in-range}
 use Rattle.model.specs.Maps.{point, point-limit}
 use Rattle.model.specs.Sound.{arrays-whole, count-fits, points-in-range, places-vacant, links-undo}
 use Rattle.model.specs.Sound.{one-outline, reference-on-outline, others-left, no-outline, sound}
+use Rattle.model.proofs.Sound.{zero-from}
 use Rattle.soundness.specs.Checks.{points-sound, links-sound, outline-sound}
-use Rattle.finite.specs.Loops.{from-on}
 
 -- arrays of the declared lengths
 pub record Whole (m : Map) : Type 0 where
@@ -48,16 +44,6 @@ module _ (m : Map) (t : T (points-sound m)) where
   unfolding count-fits
   count-within = leb→le (m .count) point-limit (search (and-left, and-right))
 
-  -- coordinates that are vacant from place `count` on
-  vacant-from : (s : List ℤ) → T (all-in (eqZ (pos 0)) (drop (m .count) s)) → (k : ℕ) → m .count ≤ k →
-      getD s k (pos 0) ≡ pos 0
-  vacant-from s c k h =
-      ⊎-elim
-      (λ (l : k < length s).
-      sym (eqZ-true _ _ (is-true _ (from-on s (m .count) (pos 0) (eqZ (pos 0)) .each c k h l))))
-      (λ (l : length s ≤ k). List·getD-eq-default s (pos 0) l)
-      (lt-or-ge k (length s))
-
   pub places-in-range : (k : ℕ) → T (in-range (point m k))
   unfolding points-in-range places-vacant point in-range coordinate-in-range
   places-in-range k =
@@ -66,8 +52,8 @@ module _ (m : Map) (t : T (points-sound m)) where
       ⊎-elim
       (λ (l : k < m .count). all-at (m .count) _ ranged k l)
       (λ (l : m .count ≤ k).
-      let x = vacant-from (m .xs) (search and-left) k l in
-      let y = vacant-from (m .ys) (search and-right) k l in
+      let x = zero-from (m .xs) (m .count) (search and-left) k l in
+      let y = zero-from (m .ys) (m .count) (search and-right) k l in
       rw (x, y) tt)
       (lt-or-ge k (m .count))
 

@@ -13,7 +13,7 @@ use model::Point;
 use model::Refusal;
 use model::refusal_number;
 use orbits::DartSet;
-use reports::deciding::TEXT_LIMIT;
+use reports::is_too_long;
 use saved::write_map;
 ghost use mathlib.Core.Path.{_≡_};
 ghost use mathlib.Core.Bool.{true};
@@ -152,7 +152,7 @@ pub fn write_corner_list(map: Map, out: &mut [usize], count: &mut [usize]) -> u3
 pub fn uncounted(text: &[u8]) -> u32
     ensures { λ r. ⌜ r ≡ number-by (and-short (report-rules (now (text .entry))) true) ⌝ }
 {
-    if TEXT_LIMIT < text.len() {
+    if is_too_long(text) {
         return 9;
     }
     10

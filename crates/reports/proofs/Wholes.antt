@@ -8,7 +8,7 @@ use mathlib.Core.Bool.{Bool, true, false, cond}
 use mathlib.Core.List.{List, _++_}
 use Prim.Native.Nat.{ℕ, suc, _+_, _-_, _≤_, _<_}
 use native.Mathlib.Omega.{arith}
-use borrow.Author.Tests.{lt-ltb, le-ltb}
+use lib.Dec.{ltb}
 use lib.ListN.{length, take, length-append, length-take}
 use lib.Seq.{take-at}
 use Rattle.finite.specs.Tests.{same-or-not}
@@ -37,17 +37,18 @@ use Rattle.reports.proofs.ReportLines.{report-line-most, lines-more, li
 
 -- ---- a text that is too long
 
-pub decides-long : {text : List ℕ} {d : Decided} → text-limit < length text → d .ends .long ≡ true →
-    Fits d → Decides text d
+pub decides-long : {text answers : List ℕ} {d : Decided} → ltb text-limit (length text) ≡ true →
+    d .ends .long ≡ true → length answers ≡ text-limit → Fits d → Decides text answers d
 unfolding report report-of
-decides-long {text} {d} h long fits =
+decides-long {text} {answers} {d} h long whole fits =
     record {
+      whole = whole;
       fits = fits;
       is-report =
-          report-long (d .answers) (corners-in d) (d .ends) long
+          report-long answers (corners-in d) (d .ends) long
           ∙ ap (λ (b : Bool). header
           ++ cond b (printed (refused Refusal.LongText)) (arrivals empty-map 0 (lines text)))
-          (sym (lt-ltb text-limit (length text) h));
+          (sym h);
     }
 
 -- ---- any other text
@@ -55,23 +56,22 @@ decides-long {text} {d} h long fits =
 module _ {text answers : List ℕ} {s : Surveyed} {list : CornerList} {c : Counts}
     (surveys : Surveys text answers s) (lists : ListsCorners (s .map) list)
     (numbers : c ≡ counts (s .map))
-    (short : length text ≤ text-limit) where
+    (short : ltb text-limit (length text) ≡ false) where
   abbrev decided : Decided
   decided =
       record {
-        answers = answers;
         corners = list .places;
         listed = list .count;
         ends = record { lines = s .lines; long = false; counts = c };
       }
 
-  pub decides-short : Decides text decided
+  pub decides-short : Decides text answers decided
   unfolding report report-of
   decides-short =
       record {
+        whole = surveys .whole;
         fits =
             record {
-              answers-whole = surveys .whole;
               corners-whole = lists .whole;
               corners-fit = lists .fits;
               lines-fit = surveys .lines-fit;
@@ -82,7 +82,7 @@ module _ {text answers : List ℕ} {s : Surveyed} {list : CornerList} {c : Count
             (rw (lists .members, numbers, ← closing-lines (s .map)) (surveys .together))
             ∙ ap (λ (b : Bool). header
             ++ cond b (printed (refused Refusal.LongText)) (arrivals empty-map 0 (lines text)))
-            (sym (le-ltb text-limit (length text) short));
+            (sym short);
       }
 
 -- ---- writing all of it
@@ -138,10 +138,10 @@ module _ {d : Decided} (f : Fits d) where
 
 -- ---- piece by piece
 
-module _ (d : Decided) {from : ℕ} {lent after : List ℕ} {r : Piece}
-    (p : WroteLines d from lent after r) where
+module _ (answers : List ℕ) (d : Decided) {from : ℕ} {lent after : List ℕ} {r : Piece}
+    (p : WroteLines answers d from lent after r) where
   abbrev piece : ℕ → List ℕ
-  piece k = lines-from (d .answers) (corners-in d) (d .ends) from k
+  piece k = lines-from answers (corners-in d) (d .ends) from k
 
   -- the list is as long as before
   pub piece-whole : length after ≡ length lent
@@ -159,7 +159,7 @@ module _ (d : Decided) {from : ℕ} {lent after : List ℕ} {r : Piece}
         arith,
         p .wrote .ends,
         ap (λ (k : ℕ). length (piece k)) e,
-        ap length (lines-none (d .answers) (corners-in d) (d .ends) from),
+        ap length (lines-none answers (corners-in d) (d .ends) from),
       ))))
       (lt-or-ge from (r .next))
 
@@ -173,7 +173,7 @@ module _ (d : Decided) {from : ℕ} {lent after : List ℕ} {r : Piece}
       (omega (
         arith,
         p .full l,
-        report-line-most (d .answers) (corners-in d) (d .ends) (corners-few f) (r .next),
+        report-line-most answers (corners-in d) (d .ends) (corners-few f) (r .next),
       )))
       (λ (l : line-count (d .ends) ≤ r .next). omega (arith, p .whole h))
       (lt-or-ge (r .next) (line-count (d .ends)))
@@ -194,20 +194,20 @@ module _ (d : Decided) {from : ℕ} {lent after : List ℕ} {r : Piece}
       ap (take (r .length)) (p .wrote .holds)
       ∙ take-at (piece (r .next - from)) _ (r .length) (sym e)
 
-pub pieces-are : {d : Decided} {j : ℕ} {s : List ℕ} → Pieces d j s →
-    s ≡ lines-from (d .answers) (corners-in d) (d .ends) 0 j
-pieces-are {d} begun = sym (lines-none (d .answers) (corners-in d) (d .ends) 0)
-pieces-are {d} (continued {from = from} {r = r} before p) =
+pub pieces-are : {answers : List ℕ} {d : Decided} {j : ℕ} {s : List ℕ} → Pieces answers d j s →
+    s ≡ lines-from answers (corners-in d) (d .ends) 0 j
+pieces-are {answers} {d} begun = sym (lines-none answers (corners-in d) (d .ends) 0)
+pieces-are {answers} {d} (continued {from = from} {r = r} before p) =
     let e : from + (r .next - from) ≡ r .next = omega (arith, p .further) in
     let z : from ≡ 0 + from = omega arith in
-    (λ t. pieces-are before t ++ piece-bytes d p t)
-    ∙ ap (λ (i : ℕ). lines-from (d .answers) (corners-in d) (d .ends) 0 from
-    ++ lines-from (d .answers) (corners-in d) (d .ends) i (r .next - from)) z
-    ∙ lines-joined (d .answers) (corners-in d) (d .ends) 0 from (r .next - from)
-    ∙ ap (lines-from (d .answers) (corners-in d) (d .ends) 0) e
+    (λ t. pieces-are before t ++ piece-bytes answers d p t)
+    ∙ ap (λ (i : ℕ). lines-from answers (corners-in d) (d .ends) 0 from
+    ++ lines-from answers (corners-in d) (d .ends) i (r .next - from)) z
+    ∙ lines-joined answers (corners-in d) (d .ends) 0 from (r .next - from)
+    ∙ ap (lines-from answers (corners-in d) (d .ends) 0) e
 
 -- the pieces from position 0 to the end are the report on the text
-pub pieces-are-the-report : {text : List ℕ} {d : Decided} {s : List ℕ} → Decides text d →
-    Pieces d (line-count (d .ends)) s → s ≡ report text
+pub pieces-are-the-report : {text answers : List ℕ} {d : Decided} {s : List ℕ} →
+    Decides text answers d → Pieces answers d (line-count (d .ends)) s → s ≡ report text
 unfolding report-of
 pieces-are-the-report decides pieces = pieces-are pieces ∙ decides .is-report

@@ -66,14 +66,14 @@ pub record Surveys (text answers : List ℕ) (s : Surveyed) : Type 0 where
   pub together : answer-lines answers (s .lines) ++ closing (s .map)
       ≡ arrivals empty-map 0 (lines text)
 
--- arrays and numbers within their limits
+-- the corners and the number of lines within their limits
 pub record Fits (d : Decided) : Type 0 where
-  pub answers-whole : length (d .answers) ≡ text-limit
   pub corners-whole : length (d .corners) ≡ point-limit
   pub corners-fit : d .listed ≤ point-limit
   pub lines-fit : d .ends .lines ≤ text-limit
 
 -- what is decided is the report on the text
-pub record Decides (text : List ℕ) (d : Decided) : Type 0 where
+pub record Decides (text answers : List ℕ) (d : Decided) : Type 0 where
+  pub whole : length answers ≡ text-limit
   pub fits : Fits d
-  pub is-report : report-of d ≡ report text
+  pub is-report : report-of answers d ≡ report text

@@ -55,5 +55,5 @@ line-count ends = cond (ends .long) 2 (ends .lines + 3)
 abbrev pub corners-in : Decided → List ℕ
 corners-in d = take (d .listed) (d .corners)
 
-unfoldable pub report-of : Decided → List ℕ
-report-of d = lines-from (d .answers) (corners-in d) (d .ends) 0 (line-count (d .ends))
+unfoldable pub report-of : List ℕ → Decided → List ℕ
+report-of answers d = lines-from answers (corners-in d) (d .ends) 0 (line-count (d .ends))

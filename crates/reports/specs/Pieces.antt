@@ -10,16 +10,17 @@ use Rattle.reports.specs.Lines.{corners-in}
 use Rattle.reports.specs.Printing.{PutLines}
 
 -- the printed lines of what was decided
-abbrev pub WroteLines : Decided → ℕ → List ℕ → List ℕ → Piece → Type 0
-WroteLines d from lent after r = PutLines (d .answers) (corners-in d) (d .ends) from lent after r
+abbrev pub WroteLines : List ℕ → Decided → ℕ → List ℕ → List ℕ → Piece → Type 0
+WroteLines answers d from lent after r =
+    PutLines answers (corners-in d) (d .ends) from lent after r
 
 -- no printed line is longer
 abbrev pub line-limit : ℕ
 line-limit = 16_384
 
 -- pieces that bring from position 0 to a position, and their bytes
-pub data Pieces (d : Decided) : ℕ → List ℕ → Type 0 where
-  begun : Pieces d 0 []
-  continued : {from : ℕ} {s lent after : List ℕ} {r : Piece} → Pieces d from s →
-      WroteLines d from lent after r →
-      Pieces d (r .next) (s ++ take (r .length) after)
+pub data Pieces (answers : List ℕ) (d : Decided) : ℕ → List ℕ → Type 0 where
+  begun : Pieces answers d 0 []
+  continued : {from : ℕ} {s lent after : List ℕ} {r : Piece} → Pieces answers d from s →
+      WroteLines answers d from lent after r →
+      Pieces answers d (r .next) (s ++ take (r .length) after)

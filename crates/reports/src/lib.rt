@@ -1,5 +1,6 @@
 // The report on a survey text. First every line is decided, then the report's length is known, and
-// then its bytes are written: nothing is computed twice, and no array holds a report.
+// then its bytes are written: nothing is computed twice, and no array holds a report. The answers of
+// the lines stand in an array that the caller lends, so that no call copies them.
 
 pub mod deciding;
 mod packing;
@@ -17,27 +18,43 @@ use model::Counts;
 use model::POINT_LIMIT;
 ghost use mathlib.Core.Path.{_≡_};
 ghost use Prim.Native.Nat.{_≤_};
+ghost use lib.Dec.{ltb};
 ghost use lib.ListN.{length};
 ghost use Rattle.finite.specs.Overwriting.{over};
+ghost use Rattle.model.specs.Report.{text-limit};
 ghost use Rattle.reports.specs.Lines.{report-of};
 ghost use Rattle.reports.specs.Deciding.{Decides, Fits};
 ghost use Rattle.reports.specs.Pieces.{WroteLines};
 
-// What is decided of a text: the answers of its lines, each as one number; the corners, which are
-// the first so many of a list; and the ends.
+// What is decided of a text beside the answers of its lines: the corners, which are the first so
+// many of a list, and the ends.
 pub struct Decided {
-    pub answers: [u32; TEXT_LIMIT],
     pub corners: [usize; POINT_LIMIT],
     pub listed: usize,
     pub ends: Ends,
 }
 
-// Decides a text, whatever its bytes are. One that is too long is decided without being read.
-pub fn decide(text: &[u8]) -> Decided
-    ensures { λ r. ⌜ Decides (now (text .entry)) r ⌝ }
+// Whether a text is too long to be read: number 9.
+pub fn is_too_long(text: &[u8]) -> bool
+    ensures { λ r. ⌜ r ≡ ltb text-limit (length (now (text .entry))) ⌝ }
 {
-    let mut answers = no_answers();
-    if TEXT_LIMIT < text.len() {
+    TEXT_LIMIT < text.len()
+}
+
+// As many answers as a text may have lines, each as one number.
+pub fn no_answers() -> [u32; TEXT_LIMIT]
+    ensures { λ r. ⌜ text-limit ≡ length r ⌝ }
+{
+    [0u32; TEXT_LIMIT]
+}
+
+// Decides a text, whatever its bytes are, and leaves the answers of its lines in a lent array. One
+// that is too long is decided without being read.
+pub fn decide(text: &[u8], answers: &mut [u32; TEXT_LIMIT]) -> Decided
+    requires { ⌜ length (now answers) ≡ text-limit ⌝ }
+    ensures { λ r. ⌜ Decides (now (text .entry)) (now (answers .exit)) r ⌝ }
+{
+    if is_too_long(text) {
         let counts = Counts {
             darts: 0,
             vertices: 0,
@@ -52,13 +69,12 @@ pub fn decide(text: &[u8]) -> Decided
         };
         let corners = [0usize; POINT_LIMIT];
         return Decided {
-            answers,
             corners,
             listed: 0,
             ends,
         };
     }
-    let surveyed = decide_lines(text, &mut answers);
+    let surveyed = decide_lines(text, answers);
     let map = surveyed.map;
     let list = corners_of(map);
     let corners = list.places;
@@ -69,50 +85,45 @@ pub fn decide(text: &[u8]) -> Decided
         counts,
     };
     Decided {
-        answers,
         corners,
         listed: list.count,
         ends,
     }
 }
 
-fn no_answers() -> [u32; TEXT_LIMIT]
-    ensures { λ r. ⌜ 65536 ≡ length r ⌝ }
-{
-    [0u32; TEXT_LIMIT]
-}
-
 // How many bytes the report takes.
-pub fn length_of(decided: Decided) -> usize
+pub fn length_of(answers: &[u32], decided: Decided) -> usize
     requires { ⌜ Fits decided ⌝ }
-    ensures { λ r. ⌜ r ≡ length (report-of decided) ⌝ }
+    ensures { λ r. ⌜ r ≡ length (report-of (now (answers .entry)) decided) ⌝ }
 {
     let corners = decided.corners;
     let listed = decided.listed;
     let ends = decided.ends;
-    total_length(&decided.answers, &corners[..listed], ends)
+    total_length(answers, &corners[..listed], ends)
 }
 
 // Writes the report into a lent list that has room for it; the rest of it stays as it is.
-pub fn write_report(decided: Decided, lent: &mut [u8])
+pub fn write_report(answers: &[u32], decided: Decided, lent: &mut [u8])
     requires { ⌜ Fits decided ⌝ }
-    requires { ⌜ length (report-of decided) ≤ length (now lent) ⌝ }
-    ensures { λ _. ⌜ now (lent .exit) ≡ over (report-of decided) (now (lent .entry)) ⌝ }
+    requires { ⌜ length (report-of (now answers) decided) ≤ length (now lent) ⌝ }
+    ensures { λ _. ⌜ now (lent .exit) ≡
+        over (report-of (now (answers .entry)) decided) (now (lent .entry)) ⌝ }
 {
     let corners = decided.corners;
     let listed = decided.listed;
     let ends = decided.ends;
-    put_lines(lent, &decided.answers, &corners[..listed], ends, 0);
+    put_lines(lent, answers, &corners[..listed], ends, 0);
 }
 
 // Writes the printed lines from a position on, as many whole ones as the lent list holds, and says
 // where to go on. Position 0 is the report's first line.
-pub fn write_lines(decided: Decided, from: usize, lent: &mut [u8]) -> Piece
+pub fn write_lines(answers: &[u32], decided: Decided, from: usize, lent: &mut [u8]) -> Piece
     requires { ⌜ Fits decided ⌝ }
-    ensures { λ r. ⌜ WroteLines decided from (now (lent .entry)) (now (lent .exit)) r ⌝ }
+    ensures { λ r. ⌜ WroteLines (now (answers .entry)) decided from
+        (now (lent .entry)) (now (lent .exit)) r ⌝ }
 {
     let corners = decided.corners;
     let listed = decided.listed;
     let ends = decided.ends;
-    put_lines(lent, &decided.answers, &corners[..listed], ends, from)
+    put_lines(lent, answers, &corners[..listed], ends, from)
 }

@@ -1,4 +1,4 @@
--- `outline::main` is safe, and prints what was decided of the text. Assumes nothing.
+-- `outline::main` is safe, and prints the report on what was read. Assumes nothing.
 use borrow.Author.Needs.{needs}
 use native.Mathlib.Omega.{arith}
 use lib.ListN.{length-take}
@@ -6,10 +6,12 @@ use Rattle.outline.proofs.main.Statement.{statement}
 use Rattle.outline.proofs.main.Tie as tie
 
 array-share-prefix-text : tie.Need-array-share-prefix-text
-array-share-prefix-text c = search needs
+array-share-prefix-text c =
+    let read = c .before .before in
+    omega (arith, read .read-text .ensures .inside, read .read-text .ensures .as-long)
 
-slice-aggregate-decide : tie.Need-slice-aggregate-decide
-slice-aggregate-decide c =
+slice-aggregate-print-report : tie.Need-slice-aggregate-print-report
+slice-aggregate-print-report c =
     let read = c .before .before .before in
     omega (
       arith,
@@ -28,7 +30,9 @@ main-spec =
     (λ c κs. search needs)
     (λ c. search needs)
     array-share-prefix-text
-    slice-aggregate-decide
+    slice-aggregate-print-report
     (λ c κs. search needs)
+    (λ c. search needs)
     (λ c κs. search needs)
+    (λ c. search needs)
     (λ c. search needs))

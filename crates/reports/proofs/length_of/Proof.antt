@@ -6,7 +6,7 @@ use Rattle.reports.proofs.length_of.Statement.{statement}
 use Rattle.reports.proofs.length_of.Tie as tie
 
 abbrev at-start : tie.After-corners2 → tie.Start
-at-start c = c .before .before .before .before .before .before
+at-start c = c .before .before .before .before
 
 slice-aggregate-total-length : tie.Need-slice-aggregate-total-length
 slice-aggregate-total-length c = listed-length (at-start c .pre)

@@ -1,11 +1,11 @@
--- `reports::write_lines` meets its contract: it lends the answers and the corners. Assumes nothing.
+-- `reports::write_lines` meets its contract: it lends the corners. Assumes nothing.
 use borrow.Author.Needs.{needs}
 use Rattle.reports.proofs.Wholes.{listed-length, corners-few, printable}
 use Rattle.reports.proofs.write_lines.Statement.{statement}
 use Rattle.reports.proofs.write_lines.Tie as tie
 
 abbrev at-start : tie.After-corners2 → tie.Start
-at-start c = c .before .before .before .before .before .before .before .before
+at-start c = c .before .before .before .before .before .before
 
 slice-aggregate-put-lines : tie.Need-slice-aggregate-put-lines
 slice-aggregate-put-lines c = listed-length (at-start c .pre)

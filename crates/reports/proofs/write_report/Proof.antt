@@ -1,4 +1,4 @@
--- `reports::write_report` meets its contract: it lends the answers and the corners. Assumes
+-- `reports::write_report` meets its contract: it lends the corners. Assumes
 -- nothing.
 use borrow.Author.Needs.{needs}
 use Rattle.reports.specs.Lines.{report-of}
@@ -7,7 +7,7 @@ use Rattle.reports.proofs.write_report.Statement.{statement}
 use Rattle.reports.proofs.write_report.Tie as tie
 
 abbrev at-start : tie.After-corners2 → tie.Start
-at-start c = c .before .before .before .before .before .before .before .before
+at-start c = c .before .before .before .before .before .before
 
 slice-aggregate-put-lines : tie.Need-slice-aggregate-put-lines
 slice-aggregate-put-lines c = listed-length (at-start c .pre .0)

@@ -23,6 +23,7 @@ use model::Map;
 use model::Moved;
 use model::Offered;
 use model::Orbit;
+use model::Oriented;
 use model::Outcome;
 use model::Placed;
 use model::Point;
@@ -32,14 +33,39 @@ use model::Written;
 use orbits::DartSet;
 use orbits::Walker;
 use plane::in_range;
-use soundness::is_sound;
+use plane::orientation_of;
+ghost use mathlib.Core.Path.{_≡_};
 ghost use mathlib.Core.List.{[], _∷_};
+ghost use Rattle.model.specs.Maps.{empty-map};
+ghost use Rattle.model.specs.Sound.{sound};
 ghost use Rattle.model.specs.Outline.{corners};
 ghost use Rattle.model.specs.Answers.{Answered};
 ghost use Rattle.model.specs.Reading.{counts-call, orbit-call, unsound, walk-call, walker-call};
 ghost use Rattle.model.specs.Offers.{offer-call};
 ghost use Rattle.model.specs.Placing.{place-call};
 ghost use Rattle.model.specs.Lent.{Wrote};
+ghost use Rattle.plane.specs.OrientedAnswer.{OrientedAnswer};
+
+// The orientation of three points, positive for a left turn: number 3. A value lies within its limit.
+pub fn orientation(a: Point, b: Point, c: Point) -> Oriented
+    ensures { λ r. ⌜ OrientedAnswer a b c r ⌝ }
+{
+    orientation_of(a, b, c)
+}
+
+// The map without points, from which every survey starts.
+pub fn empty_map() -> Map
+    ensures { λ r. ⌜ r ≡ empty-map ⌝ }
+{
+    maps::empty_map()
+}
+
+// Whether a map is sound, whatever its fields hold; the answer is never refused.
+pub fn is_sound(map: Map) -> bool
+    ensures { λ r. ⌜ r ≡ sound map ⌝ }
+{
+    soundness::is_sound(map)
+}
 
 // The map after a point is offered to it, and what became of the point: numbers 1 to 5. Where the point is
 // refused, the map is as it was.

@@ -14,8 +14,8 @@ use Rattle.model.specs.declared.Outcome.{Outcome}
 use Rattle.model.specs.Refusals.{number, Rule, unless, Refuses, at-once, later, NoneApplies, none, nor}
 use Rattle.model.specs.Answers.{refused, Call, answer-of, outcome-by, Answered}
 
--- no number is above 10
-pub number-most : (r : Refusal) → number r ≤ 10
+-- no number is above 18: those of document 01 end at 10, and the requests after it bring eight more
+pub number-most : (r : Refusal) → number r ≤ 18
 unfolding number
 number-most Refusal.NotSound = omega arith
 number-most Refusal.Full = omega arith

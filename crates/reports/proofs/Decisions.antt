@@ -30,12 +30,12 @@ use Rattle.printing.proofs.Reports.{report-ended, report-goes-on}
 use Rattle.hull.proofs.Outcomes.{Accepted}
 use Rattle.reports.specs.declared.deciding.Verdict.{Verdict}
 use Rattle.reports.specs.declared.deciding.Stop.{Stop}
-use Rattle.reports.specs.Packing.{Packable, refused, packed, unpacked}
+use Rattle.reports.specs.Packing.{Packable, packed, unpacked}
 use Rattle.reports.specs.Verdicts.{verdict-by}
 use Rattle.reports.specs.Lines.{answer-at, answer-lines}
 use Rattle.reports.specs.Deciding.{Reports, Stopped, Surveys}
 use Rattle.reports.proofs.Packed.{unpacked-packed}
-use Rattle.reports.proofs.Verdicts.{line-refused, line-accepted, arrive-sound, arrive-packable}
+use Rattle.reports.proofs.Verdicts.{line-refused, refusal-packable, line-accepted, arrive-sound, arrive-packable}
 
 -- ---- the lines of the answers
 
@@ -109,8 +109,8 @@ module _ {text answers : List ℕ} {m : Map} {n at : ℕ} (r : Reports text m an
         Verdict.Refused x ≡ verdict-by (m .xs) (m .ys) (m .count) (line-at text at) →
         Reports text m (set answers n (packed (Arrival.Refused x))) (n + 1) (next-line text at)
     reports-refused x e =
-        reports-more (refusing m x) (line-refused (r .is-sound) (line-at text at) x e) (refused x)
-        (r .is-sound)
+        reports-more (refusing m x) (line-refused (r .is-sound) (line-at text at) x e)
+        (refusal-packable (m .xs) (m .ys) (m .count) text at refl e refl) (r .is-sound)
 
     -- as the code has it
     pub refuse-next : (x : Refusal) {found : Verdict} {line : Line} {v next : ℕ} →

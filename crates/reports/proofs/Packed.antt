@@ -8,20 +8,17 @@ use Rattle.model.specs.declared.Refusal.{Refusal}
 use Rattle.model.specs.declared.Arrival.{Arrival}
 use Rattle.model.specs.Refusals.{number}
 use Rattle.model.specs.Maps.{point-limit}
-use Rattle.reports.specs.Packing.{SmallValues, Packable, first, second, inside, outside, refused, packed, refusal-of, outside-of, unpacked}
+use Rattle.reports.specs.Packing.{OfLine, full, out-of-range, repeated, in-line, bad-line}
+use Rattle.reports.specs.Packing.{SmallValues, Packable, first, second, inside, outside, refused}
+use Rattle.reports.specs.Packing.{packed, refusal-of, outside-of, unpacked}
 
-refusal-back : (r : Refusal) → unpacked (number r) ≡ Arrival.Refused r
+refusal-back : {r : Refusal} → OfLine r → unpacked (number r) ≡ Arrival.Refused r
 unfolding unpacked refusal-of number
-refusal-back Refusal.NotSound = refl
-refusal-back Refusal.Full = refl
-refusal-back Refusal.OutOfRange = refl
-refusal-back Refusal.Repeated = refl
-refusal-back Refusal.InLine = refl
-refusal-back Refusal.NoDart = refl
-refusal-back Refusal.BadFile = refl
-refusal-back Refusal.BadLine = refl
-refusal-back Refusal.LongText = refl
-refusal-back Refusal.ShortList = refl
+refusal-back full = refl
+refusal-back out-of-range = refl
+refusal-back repeated = refl
+refusal-back in-line = refl
+refusal-back bad-line = refl
 
 -- ---- an outside arrival
 

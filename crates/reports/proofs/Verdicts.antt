@@ -1,31 +1,36 @@
 -- What becomes of a line, as a sound map's coordinates have it, is what the definitions offer, in
--- the order of this page: a refused line; an accepted one, and what its arrival reports; the code's
--- way to it. Assumes nothing.
-use mathlib.Core.Path.{_≡_, ap, subst, _∙_}
+-- the order of this page: a refused line, and which refusals a line can get; an accepted one, and
+-- what its arrival reports; the code's way to it. Assumes nothing.
+use mathlib.Core.Path.{_≡_, sym, ap, subst, _∙_}
 use mathlib.Core.List.{List}
 use Prim.Native.Nat.{ℕ, _≤_}
 use lib.IntN.{ℤ}
 use native.Mathlib.Omega.{arith}
 use Rattle.model.specs.declared.Refusal.{Refusal}
 use Rattle.model.specs.declared.Outcome.{Outcome}
+use Rattle.model.specs.declared.Arrival.{Arrival}
 use Rattle.model.specs.declared.Point.{Point}
 use Rattle.model.specs.declared.Map.{Map}
 use Rattle.model.specs.declared.Line.{Line}
 use Rattle.model.specs.declared.Offered.{Offered}
+use Rattle.model.specs.Refusals.{Refuses, at-once, later}
 use Rattle.model.specs.Maps.{point-limit}
 use Rattle.model.specs.Sound.{Shaped}
 use Rattle.model.specs.Arrival.{arrive, refusing}
 use Rattle.model.specs.Outline.{visible-edges}
 use Rattle.model.specs.Offers.{offer}
 use Rattle.model.specs.Report.{offer-line}
-use Rattle.hull.specs.Admission.{admission-by}
+use Rattle.model.proofs.Answers.{RulesDecide, refuses, serves, unless-decides}
+use Rattle.survey.specs.Places.{line-at}
+use Rattle.survey.proofs.Texts.{line-at-refused}
+use Rattle.hull.specs.Admission.{rules-by, admission-by}
 use Rattle.hull.proofs.Admissions.{admission-refused, admission-served, admission-accepted, visible-most, corners-below}
 use Rattle.hull.proofs.Outcomes.{Accepted, Arrives, first, second, inside, outside, arrive-arrives}
 use Rattle.hull.proofs.Arrivals.{arrival-sound}
 use Rattle.reports.specs.declared.deciding.Verdict.{Verdict}
 use Rattle.reports.specs.Verdicts.{verdict-on, verdict-by}
 use Rattle.reports.specs.Packing as packing
-use Rattle.reports.specs.Packing.{Packable}
+use Rattle.reports.specs.Packing.{OfLine, full, out-of-range, repeated, in-line, bad-line, Packable}
 
 outcome-refused : (p : Point) (r : Refusal) (o : Outcome) → Verdict.Refused r ≡ verdict-on p o →
     Outcome.Refused r ≡ o
@@ -57,6 +62,42 @@ module _ {m : Map} (s : Shaped m) where
       (admission-served s p (o .1), admission-accepted s p (o .1)) in
       (both .0 ∙ ap (arrive m) (o .0), subst (Accepted m) (o .0) (both .1))
   line-accepted (Line.Refused r) q e = absurd (let z : _≡_ {A = ℕ} 0 1 = cc in omega arith)
+
+-- ---- what a line is refused for
+
+module _ (xs ys : List ℤ) (count : ℕ) (p : Point) where
+  rule-refusal : {r : Refusal} → Refuses r (rules-by xs ys count p) → OfLine r
+  rule-refusal (at-once t e) = subst OfLine e full
+  rule-refusal (later n (at-once t e)) = subst OfLine e out-of-range
+  rule-refusal (later n (later m (at-once t e))) = subst OfLine e repeated
+  rule-refusal (later n (later m (later l (at-once t e)))) = subst OfLine e in-line
+
+  point-refusal : (r : Refusal) → Outcome.Refused r ≡ admission-by xs ys count p → OfLine r
+  unfolding admission-by
+  point-refusal r e =
+      go (unless-decides Outcome.Refused (rules-by xs ys count p) Outcome.Served) e
+    where
+      go : {o : Outcome} → RulesDecide Outcome.Refused (rules-by xs ys count p) Outcome.Served o →
+          Outcome.Refused r ≡ o → OfLine r
+      go (refuses q f) e = let is : q ≡ r = cc in subst OfLine is (rule-refusal f)
+      go (serves f) e = absurd (let z : _≡_ {A = ℕ} 0 1 = cc in omega arith)
+
+-- by the rules of an offer, or as a line that is not in form
+module _ (xs ys : List ℤ) (count : ℕ) (text : List ℕ) (at : ℕ) where
+  refusal-by : (line : Line) (r : Refusal) → line-at text at ≡ line →
+      Verdict.Refused r ≡ verdict-by xs ys count line → OfLine r
+  unfolding verdict-by
+  refusal-by (Line.Named p) r is e =
+      point-refusal xs ys count p r (outcome-refused p r (admission-by xs ys count p) e)
+  refusal-by (Line.Refused q) r is e =
+      let bad = line-at-refused text at q is in
+      let same : Refusal.BadLine ≡ r = cc in subst OfLine same bad-line
+
+  pub refusal-packable : {r : Refusal} {found : Verdict} {line : Line} →
+      found ≡ Verdict.Refused r → found ≡ verdict-by xs ys count line → line ≡ line-at text at →
+      Packable (Arrival.Refused r)
+  refusal-packable {r = r} {line = line} is ruled read =
+      packing.refused (refusal-by line r (sym read) (sym is ∙ ruled))
 
 -- ---- the arrival of an accepted point
 

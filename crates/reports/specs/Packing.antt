@@ -1,6 +1,7 @@
--- The answer of a line as one number, in the order of this page: the answers that have one; the
--- number; the answer of a number. A refusal has its own number of document 01; an outside arrival's
--- number holds left corner, right corner and visible edges. Assumes nothing.
+-- The answer of a line as one number, in the order of this page: what a line is refused for; the
+-- answers that have a number; the number; the answer of a number. A refusal has its own number of
+-- document 01, and all that a line can get are below 11, where the arrivals begin; an outside
+-- arrival's number holds left corner, right corner and visible edges. Assumes nothing.
 use mathlib.Core.Bool.{cond}
 use Prim.Native.Nat.{ℕ, _+_, _-_, _*_, _/_, _%_, _≤_, _<_}
 use lib.Dec.{ltb, eqb}
@@ -8,6 +9,14 @@ use Rattle.model.specs.declared.Refusal.{Refusal}
 use Rattle.model.specs.declared.Arrival.{Arrival}
 use Rattle.model.specs.Refusals.{number}
 use Rattle.model.specs.Maps.{point-limit}
+
+-- the numbers that a line can get: those of an offered point, 2 to 5, and "text line not in form"
+pub data OfLine : Refusal → Type 0 where
+  full : OfLine Refusal.Full
+  out-of-range : OfLine Refusal.OutOfRange
+  repeated : OfLine Refusal.Repeated
+  in-line : OfLine Refusal.InLine
+  bad-line : OfLine Refusal.BadLine
 
 -- point numbers, and as many visible edges as there are points at most
 pub record SmallValues (left right visible : ℕ) : Type 0 where
@@ -20,7 +29,7 @@ pub data Packable : Arrival → Type 0 where
   second : Packable Arrival.Second
   inside : Packable Arrival.Inside
   outside : {l r v : ℕ} → SmallValues l r v → Packable (Arrival.Outside l r v)
-  refused : (r : Refusal) → Packable (Arrival.Refused r)
+  refused : {r : Refusal} → OfLine r → Packable (Arrival.Refused r)
 
 unfoldable pub packed : Arrival → ℕ
 packed (Arrival.Refused r) = number r
@@ -29,17 +38,13 @@ packed Arrival.Second = 12
 packed Arrival.Inside = 13
 packed (Arrival.Outside l r v) = 14 + l + point-limit * (r + point-limit * v)
 
+-- what a line is refused for; a number that no line gets stands for the last
 unfoldable pub refusal-of : ℕ → Refusal
 refusal-of n =
     cond (eqb n 2) Refusal.Full
     (cond (eqb n 3) Refusal.OutOfRange
     (cond (eqb n 4) Refusal.Repeated
-    (cond (eqb n 5) Refusal.InLine
-    (cond (eqb n 6) Refusal.NoDart
-    (cond (eqb n 7) Refusal.BadFile
-    (cond (eqb n 8) Refusal.BadLine
-    (cond (eqb n 9) Refusal.LongText
-    (cond (eqb n 10) Refusal.ShortList Refusal.NotSound))))))))
+    (cond (eqb n 5) Refusal.InLine Refusal.BadLine)))
 
 abbrev pub outside-of : ℕ → Arrival
 outside-of n =

@@ -59,7 +59,7 @@ pub(crate) fn unpacked(number: u32) -> Arrival
     }
 }
 
-// The refusal of a number; any other number stands for the first.
+// What a line is refused for, by its number; a number that no line gets stands for the last.
 fn refusal_of(number: usize) -> Refusal
     ensures { λ r. ⌜ r ≡ refusal-of number ⌝ }
 {
@@ -75,20 +75,5 @@ fn refusal_of(number: usize) -> Refusal
     if number == 5 {
         return Refusal::InLine;
     }
-    if number == 6 {
-        return Refusal::NoDart;
-    }
-    if number == 7 {
-        return Refusal::BadFile;
-    }
-    if number == 8 {
-        return Refusal::BadLine;
-    }
-    if number == 9 {
-        return Refusal::LongText;
-    }
-    if number == 10 {
-        return Refusal::ShortList;
-    }
-    Refusal::NotSound
+    Refusal::BadLine
 }

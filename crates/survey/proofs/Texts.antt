@@ -17,10 +17,12 @@ use Rattle.finite.specs.Lists.{before, beyond}
 use Rattle.model.specs.declared.Line.{Line}
 use Rattle.model.specs.declared.Refusal.{Refusal}
 use Rattle.model.specs.Refusals.{unless}
-use Rattle.model.specs.Spelling.{line-feed}
+use Rattle.model.specs.Spelling.{line-feed, space}
 use Rattle.model.specs.Text.{in-first-line, is-number, digits, line-read, lines}
-use Rattle.survey.specs.Places.{at-end, line-bytes, line-end, next-line}
-use Rattle.survey.proofs.Separators.{before-part, before-short, beyond-part, before-found, before-other, beyond-found, beyond-other}
+use Rattle.survey.specs.declared.numbers.Number.{Number}
+use Rattle.survey.specs.Numbers.{named, number-read}
+use Rattle.survey.specs.Places.{at-end, line-at, line-bytes, line-end, next-line}
+use Rattle.survey.proofs.Separators.{before-part, before-short, beyond-part, before-found, before-other, beyond-found, beyond-other, line-is}
 
 module _ (text : List ℕ) (at end : ℕ) (ends : end ≡ line-end text at) where
   is-length : end ≡ at + length (line-bytes text at)
@@ -51,6 +53,20 @@ module _ (text : List ℕ) (at end : ℕ) (ends : end ≡ line-end text at) wher
 pub blank-refused : line-read [] ≡ Line.Refused Refusal.BadLine
 unfolding line-read unless before beyond is-number digits
 blank-refused = refl
+
+-- a line is refused as one that is not in form
+pub line-at-refused : (text : List ℕ) (at : ℕ) (r : Refusal) → line-at text at ≡ Line.Refused r →
+    r ≡ Refusal.BadLine
+unfolding line-at named
+line-at-refused text at r e =
+    let s = line-bytes text at in
+    go (number-read (before space s)) (number-read (beyond space s)) (sym (line-is s) ∙ e)
+  where
+    go : (x y : Number) → named x y ≡ Line.Refused r → r ≡ Refusal.BadLine
+    go (Number.Value x) (Number.Value y) e =
+        absurd (let z : _≡_ {A = ℕ} 0 1 = cc in omega arith)
+    go (Number.Value x) Number.Malformed e = cc
+    go Number.Malformed y e = cc
 
 -- ---- the lines of a text
 

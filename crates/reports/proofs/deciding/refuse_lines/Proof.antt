@@ -12,8 +12,8 @@ use Rattle.model.specs.declared.Map.{Map}
 use Rattle.model.specs.Maps.{with-points}
 use Rattle.survey.specs.Places.{at-end}
 use Rattle.hull.proofs.Admissions.{ranged-places}
-use Rattle.reports.specs.Packing.{refused}
 use Rattle.reports.specs.Deciding.{Reports}
+use Rattle.reports.proofs.Verdicts.{refusal-packable}
 use Rattle.reports.proofs.Decisions.{place-free, place-further, refuse-next, stops-before, stops-at-end}
 use Rattle.reports.proofs.deciding.refuse_lines.Statement.{statement}
 use Rattle.reports.proofs.deciding.refuse_lines.Tie as tie
@@ -64,7 +64,11 @@ returns c =
     }
 
 packed-requires : tie.Need-packed-requires Inv-loop μ-loop
-packed-requires c κs = refused _
+packed-requires c κs =
+    let told = c .before in
+    let call = told .before .before in
+    refusal-packable _ _ _ _ _ (told .found2 .given .1) (call .verdict-on .ensures)
+    (call .before .line-from .ensures)
 
 -- where a refused line was found
 abbrev at-test : tie.After-packed Inv-loop μ-loop → tie.Then1 Inv-loop μ-loop

@@ -1,22 +1,23 @@
 -- Orbits of the present darts of a sound map, of every kind, in the order of this page: links lead both
--- ways; an orbit's members are the darts reached, all present, and its size is their number; the orbits
--- of one kind part the present darts: each dart lies in its own orbit, and two orbits are the same or
--- have no dart in common. Then what the code reads: lists that hold the links give the same orbits.
+-- ways; an orbit's members are the darts reached, all present, and its size is their number; a fixed dart
+-- is an edge orbit of one; the orbits of one kind part the present darts: each dart lies in its own orbit,
+-- and two orbits are the same or have no dart in common. Then what the code reads: lists that hold the
+-- links give the same orbits.
 -- Document 01, "Reading a map". Assumes nothing.
 use mathlib.Core.Path.{_≡_, sym, subst, _∙_}
 use mathlib.Core.Logic.{_↔_, _⊎_, inl, inr, ⊎-elim}
 use mathlib.Core.List.{List}
 use Prim.Native.Nat.{ℕ, _≤_, _<_}
 use native.Mathlib.Omega.{arith}
-use lib.Dec.{T}
+use lib.Dec.{T, eqb, eqb→eq}
 use Rattle.finite.specs.Bounded.{count, lt-or-ge}
-use Rattle.finite.specs.Tests.{same-test}
+use Rattle.finite.specs.Tests.{same-test, equal-by}
 use Rattle.finite.specs.Counting.{count-same}
 use Rattle.orbits.specs.Reach.{Reach, here, reaches, StaysBelow}
 use Rattle.orbits.specs.Sets.{dart-limit, set-of, has}
 use Rattle.orbits.specs.Links.{Permutes}
 use Rattle.orbits.proofs.Reach.{Symmetric, reach-dart, reach-trans, reach-sym, reaches-sound, reaches-complete, decide-reach, keeps-stays}
-use Rattle.orbits.proofs.Permutations.{involution-permutes, compose-permutes, orbit-symmetric}
+use Rattle.orbits.proofs.Permutations.{involution-permutes, compose-permutes, orbit-symmetric, fixed-reach}
 use Rattle.orbits.proofs.Sets.{has-set-of, has-past, set-of-same, set-of-size}
 use Rattle.orbits.proofs.Parts.{reached-set-bound}
 use Rattle.model.specs.declared.Kind.{Kind}
@@ -85,6 +86,21 @@ module _ {m : Map} (s : Shaped m) where
     -- a dart lies in its own orbit
     pub orbit-own : T (has (orbit-set m kind d) d)
     orbit-own = orbit-members d .1 here
+
+  -- "A fixed dart is an edge orbit of one"
+  pub fixed-edge-alone : (d : ℕ) → T (is-present m d) → edge-link m d ≡ d →
+      orbit-set m Kind.Edge d ≡ set-of (eqb d)
+  unfolding links-of
+  fixed-edge-alone d is-there fixed =
+      set-of-same (reaches (links-of m Kind.Edge) (dart-bound m) d) (eqb d)
+      (λ e l.
+      same-test (reaches (links-of m Kind.Edge) (dart-bound m) d e) (eqb d e)
+      (λ t.
+      equal-by d e
+      (fixed-reach (edge-link m) d e fixed (reaches-sound (links-of m Kind.Edge) (dart-bound m) d e t)))
+      (λ t.
+      reaches-complete (kind-symmetric Kind.Edge .keeps) (present-dart m d is-there)
+      (subst (Reach (links-of m Kind.Edge) d) (eqb→eq d e t) here)))
 
   -- ---- the orbits of one kind
 

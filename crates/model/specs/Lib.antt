@@ -19,6 +19,7 @@
 --     Report       the report on a survey text
 --     Orders       the order in which each call looks at its rules
 --     Questions    the starred questions, one list with one check
+--     FurtherQuestions    questions of ours, one list with one check
 pub mod Spelling
 pub mod Refusals
 pub mod Answers
@@ -38,3 +39,4 @@ pub mod Text
 pub mod Report
 pub mod Orders
 pub mod Questions
+pub mod FurtherQuestions

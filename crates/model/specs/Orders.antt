@@ -19,7 +19,7 @@ use Rattle.model.specs.Saved.{saved, load-call}
 use Rattle.model.specs.Text.{line-call}
 use Rattle.model.specs.Report.{report-rules, report}
 
-abbrev numbers-of : List Rule → List ℕ
+abbrev pub numbers-of : List Rule → List ℕ
 numbers-of rules = map (λ rule. number (rule .refusal)) rules
 
 module _ (m : Map) (p q r : Point) (kind : Kind) (link : Link) (d : ℕ) (s lent : List ℕ) where

@@ -36,7 +36,7 @@ pub record Question : Type 0 where
   pub right : List ℕ
 
 infix 10 _is_
-abbrev _is_ : List ℕ → List ℕ → Question
+abbrev pub _is_ : List ℕ → List ℕ → Question
 said is right = record { said = said; right = right }
 
 unfoldable pub same-list : List ℕ → List ℕ → Bool
@@ -46,13 +46,13 @@ same-list (x ∷ s) [] = false
 same-list (x ∷ s) (y ∷ t) = eqb x y && same-list s t
 
 -- the session's points, and the map after a list of offers
-session : List Point
+unfoldable pub session : List Point
 session =
     at (pos 0) (pos 0) ∷ at (pos 4) (pos 0) ∷ at (pos 1) (pos 3) ∷ at (pos 5) (pos 4) ∷ at (pos 2) (pos 1)
     ∷ at (pos 6) (pos 7)
     ∷ []
 
-after : ℕ → Map
+unfoldable pub after : ℕ → Map
 after n = run (take n session) .map
 
 offered : Map → ℤ → ℤ → List ℕ
@@ -64,7 +64,7 @@ orientation-of a b c = printed (oriented-answer (oriented a b c))
 counts-of : Map → List ℕ
 counts-of m = printed (counted-answer (counted m))
 
-far : ℤ
+unfoldable pub far : ℤ
 far = pos 1_000_000
 
 -- "(* marked)", in the document's order

@@ -1,0 +1,343 @@
+-- Questions of ours, beside document 01's (specs/Questions): one list with the answers that document 01's
+-- sentences give, and one check over it. They pin what no starred question looks at, in the order of this
+-- page: every case of every answer; every limit; what is unsound; the session's two sums, its orbits and
+-- walkers; where a point lies; lent lists; files; lines of text. Assumes nothing.
+use mathlib.Core.Bool.{Bool, true}
+use mathlib.Core.List.{List, [], _∷_, _++_, map, flatMap, flatten}
+use Prim.Native.Nat.{ℕ, _+_, _*_}
+use Prim.Native.String.{String}
+use lib.Dec.{T}
+use lib.IntN.{ℤ, pos, negℤ}
+use lib.ListN.{length, take, set, replicate}
+use Rattle.finite.specs.Bounded.{all, any, sum, count, one-if, table-onto, table}
+use Rattle.finite.specs.Lists.{elem, all-in, all-places, any-in, count-in, first-in, before, beyond, total, ring, insert, union}
+use Rattle.orbits.specs.declared.Ending.{Ending}
+use Rattle.orbits.specs.Reach.{grow, reached, reaches}
+use Rattle.orbits.specs.Classes.{is-least, classes, is-fixed, is-closed, closed-walks}
+use Rattle.orbits.specs.Walks.{walker-at}
+use Rattle.orbits.specs.Sets.{dart-limit, bits, set-of}
+use Rattle.model.specs.declared.Refusal.{Refusal}
+use Rattle.model.specs.declared.Point.{Point}
+use Rattle.model.specs.declared.Map.{Map}
+use Rattle.model.specs.declared.Oriented.{Oriented}
+use Rattle.model.specs.declared.Arrival.{Arrival}
+use Rattle.model.specs.declared.Outcome.{Outcome}
+use Rattle.model.specs.declared.Kind.{Kind}
+use Rattle.model.specs.declared.Link.{Link}
+use Rattle.model.specs.declared.Counted.{Counted}
+use Rattle.model.specs.declared.Walked.{Walked}
+use Rattle.model.specs.declared.Moved.{Moved}
+use Rattle.model.specs.declared.Placed.{Placed}
+use Rattle.model.specs.declared.Written.{Written}
+use Rattle.model.specs.declared.Line.{Line}
+use Rattle.model.specs.Spelling.{bytes, decimal, spelt}
+use Rattle.model.specs.Refusals.{number, Rule, unless}
+use Rattle.model.specs.Answers.{Answer, oriented-answer, arrival-answer, outcome-answer, orbit-answer, counted-answer, walked-answer, moved-answer, placed-answer, written-answer, line-answer}
+use Rattle.model.specs.Plane.{coordinate-limit, coordinate-in-range, in-range, at, origin, same-point, orientation, orientation-limit, left-of, visible-from, in-line, beside, sees-edge, strictly-between, lower}
+use Rattle.model.specs.Maps.{point-limit, no-dart, other-dart, point, has-helper, is-present, edge-link, point-link, face-link, empty-map, map-of}
+use Rattle.model.specs.Outline.{next-corner, previous-corner, corners-from, outline, sees, visible-edges, lowest-corner, corners}
+use Rattle.model.specs.Sound.{arrays-whole, count-fits, points-in-range, points-differ, places-vacant, helpers-owned, absent-fixed, links-undo, edges-cross, lone-fixed, one-outline, reference-on-outline, others-left, no-outline, sound}
+use Rattle.model.specs.Reading.{links-of, number-of, darts, counts, orbit-set, walker-call}
+use Rattle.model.specs.Arrival.{cut, join, left-corner, right-corner, with-point, alone, pair, spliced, later-point, arrive, is-repeated, is-in-line, admission-rules}
+use Rattle.model.specs.Offers.{offer}
+use Rattle.model.specs.History.{Run, is-accepted, extended, run-from, run, reported, reported-edges, is-outside, outside-arrivals, edges-seen}
+use Rattle.model.specs.Placing.{strictly-visible, place-among, place-call}
+use Rattle.model.specs.Lent.{writing, lent-after}
+use Rattle.model.specs.Saved.{version, big-endian, number-at, complement, signed, block, version-place, count-place, reference-place, header-length, helpers-place, links-place, saved-length, following, coordinate, header, saved-in, saved, file-in-form-of, file-in-form, map-in}
+use Rattle.model.specs.Text.{digit-limit, is-digit, has-minus, digits, value-after, magnitude, is-number, number-value, line-read, in-first-line, lines}
+use Rattle.model.specs.Report.{text-limit, spaced, printed, offer-line, closing, arrivals, report}
+use Rattle.model.specs.Questions.{Question, _is_, same-list, session, after, far}
+
+-- ---- answers: the number, the word and the values
+
+told : Answer → List ℕ
+told a = a .number ∷ printed a
+
+-- the answer that a text spells, where the call is served
+says : String → List ℕ
+says text = 0 ∷ bytes text
+
+-- .. and where it gets 10
+short : List ℕ
+short = 10 ∷ bytes "refused 10\n"
+
+refusals : List Refusal
+refusals =
+    Refusal.NotSound ∷ Refusal.Full ∷ Refusal.OutOfRange ∷ Refusal.Repeated ∷ Refusal.InLine ∷ Refusal.NoDart
+    ∷ Refusal.BadFile
+    ∷ Refusal.BadLine
+    ∷ Refusal.LongText
+    ∷ Refusal.ShortList
+    ∷ []
+
+answers : List Question
+answers =
+    (map number refusals is 1 ∷ 2 ∷ 3 ∷ 4 ∷ 5 ∷ 6 ∷ 7 ∷ 8 ∷ 9 ∷ 10 ∷ [])
+    ∷ (told (oriented-answer (Oriented.Value (negℤ (pos 12)))) is says "orientation -12\n")
+    ∷ (told (oriented-answer (Oriented.Refused Refusal.ShortList)) is short)
+    ∷ (told (arrival-answer Arrival.First) is says "first\n")
+    ∷ (told (arrival-answer Arrival.Second) is says "second\n")
+    ∷ (told (arrival-answer Arrival.Inside) is says "inside\n")
+    ∷ (told (arrival-answer (Arrival.Outside 1 2 3)) is says "outside 1 2 3\n")
+    ∷ (told (arrival-answer (Arrival.Refused Refusal.ShortList)) is short)
+    ∷ (told (outcome-answer Outcome.Served) is says "served\n")
+    ∷ (told (outcome-answer (Outcome.Refused Refusal.ShortList)) is short)
+    ∷ (told (orbit-answer (record { outcome = Outcome.Served; darts = record { words = 7 ∷ 8 ∷ []; size = 9 } }))
+    is says "orbit 7 8 9\n")
+    ∷ (told
+    (orbit-answer (record { outcome = Outcome.Refused Refusal.ShortList; darts = record { words = []; size = 9 } }))
+    is short)
+    ∷ (told
+    (counted-answer (Counted.Numbers (record { darts = 1; vertices = 2; edges = 3; faces = 4; parts = 5 })))
+    is says "counts 1 2 3 4 5\n")
+    ∷ (told (counted-answer (Counted.Refused Refusal.ShortList)) is short)
+    ∷ (told (walked-answer (Walked.Ended (record { last = 1; ending = Ending.Home; moves = 2 }))) is says "home 1 2\n")
+    ∷ (told (walked-answer (Walked.Ended (record { last = 1; ending = Ending.Loose; moves = 2 })))
+    is says "loose 1 2\n")
+    ∷ (told (walked-answer (Walked.Refused Refusal.ShortList)) is short)
+    ∷ (told (moved-answer (Moved.At (walker-at 5))) is says "dart 5\n")
+    ∷ (told (moved-answer (Moved.Refused Refusal.ShortList)) is short)
+    ∷ (told (placed-answer Placed.NoOutline) is says "none\n")
+    ∷ (told (placed-answer (Placed.Corner 1)) is says "corner 1\n")
+    ∷ (told (placed-answer (Placed.Edge 1 2)) is says "edge 1 2\n")
+    ∷ (told (placed-answer Placed.Inside) is says "inside\n")
+    ∷ (told (placed-answer (Placed.Outside 1)) is says "outside 1\n")
+    ∷ (told (placed-answer (Placed.Refused Refusal.ShortList)) is short)
+    ∷ (told (written-answer (Written.Length 1)) is says "length 1\n")
+    ∷ (told (written-answer (Written.Refused Refusal.ShortList)) is short)
+    ∷ (told (line-answer (Line.Named (at (pos 1) (negℤ (pos 2))))) is says "point 1 -2\n")
+    ∷ (told (line-answer (Line.Refused Refusal.ShortList)) is short)
+    ∷ []
+
+-- ---- limits
+
+-- the number by the first rule that applies, 0 where none does
+number-of-rules : List Rule → ℕ
+number-of-rules rules = unless number rules 0
+
+-- a map of so many points, all at the origin, as the rules of an offer see it
+crowded : ℕ → Map
+crowded n = map-of [] [] [] [] n no-dart
+
+beyond-far : ℤ
+beyond-far = pos 1_000_001
+
+limits : List Question
+limits =
+    (coordinate-limit ∷ point-limit ∷ dart-limit ∷ no-dart ∷ digit-limit ∷ text-limit ∷ version ∷ []
+    is 1_000_000 ∷ 512 ∷ 1_024 ∷ 1_024 ∷ 7 ∷ 65_536 ∷ 1 ∷ [])
+    -- "from -1,000,000 to 1,000,000", in both coordinates
+    ∷ (map (λ p. one-if (in-range p))
+    (at far (negℤ far) ∷ at (negℤ far) far ∷ at beyond-far (pos 0) ∷ at (negℤ beyond-far) (pos 0)
+    ∷ at (pos 0) beyond-far
+    ∷ at (pos 0) (negℤ beyond-far)
+    ∷ [])
+    is 1 ∷ 1 ∷ 0 ∷ 0 ∷ 0 ∷ 0 ∷ [])
+    -- "from -4,000,000,000,000 to 4,000,000,000,000": both are attained
+    ∷ (spelt (pos orientation-limit) is bytes "4000000000000")
+    ∷ (spelt (orientation (at (negℤ far) (negℤ far)) (at far (negℤ far)) (at far far)) is bytes "4000000000000")
+    ∷ (spelt (orientation (at far (negℤ far)) (at (negℤ far) (negℤ far)) (at far far)) is bytes "-4000000000000")
+    -- "512 points already", and one fewer: the place that is looked at next holds an equal point
+    ∷ (number-of-rules (admission-rules (crowded 512) origin) ∷ number-of-rules (admission-rules (crowded 511) origin) ∷ []
+    is 2 ∷ 4 ∷ [])
+    -- "The whole is 9 + 13 × n bytes", and where its parts stand
+    ∷ (version-place ∷ count-place ∷ reference-place ∷ header-length ∷ [] is 4 ∷ 5 ∷ 7 ∷ 9 ∷ [])
+    ∷ (helpers-place 6 ∷ links-place 6 ∷ saved-length 6 ∷ following 6 ∷ [] is 57 ∷ 63 ∷ 87 ∷ 83 ∷ [])
+    ∷ (saved-length 0 ∷ saved-length 512 ∷ [] is 9 ∷ 6_665 ∷ [])
+    ∷ []
+
+-- ---- sound maps
+
+-- the first points of the session, and two points more inside
+five : Map
+five =
+    run
+    (at (pos 0) (pos 0) ∷ at (pos 4) (pos 0) ∷ at (pos 1) (pos 3) ∷ at (pos 2) (pos 1) ∷ at (pos 1) (pos 1) ∷ [])
+    .map
+
+-- a map with some of its fields changed
+with-xs : List ℤ → Map → Map
+with-xs xs m = map-of xs (m .ys) (m .helpers) (m .edge) (m .count) (m .reference)
+
+with-links : List Bool → List ℕ → Map → Map
+with-links helpers edge m = map-of (m .xs) (m .ys) helpers edge (m .count) (m .reference)
+
+with-reference : ℕ → Map → Map
+with-reference d m = map-of (m .xs) (m .ys) (m .helpers) (m .edge) (m .count) d
+
+-- the points 3 and 4 with helpers, and with these edge links of darts 6 to 9
+chained : ℕ → ℕ → ℕ → ℕ → Map → Map
+chained a b c d m =
+    with-links (set (set (m .helpers) 3 true) 4 true) (set (set (set (set (m .edge) 6 a) 7 b) 8 c) 9 d) m
+
+-- one map for each sentence of "A sound map": all else of it holds there
+unsound-maps : Map → Map → Map → List Map
+unsound-maps one two m =
+    -- an array too long
+    with-xs (m .xs ++ pos 0 ∷ []) m
+    -- a point out of range, two points that are equal, and a place without a point that holds 1, 0
+    ∷ with-xs (set (two .xs) 1 beyond-far) two
+    ∷ with-xs (set (two .xs) 1 (pos 0)) two
+    ∷ with-xs (set (m .xs) 5 (pos 1)) m
+    -- a helper, and a link, of a place without a point
+    ∷ with-links (set (m .helpers) 5 true) (m .edge) m
+    ∷ with-links (m .helpers) (set (m .edge) 10 11) m
+    -- a link that does not come back, one between own darts, and one of a point without helper
+    ∷ chained 1 7 8 9 m
+    ∷ chained 8 7 6 9 m
+    ∷ with-links (set (m .helpers) 4 true) (set (set (m .edge) 6 9) 9 6) m
+    -- a second closed walk, a reference that is a helper, and a point outside
+    ∷ chained 9 8 7 6 m
+    ∷ with-reference 5 m
+    ∷ with-xs (set (m .xs) 3 (pos 9)) m
+    -- one point with a helper, and with a reference
+    ∷ with-links (set (one .helpers) 0 true) (one .edge) one
+    ∷ with-reference 0 one
+    ∷ []
+
+sound-maps : Map → List Map
+sound-maps m = m ∷ chained 6 7 8 9 m ∷ chained 9 7 8 6 m ∷ with-reference 0 m ∷ []
+
+soundness : Map → Map → Map → List Question
+soundness one two m =
+    (map (λ m. one-if (sound m)) (sound-maps m) is 1 ∷ 1 ∷ 1 ∷ 1 ∷ [])
+    ∷ (map (λ m. one-if (sound m)) (unsound-maps one two m) is replicate 14 0)
+    ∷ []
+
+-- ---- reading
+
+-- the numbers of darts of the orbits of a dart, and where a walker comes by no link and by each
+orbit-sizes : Map → ℕ → List ℕ
+orbit-sizes m d =
+    map (λ kind. orbit-set m kind d .size) (Kind.Edge ∷ Kind.Vertex ∷ Kind.Face ∷ Kind.Part ∷ [])
+
+moves : Map → ℕ → List (List ℕ)
+moves m d =
+    map (λ link. told (moved-answer (walker-call m link d .value))) (Link.None ∷ Link.Edge ∷ Link.Point ∷ [])
+
+-- where points lie
+placings : Map → List Point → List (List ℕ)
+placings m ps = map (λ p. told (placed-answer (place-call m p .value))) ps
+
+-- both sides of the two sums
+sums : Run → List ℕ
+sums r =
+    (number-of (r .map) Kind.Vertex + number-of (r .map) Kind.Edge + number-of (r .map) Kind.Face)
+    ∷ (darts (r .map) + 2 * number-of (r .map) Kind.Part)
+    ∷ (total (map reported-edges (r .history)) + length (outline (r .map)))
+    ∷ (2 * outside-arrivals (r .history) + 2)
+    ∷ []
+
+-- of the session
+of-session : Run → List Question
+of-session r =
+    -- "6 + 7 + 4 - 11 = 2 × 3 and 1 + 1 + 2 + 4 = 2 × 3 + 2"
+    (sums r is (6 + 7 + 4) ∷ (11 + 2 * 3) ∷ (1 + 1 + 2 + 4) ∷ (2 * 3 + 2) ∷ [])
+    -- "which is the number of outline edges visible from its point in the map before it"
+    ∷ (map reported-edges (r .history) is 0 ∷ 0 ∷ 1 ∷ 1 ∷ 0 ∷ 2 ∷ [])
+    ∷ (map edges-seen (r .history) is 0 ∷ 0 ∷ 1 ∷ 1 ∷ 0 ∷ 2 ∷ [])
+    -- "A fixed dart is an edge orbit of one"
+    ∷ (orbit-sizes (r .map) 6 is 1 ∷ 2 ∷ 2 ∷ 2 ∷ [])
+    ∷ (orbit-sizes (r .map) 2 is 2 ∷ 2 ∷ 4 ∷ 8 ∷ [])
+    ∷ (flatten (moves (r .map) 2) is flatten (says "dart 2\n" ∷ says "dart 11\n" ∷ says "dart 3\n" ∷ []))
+    -- a corner, an edge, inside, outside
+    ∷ (flatten
+    (placings (r .map) (at (pos 4) (pos 0) ∷ at (pos 2) (pos 0) ∷ at (pos 5) (pos 4) ∷ at (pos 10) (pos 0) ∷ []))
+    is flatten (says "corner 1\n" ∷ says "edge 0 1\n" ∷ says "inside\n" ∷ says "outside 1\n" ∷ []))
+    ∷ []
+
+-- of the maps of no point, of one and of two
+of-few : Map → Map → Map → List Question
+of-few none one two =
+    -- "none" with fewer than two points
+    (flatten (placings one (origin ∷ [])) is says "none\n")
+    -- of two edges the first in listing order; beyond both ends no edge is visible
+    ∷ (flatten (placings two (at (pos 2) (pos 0) ∷ at (pos 5) (pos 0) ∷ at (pos 2) (pos 1) ∷ []))
+    is flatten (says "edge 0 1\n" ∷ says "outside 0\n" ∷ says "outside 1\n" ∷ []))
+    ∷ (number-of-rules (place-call none (at beyond-far (pos 0)) .rules) ∷ [] is 3 ∷ [])
+    ∷ []
+
+-- ---- lent lists and files
+
+-- the file of one point with a negative coordinate
+one-point : List ℕ
+one-point =
+    0 ∷ 0 ∷ 0 ∷ 18 ∷ 1 ∷ 0 ∷ 1 ∷ 4 ∷ 0 ∷ 255 ∷ 255 ∷ 255 ∷ 254 ∷ 0 ∷ 15 ∷ 66 ∷ 64 ∷ 0 ∷ 0 ∷ 0 ∷ 0 ∷ 1 ∷ []
+
+-- two: the file of two points
+files : List ℕ → List Question
+files two =
+    -- "lent list shorter than the result; a longer one keeps its tail"
+    (map (λ lent. number-of-rules (writing {A = ℕ} [] (1 ∷ 2 ∷ []) lent .rules)) ((7 ∷ []) ∷ (7 ∷ 8 ∷ []) ∷ []) is 10 ∷ 0 ∷ [])
+    ∷ (lent-after (Written.Length 2) (1 ∷ 2 ∷ []) (7 ∷ 8 ∷ 9 ∷ []) is 1 ∷ 2 ∷ 9 ∷ [])
+    ∷ (lent-after (Written.Refused Refusal.ShortList) (1 ∷ 2 ∷ []) (7 ∷ []) is 7 ∷ [])
+    -- two's complement, both ways
+    ∷ (saved (run (at (negℤ (pos 2)) far ∷ []) .map) is one-point)
+    ∷ (saved (map-in one-point) is one-point)
+    ∷ (flatMap (λ n. spelt (signed n)) (2_147_483_647 ∷ 2_147_483_648 ∷ 4_294_967_295 ∷ [])
+    is bytes "2147483647-2147483648-1")
+    -- in form; under 9 bytes; one byte more; the length, the version and a helper byte wrong; n above 512
+    ∷ (map (λ s. one-if (file-in-form s))
+    (two ∷ take 8 two ∷ (two ++ 0 ∷ []) ∷ set two 3 32 ∷ set two 4 2
+    ∷ set two 25 2
+    ∷ (header version 513 no-dart ++ replicate (13 * 513) 0)
+    ∷ [])
+    is 1 ∷ 0 ∷ 0 ∷ 0 ∷ 0 ∷ 0 ∷ 0 ∷ [])
+    ∷ []
+
+-- ---- texts
+
+-- the number of a line
+number-of-line : String → ℕ
+number-of-line text = line-answer (line-read (bytes text)) .number
+
+texts : List Question
+texts =
+    (told (line-answer (line-read (bytes "-1234567 0"))) is says "point -1234567 0\n")
+    -- no digit, eight digits, a leading zero, -0, a sign that is none, and spaces and numbers too many or too few
+    ∷ (map number-of-line
+    ("" ∷ " " ∷ "1" ∷ "1 " ∷ " 1" ∷ "- 1" ∷ "1 -" ∷ "12345678 0" ∷ "0 12345678" ∷ "01 0" ∷ "0 00" ∷ "-0 0" ∷ "0 -0"
+    ∷ "+1 0"
+    ∷ "--1 0"
+    ∷ "1  2"
+    ∷ " 1 2"
+    ∷ "1 2 "
+    ∷ "1 2 3"
+    ∷ "1\t2"
+    ∷ "a 0"
+    ∷ [])
+    is replicate 21 8)
+    -- "the last feed may be missing", "With no points the last two lines are .."
+    ∷ (report (bytes "0 0") is report (bytes "0 0\n"))
+    ∷ (report [] is bytes "OUTLINE 1\ncorners\ncounts 0 0 0 0 0\n")
+    -- "A blank line gets 8; later lines are still read."
+    ∷ (report (bytes "\n0 0\n") is bytes "OUTLINE 1\n0 refused 8\n1 first\ncorners 0\ncounts 1 1 1 1 1\n")
+    ∷ []
+
+pub further-questions : List Question
+further-questions =
+    answers ++ limits ++ soundness (after 1) (after 2) five ++ of-session (run session)
+    ++ of-few (after 0) (after 1) (after 2)
+    ++ files (saved (after 2))
+    ++ texts
+
+-- one check over the list
+pub further-answers-are-right : T (all-in (λ q. same-list (q .said) (q .right)) further-questions)
+unfolding table-onto all any sum count one-if table elem all-in all-places any-in count-in first-in before
+    beyond total ring insert union flatMap flatten grow reached reaches is-least classes is-fixed is-closed
+    closed-walks bits set-of bytes decimal spelt number unless oriented-answer arrival-answer outcome-answer
+    orbit-answer counted-answer walked-answer moved-answer placed-answer written-answer line-answer
+    coordinate-in-range in-range same-point orientation left-of visible-from in-line beside sees-edge
+    strictly-between lower other-dart point has-helper is-present edge-link point-link face-link empty-map
+    next-corner previous-corner corners-from outline sees visible-edges lowest-corner corners arrays-whole
+    count-fits points-in-range points-differ places-vacant helpers-owned absent-fixed links-undo edges-cross
+    lone-fixed one-outline reference-on-outline others-left no-outline sound links-of number-of darts counts cut join
+    left-corner right-corner with-point alone pair spliced later-point arrive is-repeated is-in-line offer
+    is-accepted extended run-from run reported reported-edges is-outside outside-arrivals edges-seen
+    strictly-visible place-among lent-after big-endian number-at complement signed block coordinate header
+    saved-in file-in-form-of map-in is-digit has-minus digits value-after magnitude is-number number-value
+    line-read in-first-line lines spaced printed offer-line closing arrivals report session after far same-list
+    told says short refusals answers number-of-rules crowded beyond-far limits five with-xs with-links
+    with-reference chained unsound-maps sound-maps soundness orbit-sizes moves placings sums of-session
+    of-few one-point files number-of-line texts further-questions
+further-answers-are-right = tt

@@ -4,8 +4,10 @@
 --     OpenedFiles    the map of a file after its checks
 --     Arrived        a point offered to a sound map
 --     Reported       a result and its length, in two lists
+--     Chains         demand 3 at the boundary: `file-run`
 pub mod Told
 pub mod Serving
 pub mod OpenedFiles
 pub mod Arrived
 pub mod Reported
+pub mod Chains

@@ -2,6 +2,8 @@
 --     Served     the number that is returned, and the lists as they are left
 --     Opened     the map of a file after its checks
 --     Replies    the rules and the values of each function
+--     Chains     one offer after another, each lent what the one before it left
 pub mod Served
 pub mod Opened
 pub mod Replies
+pub mod Chains

@@ -2,8 +2,10 @@
 --     Served     the number that is returned, and the lists as they are left
 --     Opened     the map of a file after its checks
 --     Replies    the rules and the values of each function
+--     Orders     the order of the rules of each function, as numbers
 --     Chains     one offer after another, each lent what the one before it left
 pub mod Served
 pub mod Opened
 pub mod Replies
+pub mod Orders
 pub mod Chains

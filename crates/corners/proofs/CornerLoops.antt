@@ -1,6 +1,6 @@
 -- The loops that look for the lowest corner and list the corners, in this order, each with its
--- invariant and the laws of its start, of a step and of the end. Round the outline, what is found and
--- what is still ahead make up the answer together.
+-- invariant and the laws of its start, of a step and of the end. What is found and what is still
+-- ahead make up the answer together.
 -- Assumes nothing.
 use mathlib.Core.Path.{_≡_, refl, sym, ap, subst, _∙_}
 use mathlib.Core.Logic.{_≢_}

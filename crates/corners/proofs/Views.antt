@@ -3,7 +3,7 @@
 -- with the laws of its start, of a step, of an early answer and of the end.
 -- What is found and what is still ahead make up the answer together. Assumes nothing.
 use mathlib.Core.Path.{_≡_, refl, sym, ap, _∙_}
-use mathlib.Core.Bool.{Bool, true, false, cond, _&&_, _||_}
+use mathlib.Core.Bool.{Bool, true, false, cond, _&&_, _||_, and-true, and-false, or-true, or-false}
 use mathlib.Core.List.{List, [], _∷_}
 use Prim.Native.Nat.{ℕ, suc, _+_, _≤_, _<_}
 use native.Mathlib.Nat.{zero-add}
@@ -14,7 +14,7 @@ use lib.ListN.{length, getD, drop, drop-of-length-le}
 use lib.Seq.{drop-cons, getD-take}
 use borrow.Author.Tests.{le-ltb}
 use Rattle.integers.specs.Order.{<ℤ-asym}
-use Rattle.finite.specs.Tests.{of-true}
+use Rattle.finite.specs.Tests.{of-true, either-way}
 use Rattle.finite.specs.Bounded.{one-if}
 use Rattle.finite.specs.Lists.{all-in, any-in, count-in, first-in}
 use Rattle.model.specs.declared.Point.{Point}
@@ -74,19 +74,11 @@ side-says a b p = go (left-of a b p) (visible-from a b p) (opposite a b p) refl 
 
 -- ---- what is found in a list of corners
 
-or-true : (b : Bool) → true ≡ (b || true)
-or-true true = refl
-or-true false = refl
-
-and-false : (b : Bool) → false ≡ (b && false)
-and-false true = refl
-and-false false = refl
-
 found-step : (v : View) (side : Side) (a : ℕ) (rest : Bool) →
     (viewed v side a .found || rest) ≡ (v .found || (says-between side || rest))
 found-step v Side.Left a rest = refl
 found-step v Side.Visible a rest = refl
-found-step v Side.Between a rest = or-true (v .found)
+found-step v Side.Between a rest = sym (or-true (v .found))
 found-step v Side.Beyond a rest = refl
 
 start-step : (v : View) (side : Side) (a : ℕ) (later : ℕ → ℕ) →
@@ -100,9 +92,9 @@ start-step v Side.Beyond a later = refl
 inside-step : (v : View) (side : Side) (a : ℕ) (rest : Bool) →
     (viewed v side a .inside && rest) ≡ (v .inside && (says-left side && rest))
 inside-step v Side.Left a rest = refl
-inside-step v Side.Visible a rest = and-false (v .inside)
-inside-step v Side.Between a rest = and-false (v .inside)
-inside-step v Side.Beyond a rest = and-false (v .inside)
+inside-step v Side.Visible a rest = sym (and-false (v .inside))
+inside-step v Side.Between a rest = sym (and-false (v .inside))
+inside-step v Side.Beyond a rest = sym (and-false (v .inside))
 
 visible-step : (v : View) (side : Side) (a rest : ℕ) →
     viewed v side a .visible + rest ≡ v .visible + (one-if (says-visible side) + rest)
@@ -121,11 +113,7 @@ module _ (m : Map) (p : Point) where
 
   view-found : (v : View) (s : List ℕ) → view-of m p v s .found ≡ (v .found || any-in (is-on-edge m p) s)
   unfolding view-of any-in
-  view-found v [] = or-false (v .found)
-    where
-      or-false : (b : Bool) → b ≡ (b || false)
-      or-false true = refl
-      or-false false = refl
+  view-found v [] = sym (or-false (v .found))
   view-found v (a ∷ s) =
       view-found (viewed v (side-from a) a) s
       ∙ found-step v (side-from a) a (any-in (is-on-edge m p) s)
@@ -134,11 +122,7 @@ module _ (m : Map) (p : Point) where
   view-start : (v : View) (s : List ℕ) →
       view-of m p v s .start ≡ cond (v .found) (v .start) (first-in (is-on-edge m p) (v .start) s)
   unfolding view-of first-in
-  view-start v [] = either (v .found)
-    where
-      either : (b : Bool) → v .start ≡ cond b (v .start) (v .start)
-      either true = refl
-      either false = refl
+  view-start v [] = sym (either-way (v .found) (v .start))
   view-start v (a ∷ s) =
       view-start (viewed v (side-from a) a) s
       ∙ start-step v (side-from a) a (λ d. first-in (is-on-edge m p) d s)
@@ -147,11 +131,7 @@ module _ (m : Map) (p : Point) where
 
   view-inside : (v : View) (s : List ℕ) → view-of m p v s .inside ≡ (v .inside && all-in (is-left-of-edge m p) s)
   unfolding view-of all-in
-  view-inside v [] = and-true (v .inside)
-    where
-      and-true : (b : Bool) → b ≡ (b && true)
-      and-true true = refl
-      and-true false = refl
+  view-inside v [] = sym (and-true (v .inside))
   view-inside v (a ∷ s) =
       view-inside (viewed v (side-from a) a) s
       ∙ inside-step v (side-from a) a (all-in (is-left-of-edge m p) s)

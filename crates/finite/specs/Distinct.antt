@@ -1,7 +1,7 @@
--- Lists in which no member stands twice, and how many members a list has, in the order of this page: lists
--- put together, in either order, without repetition; the number of the members; the list of all that pass
--- a test below a bound has them all, and none twice; how many members of a list pass a test.
--- Assumes nothing.
+-- Lists in which no member stands twice, and how many members a list has, in the order of this
+-- page: lists put together, in either order, without repetition; the number of the members; the
+-- list of all that pass a test below a bound has them all, and none twice; how many members of a
+-- list pass a test. Assumes nothing.
 use mathlib.Core.Path.{_≡_, refl, sym, ap, subst, _∙_}
 use mathlib.Core.Logic.{_≢_, _⊎_, inl, inr, ⊎-elim}
 use mathlib.Core.Bool.{Bool, true, false, not}
@@ -11,7 +11,8 @@ use native.Mathlib.Nat.{not-suc-le-zero}
 use native.Mathlib.Omega.{arith}
 use lib.Dec.{T, T-not, not-T}
 use lib.ListN.{length}
-use Rattle.finite.specs.Tests.{and-left, and-right, and-both, decide, is-true, is-false, same-test}
+use Rattle.finite.specs.Tests.{and-left, and-right, and-both, decide, is-true, is-false}
+use Rattle.finite.specs.Tests.{same-test}
 use Rattle.finite.specs.Bounded.{one-if, count, below-suc}
 use Rattle.finite.specs.Counting.{count-same, count-one-more, count-none}
 use Rattle.finite.specs.Lists.{elem, count-in, distinct, members}
@@ -42,7 +43,8 @@ distinct-join (y ∷ s) t d e apart =
     (T-not (elem y s) (and-left (not (elem y s)) (distinct s) d))
     (apart y (elem-head y s))
     (elem-append y s t m)))
-    (distinct-join s t (and-right (not (elem y s)) (distinct s) d) e (λ x m. apart x (elem-tail x y s m)))
+    (distinct-join s t (and-right (not (elem y s)) (distinct s) d) e
+    (λ x m. apart x (elem-tail x y s m)))
 
 pub distinct-left : (s t : List ℕ) → T (distinct (s ++ t)) → T (distinct s)
 unfolding distinct
@@ -51,15 +53,18 @@ distinct-left (y ∷ s) t d =
     and-both (not (elem y s)) (distinct s)
     (not-T (elem y s)
     (λ m.
-    T-not (elem y (s ++ t)) (and-left (not (elem y (s ++ t))) (distinct (s ++ t)) d) (elem-append-left y s t m)))
+    T-not (elem y (s ++ t)) (and-left (not (elem y (s ++ t))) (distinct (s ++ t)) d)
+    (elem-append-left y s t m)))
     (distinct-left s t (and-right (not (elem y (s ++ t))) (distinct (s ++ t)) d))
 
 pub distinct-right : (s t : List ℕ) → T (distinct (s ++ t)) → T (distinct t)
 unfolding distinct
 distinct-right [] t d = d
-distinct-right (y ∷ s) t d = distinct-right s t (and-right (not (elem y (s ++ t))) (distinct (s ++ t)) d)
+distinct-right (y ∷ s) t d =
+    distinct-right s t (and-right (not (elem y (s ++ t))) (distinct (s ++ t)) d)
 
-pub distinct-apart : (s t : List ℕ) → T (distinct (s ++ t)) → (x : ℕ) → T (elem x s) → ¬ T (elem x t)
+pub distinct-apart : (s t : List ℕ) → T (distinct (s ++ t)) → (x : ℕ) → T (elem x s) →
+    ¬ T (elem x t)
 unfolding distinct elem
 distinct-apart [] t d x m k = m
 distinct-apart (y ∷ s) t d x m k =
@@ -73,7 +78,8 @@ distinct-apart (y ∷ s) t d x m k =
 
 pub distinct-swap : (s t : List ℕ) → T (distinct (s ++ t)) → T (distinct (t ++ s))
 distinct-swap s t d =
-    distinct-join t s (distinct-right s t d) (distinct-left s t d) (λ x m k. distinct-apart s t d x k m)
+    distinct-join t s (distinct-right s t d) (distinct-left s t d)
+    (λ x m k. distinct-apart s t d x k m)
 
 -- ---- how many members
 
@@ -81,7 +87,8 @@ distinct-swap s t d =
 pub count-members : (n x : ℕ) (s : List ℕ) → x < n → ¬ T (elem x s) →
     count n (λ k. elem k (x ∷ s)) ≡ suc (count n (λ k. elem k s))
 count-members n x s h new =
-    count-one-more n x (λ k. elem k (x ∷ s)) (λ k. elem k s) h (elem-head x s) (not-T (elem x s) new)
+    count-one-more n x (λ k. elem k (x ∷ s)) (λ k. elem k s) h (elem-head x s)
+    (not-T (elem x s) new)
     (λ k l d.
     same-test (elem k (x ∷ s)) (elem k s)
     (λ t. ⊎-elim (λ (e : k ≡ x). absurd (d e)) (λ m. m) (elem-cases k x s t)) (elem-tail k x s))
@@ -92,12 +99,14 @@ unfolding distinct elem
 length-distinct n [] t b = sym (count-none n (λ k. elem k []) (λ k h m. m))
 length-distinct n (x ∷ s) t b =
     ap suc
-    (length-distinct n s (and-right (not (elem x s)) (distinct s) t) (λ y m. b y (elem-tail y x s m))) ∙
-    sym (count-members n x s (b x (elem-head x s)) (T-not (elem x s) (and-left (not (elem x s)) (distinct s) t)))
+    (length-distinct n s (and-right (not (elem x s)) (distinct s) t)
+    (λ y m. b y (elem-tail y x s m)))
+    ∙ sym (count-members n x s (b x (elem-head x s)) (distinct-head x s t))
 
 -- the list of the numbers that pass has them all, and none twice
 members-cases : (n : ℕ) (p : ℕ → Bool) →
-    (T (p n) × (members (suc n) p ≡ n ∷ members n p)) ⊎ (T (not (p n)) × (members (suc n) p ≡ members n p))
+    (T (p n) × (members (suc n) p ≡ n ∷ members n p))
+    ⊎ (T (not (p n)) × (members (suc n) p ≡ members n p))
 unfolding members
 members-cases n p =
     ⊎-elim
@@ -116,7 +125,8 @@ elem-members (suc n) k p m =
     (λ (t : T (elem k (members n p))). let r = elem-members n k p t in (omega arith, r .1))
     (elem-cases k n (members n p) (subst (λ (s : List ℕ). T (elem k s)) (c .1) m)))
     (λ c.
-    let r = elem-members n k p (subst (λ (s : List ℕ). T (elem k s)) (c .1) m) in (omega arith, r .1))
+    let r = elem-members n k p (subst (λ (s : List ℕ). T (elem k s)) (c .1) m) in
+    (omega arith, r .1))
     (members-cases n p)
 
 pub elem-members-by : (n k : ℕ) (p : ℕ → Bool) → k < n → T (p k) → T (elem k (members n p))
@@ -155,7 +165,8 @@ length-members n p =
     length-distinct n (members n p) (distinct-members n p) (λ x m. elem-members n x p m .0) ∙
     count-same n (λ k. elem k (members n p)) p
     (λ k h.
-    same-test (elem k (members n p)) (p k) (λ m. elem-members n k p m .1) (λ t. elem-members-by n k p h t))
+    same-test (elem k (members n p)) (p k) (λ m. elem-members n k p m .1)
+    (λ t. elem-members-by n k p h t))
 
 -- ---- how many pass
 

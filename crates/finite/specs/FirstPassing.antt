@@ -1,6 +1,6 @@
--- The first member that passes a test, in the order of this page: where one passes, the first is a member
--- that passes; it is that one where only one does; it cuts the list in two, and all before it fail;
--- where no member passes. Assumes nothing.
+-- The first member that passes a test, in the order of this page: where one passes, the first is a
+-- member that passes; it is that one where only one does; it cuts the list in two, and all before
+-- it fail; where no member passes. Assumes nothing.
 use mathlib.Core.Path.{_≡_, refl, ap}
 use mathlib.Core.Logic.{⊎-elim}
 use mathlib.Core.Bool.{Bool, not, _||_}
@@ -37,13 +37,15 @@ pub record FirstPassing (p : ℕ → Bool) (s : List ℕ) (x : ℕ) : Type 0 whe
   pub passes : T (p x)
   pub fails : (y : ℕ) → T (elem y front) → ¬ T (p y)
 
-pub first-passing : (p : ℕ → Bool) (d : ℕ) (s : List ℕ) → T (any-in p s) → FirstPassing p s (first-in p d s)
+pub first-passing : (p : ℕ → Bool) (d : ℕ) (s : List ℕ) → T (any-in p s) →
+    FirstPassing p s (first-in p d s)
 unfolding any-in first-in elem
 first-passing p d [] t = absurd t
 first-passing p d (x ∷ s) t =
     ⊎-elim
     (λ (h : T (p x)).
-    rw (is-true (p x) h) (record { front = []; back = s; cut = refl; passes = h; fails = λ y m k. m }))
+    rw (is-true (p x) h)
+    (record { front = []; back = s; cut = refl; passes = h; fails = λ y m k. m }))
     (λ (h : T (not (p x))).
     let n = T-not (p x) h in
     let r = first-passing p d s (rw (is-false (p x) n) at t) in
@@ -60,12 +62,14 @@ first-passing p d (x ∷ s) t =
     (decide (p x))
 
 -- no member passes
-pub none-passes : (p : ℕ → Bool) (s : List ℕ) → T (not (any-in p s)) → (x : ℕ) → T (elem x s) → ¬ T (p x)
+pub none-passes : (p : ℕ → Bool) (s : List ℕ) → T (not (any-in p s)) → (x : ℕ) → T (elem x s) →
+    ¬ T (p x)
 unfolding any-in elem
 none-passes p [] t x m k = m
 none-passes p (y ∷ s) t x m k =
     ⊎-elim
     (λ (e : x ≡ y). T-not (p y || any-in p s) t (or-left (p y) (any-in p s) (rw e at k)))
     (λ (l : T (elem x s)).
-    none-passes p s (not-T (any-in p s) (λ h. T-not (p y || any-in p s) t (or-right (p y) (any-in p s) h))) x l k)
+    none-passes p s
+    (not-T (any-in p s) (λ h. T-not (p y || any-in p s) t (or-right (p y) (any-in p s) h))) x l k)
     (elem-cases x y s m)

@@ -1,7 +1,7 @@
--- The laws of membership and of tests over lists, in the order of this page: a member of a list; a test
--- that passes at all members; membership in what is put together; a member that cuts its list in two;
--- the members of a list place by place; the sum of what is put together. No number of members is
--- compared here: that is Distinct. Assumes nothing.
+-- The laws of membership and of tests over lists, in the order of this page: a member of a list; a
+-- test that passes at all members; membership in what is put together; a member that cuts its list
+-- in two; the members of a list place by place; the sum of what is put together. No number of
+-- members is compared here: that is Distinct. Assumes nothing.
 use mathlib.Core.Path.{_≡_, refl, sym, ap, subst, _∙_}
 use mathlib.Core.Logic.{_⊎_, inl, inr, ⊎-elim}
 use mathlib.Core.Bool.{Bool, not}
@@ -48,10 +48,12 @@ pub all-of-elem : (p : ℕ → Bool) (s : List ℕ) → ((x : ℕ) → T (elem x
 unfolding all-in
 all-of-elem p [] f = tt
 all-of-elem p (y ∷ s) f =
-    and-both (p y) (all-in p s) (f y (elem-head y s)) (all-of-elem p s (λ x h. f x (elem-tail x y s h)))
+    and-both (p y) (all-in p s) (f y (elem-head y s))
+    (all-of-elem p s (λ x h. f x (elem-tail x y s h)))
 
 -- a test that does not pass at all members fails at one
-pub some-fails : (p : ℕ → Bool) (s : List ℕ) → T (not (all-in p s)) → (x : ℕ) × T (elem x s) × T (not (p x))
+pub some-fails : (p : ℕ → Bool) (s : List ℕ) → T (not (all-in p s)) →
+    (x : ℕ) × T (elem x s) × T (not (p x))
 unfolding all-in
 some-fails p [] t = absurd t
 some-fails p (y ∷ s) t =
@@ -173,7 +175,8 @@ elem-cut x [] m = absurd m
 elem-cut x (y ∷ s) m =
     ⊎-elim
     (λ (e : x ≡ y). ([], s, ap (λ (z : ℕ). z ∷ s) (sym e)))
-    (λ (t : T (elem x s)). let c = elem-cut x s t in (y ∷ c .0, c .1, ap (λ (r : List ℕ). y ∷ r) (c .2)))
+    (λ (t : T (elem x s)).
+    let c = elem-cut x s t in (y ∷ c .0, c .1, ap (λ (r : List ℕ). y ∷ r) (c .2)))
     (elem-cases x y s m)
 
 pub elem-middle : (x : ℕ) (s t : List ℕ) → T (elem x (s ++ x ∷ t))
@@ -186,35 +189,43 @@ elem-swap x s t m = ⊎-elim (elem-append-right x t s) (elem-append-left x t s) 
 
 module _ {ℓ} {A : Type ℓ} where
   -- a test that passes at all members passes at each place, and the other way round
-  pub all-in-at : (p : A → Bool) (s : List A) → T (all-in p s) → (k : ℕ) (d : A) → k < length s → T (p (getD s k d))
+  pub all-in-at : (p : A → Bool) (s : List A) → T (all-in p s) → (k : ℕ) (d : A) → k < length s →
+      T (p (getD s k d))
   unfolding all-in
   all-in-at p [] t k d h = absurd (not-suc-le-zero h)
   all-in-at p (x ∷ s) t zero d h = and-left (p x) (all-in p s) t
-  all-in-at p (x ∷ s) t (suc k) d h = all-in-at p s (and-right (p x) (all-in p s) t) k d (le-of-suc-le-suc h)
+  all-in-at p (x ∷ s) t (suc k) d h =
+      all-in-at p s (and-right (p x) (all-in p s) t) k d (le-of-suc-le-suc h)
 
-  pub all-in-by : (p : A → Bool) (s : List A) (d : A) → ((k : ℕ) → k < length s → T (p (getD s k d))) → T (all-in p s)
+  pub all-in-by : (p : A → Bool) (s : List A) (d : A) →
+      ((k : ℕ) → k < length s → T (p (getD s k d))) → T (all-in p s)
   unfolding all-in
   all-in-by p [] d f = tt
   all-in-by p (x ∷ s) d f =
-      and-both (p x) (all-in p s) (f 0 (omega arith)) (all-in-by p s d (λ k h. f (suc k) (omega arith)))
+      and-both (p x) (all-in p s) (f 0 (omega arith))
+      (all-in-by p s d (λ k h. f (suc k) (omega arith)))
 
-  pub all-places-at : (p : ℕ → A → Bool) (i : ℕ) (s : List A) → T (all-places p i s) → (k : ℕ) (d : A) → k < length s → T (p (i + k) (getD s k d))
+  pub all-places-at : (p : ℕ → A → Bool) (i : ℕ) (s : List A) → T (all-places p i s) →
+      (k : ℕ) (d : A) → k < length s → T (p (i + k) (getD s k d))
   unfolding all-places
   all-places-at p i [] t k d h = absurd (not-suc-le-zero h)
   all-places-at p i (x ∷ s) t zero d h =
       rw add-zero (and-left (p i x) (all-places p (suc i) s) t)
   all-places-at p i (x ∷ s) t (suc k) d h =
       subst (λ (j : ℕ). T (p j (getD s k d))) (suc-add i k ∙ sym (add-suc i k))
-      (all-places-at p (suc i) s (and-right (p i x) (all-places p (suc i) s) t) k d (le-of-suc-le-suc h))
+      (all-places-at p (suc i) s (and-right (p i x) (all-places p (suc i) s) t) k d
+      (le-of-suc-le-suc h))
 
-  pub all-places-by : (p : ℕ → A → Bool) (i : ℕ) (s : List A) (d : A) → ((k : ℕ) → k < length s → T (p (i + k) (getD s k d))) → T (all-places p i s)
+  pub all-places-by : (p : ℕ → A → Bool) (i : ℕ) (s : List A) (d : A) →
+      ((k : ℕ) → k < length s → T (p (i + k) (getD s k d))) → T (all-places p i s)
   unfolding all-places
   all-places-by p i [] d f = tt
   all-places-by p i (x ∷ s) d f =
       and-both (p i x) (all-places p (suc i) s) (rw add-zero at (f 0 (omega arith)))
       (all-places-by p (suc i) s d
       (λ k h.
-      subst (λ (j : ℕ). T (p j (getD s k d))) (add-suc i k ∙ sym (suc-add i k)) (f (suc k) (omega arith))))
+      subst (λ (j : ℕ). T (p j (getD s k d))) (add-suc i k ∙ sym (suc-add i k))
+      (f (suc k) (omega arith))))
 
   -- within a list the default does not matter
   pub getD-any : (s : List A) (k : ℕ) (d e : A) → k < length s → getD s k d ≡ getD s k e

@@ -1,7 +1,7 @@
--- What is written into a list that keeps its tail, in the order of this page: a result over the front of
--- the list, and from a place on; its laws: store by store, the length, nothing, one thing after another,
--- one element before and after; then the loop that copies a list element by element, with the laws of
--- its start, of one element more and of its end. The elements are of any type.
+-- What is written into a list that keeps its tail, in the order of this page: a result over the
+-- front of the list, and from a place on; its laws: store by store, the length, nothing, one thing
+-- after another, one element before and after; then the loop that copies a list element by element,
+-- with the laws of its start, of one element more and of its end. The elements are of any type.
 -- Document 01, number 10: "a longer one keeps its tail". Assumes nothing.
 use mathlib.Core.Path.{_≡_, refl, sym, ap, _∙_}
 use mathlib.Core.List.{List, [], _∷_, _++_, append-nil}
@@ -38,7 +38,8 @@ module _ {A : Type 0} where
   over-at-length lent at s room = ap length (over-stores lent at s room) ∙ length-sets lent at s
 
   pub over-length : (s lent : List A) → length s ≤ length lent → length (over s lent) ≡ length lent
-  over-length s lent room = ap length (sym (over-front lent s)) ∙ over-at-length lent 0 s (omega arith)
+  over-length s lent room =
+      ap length (sym (over-front lent s)) ∙ over-at-length lent 0 s (omega arith)
 
   pub over-nothing : (lent : List A) (at : ℕ) → over-at lent at [] ≡ lent
   unfolding over-at
@@ -66,7 +67,8 @@ module _ {A : Type 0} where
       set (over s lent) (length s) x ≡ over (s ++ x ∷ []) lent
   over-more s lent x room =
       let all : 0 + length (s ++ x ∷ []) ≤ length lent = omega (arith, length-append s (x ∷ [])) in
-      sym (over-stores (over s lent) (length s) (x ∷ []) (omega (arith, over-length s lent (omega arith))))
+      sym (over-stores (over s lent) (length s) (x ∷ [])
+      (omega (arith, over-length s lent (omega arith))))
       ∙ ap (λ (j : ℕ). over-at (over s lent) j (x ∷ [])) (sym (zero-add (length s)))
       ∙ rw (← over-front lent s, ← over-front lent (s ++ x ∷ [])) (over-then lent 0 s (x ∷ []) all)
 
@@ -78,7 +80,8 @@ module _ {A : Type 0} where
       ap (λ (l : List A). sets l (suc k) s) (set-comm lent at k x y (λ e. omega arith))
       ∙ sets-before (set lent k y) at (suc k) x s (omega arith)
 
-  pub over-before : (lent : List A) (at : ℕ) (x : A) (s : List A) → at + length (x ∷ s) ≤ length lent →
+  pub over-before : (lent : List A) (at : ℕ) (x : A) (s : List A) →
+      at + length (x ∷ s) ≤ length lent →
       set (over-at lent (at + 1) s) at x ≡ over-at lent at (x ∷ s)
   over-before lent at x s room =
       ap (λ (l : List A). set l at x) (over-stores lent (at + 1) s (omega arith))
@@ -108,7 +111,8 @@ module _ {A : Type 0} {lent source : List A} {at : ℕ} where
               ∙ sym (over-stores now (at + i) (x ∷ []) (omega (arith, c .long)))
               ∙ rw (c .so-far)
               (rw (add-one, take-suc source i d)
-              (ap (λ (j : ℕ). over-at (over-at lent at (take i source)) (at + j) (x ∷ [])) (sym size)
+              (ap (λ (j : ℕ). over-at (over-at lent at (take i source)) (at + j) (x ∷ []))
+              (sym size)
               ∙ over-then lent at (take i source) (x ∷ [])
               (omega (arith, size, length-append (take i source) (x ∷ [])))));
           long = length-set now k x ∙ c .long;

@@ -1,5 +1,5 @@
--- Rings read place by place, in the order of this page: a ring is its first member and the ring from the
--- next one; it has no more members than it may have; the member after a place of a cycle.
+-- Rings read place by place, in the order of this page: a ring is its first member and the ring
+-- from the next one; it has no more members than it may have; the member after a place of a cycle.
 -- Assumes nothing.
 use mathlib.Core.Path.{_≡_, sym, ap, subst, _∙_}
 use mathlib.Core.Logic.{_≢_, ⊎-elim}
@@ -26,7 +26,8 @@ module _ (f : ℕ → ℕ) (start : ℕ) where
   ring-last (suc k) a h e = rw (eq-eqb (f a) start e)
 
   -- .. or then those from the next one on
-  pub ring-more : (k a : ℕ) → 0 < k → f a ≢ start → ring f start k a ≡ a ∷ ring f start (k - 1) (f a)
+  pub ring-more : (k a : ℕ) → 0 < k → f a ≢ start →
+      ring f start k a ≡ a ∷ ring f start (k - 1) (f a)
   unfolding ring
   ring-more zero a h n = absurd (not-suc-le-zero h)
   ring-more (suc k) a h n =
@@ -47,7 +48,8 @@ module _ (f : ℕ → ℕ) (start : ℕ) where
 -- ---- the member after a place
 
 module _ {A : Type 0} (E : A → A → Type 0) where
-  chain-at : (s : List A) (i : ℕ) (d : A) → suc i < length s → Chain E s → E (getD s i d) (getD s (suc i) d)
+  chain-at : (s : List A) (i : ℕ) (d : A) → suc i < length s → Chain E s →
+      E (getD s i d) (getD s (suc i) d)
   unfolding Chain
   chain-at [] i d h c = absurd (not-suc-le-zero h)
   chain-at (a ∷ []) i d h c = absurd (not-suc-le-zero (le-of-suc-le-suc h))
@@ -60,7 +62,8 @@ module _ {A : Type 0} (E : A → A → Type 0) where
   unfolding Cycle
   cycle-at [] i d h c = absurd (not-suc-le-zero h)
   cycle-at (a ∷ s) i d h c =
-      subst (λ (x : A). E x (getD (a ∷ s) ((i + 1) % suc (length s)) d)) (List·getD-append (a ∷ s) (a ∷ []) d i h)
+      subst (λ (x : A). E x (getD (a ∷ s) ((i + 1) % suc (length s)) d))
+      (List·getD-append (a ∷ s) (a ∷ []) d i h)
       (subst (E (getD (a ∷ s ++ a ∷ []) i d)) after
       (chain-at (a ∷ s ++ a ∷ []) i d (omega (arith, length-append s (a ∷ []))) c))
     where
@@ -75,5 +78,6 @@ module _ {A : Type 0} (E : A → A → Type 0) where
           let e : i ≡ length s = omega arith in
           let w : i + 1 ≡ suc (length s) = omega arith in
           ap (λ (j : ℕ). getD (s ++ a ∷ []) j d) e ∙ getD-append-seam s a [] d
-          ∙ ap (λ (j : ℕ). getD (a ∷ s) j d) (sym (ap (λ (j : ℕ). j % suc (length s)) w ∙ mod-self (suc (length s)))))
+          ∙ ap (λ (j : ℕ). getD (a ∷ s) j d)
+          (sym (ap (λ (j : ℕ). j % suc (length s)) w ∙ mod-self (suc (length s)))))
           (lt-or-ge (i + 1) (suc (length s)))

@@ -1,11 +1,11 @@
 -- Tests as Bool, beside `not`, `_&&_` and `_||_` of mathlib.Core.Bool: an implication, and the
--- laws that take `T (a && b)`, `T (a || b)` and `T (a ⇒ b)` apart and put them together; then two
--- numbers are the same or not.
+-- laws that take `T (a && b)`, `T (a || b)` and `T (a ⇒ b)` apart and put them together; a choice
+-- between the same; then two numbers are the same or not.
 -- `T b` is the type that has an element just where the test b passes (lib.Dec).
 -- Assumes nothing.
 use mathlib.Core.Path.{_≡_, refl, sym, subst}
 use mathlib.Core.Logic.{_≢_, _⊎_, inl, inr, ⊎-elim}
-use mathlib.Core.Bool.{Bool, true, false, not, _&&_, _||_}
+use mathlib.Core.Bool.{Bool, true, false, not, cond, _&&_, _||_}
 use Prim.Native.Nat.{ℕ}
 use lib.Dec.{T, T-not, not-T, eqb, eqb→eq, eqb-refl}
 
@@ -73,6 +73,11 @@ same-test true true f g = refl
 same-test true false f g = absurd (f tt)
 same-test false true f g = absurd (g tt)
 same-test false false f g = refl
+
+-- whichever is chosen
+pub either-way {ℓ} : {A : Type ℓ} (b : Bool) (a : A) → cond b a a ≡ a
+either-way true a = refl
+either-way false a = refl
 
 -- ---- two numbers: the test that they are equal, or differ, and the statement
 

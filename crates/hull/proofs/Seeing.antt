@@ -11,6 +11,7 @@ use Prim.Native.Nat.{ℕ, _+_, _-_, _≤_, _<_}
 use native.Mathlib.Omega.{arith}
 use lib.Dec.{T}
 use borrow.Author.Tests.{le-ltb}
+use Rattle.finite.specs.Tests.{either-way}
 use Rattle.finite.specs.Bounded.{one-if}
 use Rattle.finite.specs.Counting.{one-if-small}
 use Rattle.finite.specs.Lists.{elem, count-in, first-in, ring}
@@ -54,11 +55,7 @@ sought-settles test s before after a ahead is = go (s .found) (not before && aft
 
 settled-end : (s : Sought) (test : ℕ → Bool) → settled s test [] ≡ s .corner
 unfolding first-in
-settled-end s test = go (s .found)
-  where
-    go : (f : Bool) → cond f (s .corner) (s .corner) ≡ s .corner
-    go true = refl
-    go false = refl
+settled-end s test = either-way (s .found) (s .corner)
 
 -- ---- the corners ahead
 
@@ -75,13 +72,9 @@ tests-agree true false e = e
 tests-agree false true e = sym e
 tests-agree false false e = refl
 
-either : (t : Bool) (s : Sought) → s ≡ cond t s s
-either true s = refl
-either false s = refl
-
 not-sought : (s : Sought) (b : Bool) (a : ℕ) → s ≡ sought-at s b b a
-not-sought s true a = either (s .found) s
-not-sought s false a = either (s .found) s
+not-sought s true a = sym (either-way (s .found) s)
+not-sought s false a = sym (either-way (s .found) s)
 
 pub unsought : (s : Sought) (a : ℕ) {b c : Bool} → b ≡ c → s ≡ sought-at s b c a
 unsought s a {b} {c} e = subst (λ (t : Bool). s ≡ sought-at s b t a) e (not-sought s b a)
@@ -166,7 +159,9 @@ module _ (m : Map) (p : Point) where
 
       -- none, since the next corner is the first ..
       pub passed-last : b ≡ owner (m .reference) → SightAhead leaving left′ right′ visible′ b 0
-      passed-last e = passed 0 more (rw to (ring-last (next-corner m) (owner (m .reference)) ahead a more (sym to ∙ e)))
+      passed-last e =
+          passed 0 more
+          (rw to (ring-last (next-corner m) (owner (m .reference)) ahead a more (sym to ∙ e)))
 
       -- .. or one less
       pub passed-one : {on : ℕ} → on ≡ ahead - 1 → b ≢ owner (m .reference) → SightAhead leaving left′ right′ visible′ b on

@@ -10,7 +10,8 @@ use borrow.Rule.Slice.PartMut.{midOf, putMid}
 use lib.Arith.{digits-lt}
 use lib.ListN.{length, getD, set}
 use Rattle.finite.specs.Bounded.{table, table-onto}
-use Rattle.finite.specs.Overwriting.{over, over-at, over-front, over-length, over-nothing, over-before}
+use Rattle.finite.specs.Overwriting.{over, over-at, over-front, over-length, over-nothing}
+use Rattle.finite.specs.Overwriting.{over-before}
 use Rattle.model.specs.Saved.{big-endian, number-at, block}
 use Rattle.layout.proofs.Digits.{length-big-endian}
 use Rattle.layout.proofs.Blocks.{block-more, length-block, piece-written}
@@ -119,7 +120,8 @@ module _ {f : ℕ → ℕ} {w n : ℕ} {before : List ℕ} {k : ℕ} {lent : Lis
       record {
         within = omega arith;
         lent-is = written;
-        same-length = ap length written ∙ over-length (block (k + 1) w f) before (rw length-block h);
+        same-length =
+            ap length written ∙ over-length (block (k + 1) w f) before (rw length-block h);
       }
     where
       written : putMid at (length lent - at) lent last ≡ over (block (k + 1) w f) before

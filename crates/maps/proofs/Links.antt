@@ -73,7 +73,8 @@ module _ {m : Map} (s : Shaped m) where
 
   -- a helper that is moved belongs to a point that has one
   pub moved-helper-owned : (a : ℕ) → edge-link m (helper a) ≢ helper a → T (has-helper m a)
-  moved-helper-owned a moves = present-helper m a (moved-present m (s .links .absent) (helper a) moves)
+  moved-helper-owned a moves =
+      present-helper m a (moved-present m (s .links .absent) (helper a) moves)
 
   -- an own dart that is moved belongs to a point with a helper ..
   pub moved-own-owned : (a : ℕ) → edge-link m (own a) ≢ own a → T (has-helper m a)

@@ -38,7 +38,8 @@ use Rattle.model.specs.Sound.{Shaped}
 use Rattle.maps.proofs.Darts.{own-differs, own-injective, helper-injective, own-or-helper, by-present, present-dart, point-own, point-helper, point-lone}
 use Rattle.maps.proofs.Links.{Linked, sound-linked, edge-involutes, point-involutes, links-keep}
 use Rattle.maps.proofs.Circuits.{Edge, Circuit, edge-back, circuit-dart}
-use Rattle.maps.proofs.Outline.{outline-two, outline-circuit, outline-rotated, outline-reach, closed-reached}
+use Rattle.maps.proofs.Outline.{outline-two, outline-circuit, outline-rotated}
+use Rattle.maps.proofs.Outline.{outline-reach, closed-reached}
 
 -- the walk from a dart
 abbrev pub walk-from : Map → ℕ → Walk

@@ -1,5 +1,5 @@
--- What an entry promises that is lent a list, from the equation of its answer: where it is refused, and
--- where the result is written. Assumes nothing.
+-- What an entry promises that is lent a list, from the equation of its answer: where it is refused,
+-- and where the result is written. Assumes nothing.
 use mathlib.Core.Path.{_≡_, refl, ap, _∙_}
 use mathlib.Core.List.{List}
 use Prim.Native.Nat.{ℕ}
@@ -21,10 +21,12 @@ module _ {A : Type 0} (rules : List Rule) (result lent : List A) where
   list-by (Written.Length n) = over result lent
   list-by (Written.Refused r) = lent
 
-  list-left : {w : Written} → w ≡ answer-of call-of → list-by w ≡ lent-after (call-of .rules) result lent
+  list-left : {w : Written} → w ≡ answer-of call-of →
+      list-by w ≡ lent-after (call-of .rules) result lent
   list-left e =
       ap list-by e
-      ∙ unless-made list-by Written.Refused (λ r. lent) (λ r. refl) (call-of .rules) (call-of .value)
+      ∙ unless-made list-by Written.Refused (λ r. lent) (λ r. refl) (call-of .rules)
+      (call-of .value)
 
   pub wrote-nothing : (r : Refusal) → Written.Refused r ≡ answer-of call-of →
       Wrote rules result lent lent (Written.Refused r)
@@ -36,4 +38,7 @@ module _ {A : Type 0} (rules : List Rule) (result lent : List A) where
       Wrote rules result lent after (Written.Length n)
   unfolding written-answer
   wrote-result n after size e holds =
-      record { answer = answered call-of (λ x. refl) (ap Written.Length size ∙ e); list = holds ∙ list-left e }
+      record {
+        answer = answered call-of (λ x. refl) (ap Written.Length size ∙ e);
+        list = holds ∙ list-left e;
+      }

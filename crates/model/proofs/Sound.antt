@@ -76,7 +76,8 @@ zero-from s n c k h = sym (eqZ-true _ _ (is-true _ (from-place (eqZ (pos 0)) s n
 pub moved-present : (m : Map) → ((d : ℕ) → ¬ T (is-present m d) → edge-link m d ≡ d) →
     (d : ℕ) → edge-link m d ≢ d → T (is-present m d)
 moved-present m absent d moves =
-    ⊎-elim (λ p. p) (λ p. absurd (moves (absent d (T-not (is-present m d) p)))) (decide (is-present m d))
+    ⊎-elim (λ p. p) (λ p. absurd (moves (absent d (T-not (is-present m d) p))))
+    (decide (is-present m d))
 
 -- the tests one by one
 record EachTest (m : Map) : Type 0 where

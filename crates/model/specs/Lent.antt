@@ -1,5 +1,6 @@
--- Results that are written into a lent list of any element, in the order of this page: number 10; the
--- call, with the rules that come before it; what the list then holds; what an entry promises of both.
+-- Results that are written into a lent list of any element, in the order of this page: number 10;
+-- the call, with the rules that come before it; what the list then holds; what an entry promises of
+-- both.
 -- Document 01, number 10: "lent list shorter than the result; a longer one keeps its tail". A
 -- refused call leaves the list as it was. Assumes nothing.
 use mathlib.Core.Path.{_≡_}
@@ -32,10 +33,10 @@ module _ {A : Type 0} (rules : List Rule) (result lent : List A) where
         value = Written.Length (length result);
       }
 
-  -- what the list holds after a call with these rules: what it held where one applies, and otherwise
-  -- the result over its front
-  abbrev pub lent-after : List A
-  lent-after = unless (λ r. lent) rules (over result lent)
+-- what the list holds after a call, by all of its rules, number 10 among them: what it held where
+-- one applies, and otherwise the result over its front
+abbrev pub lent-after : {A : Type 0} → List Rule → List A → List A → List A
+lent-after rules result lent = unless (λ r. lent) rules (over result lent)
 
 -- what an entry promises that is lent a list: its answer, and the list as it leaves it
 pub record Wrote {A : Type 0} (rules : List Rule) (result before after : List A) (r : Written) : Type 0 where

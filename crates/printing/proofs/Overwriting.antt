@@ -1,14 +1,14 @@
--- Writing into a lent list, in the order of this page: one byte; one thing after another, with room for
--- the first of two things, and for the second after the first; one byte before what is written; a
--- word that is copied byte by byte; the same bytes, written in another way; nothing. Each law is one
--- of `over-at`, with the place after what was written. Assumes nothing.
+-- Writing into a lent list, in the order of this page: one byte; one thing after another, with room
+-- for the first of two things, and for the second after the first; one byte before what is written;
+-- a word that is copied byte by byte; the same bytes, written in another way; nothing. Each law is
+-- one of `over-at`, with the place after what was written. Assumes nothing.
 use mathlib.Core.Path.{_≡_, refl, sym, ap, subst, _∙_}
 use mathlib.Core.List.{List, [], _∷_, _++_}
 use Prim.Native.Nat.{ℕ, _+_, _≤_}
 use native.Mathlib.Omega.{arith}
 use lib.ListN.{length, set, length-append}
-use Rattle.finite.specs.Overwriting.{over-at-length, over-stores, over-nothing, over-then, over-before}
-use Rattle.finite.specs.Overwriting.{Copied, all-copied}
+use Rattle.finite.specs.Overwriting.{over-stores, over-at-length, over-nothing, over-then}
+use Rattle.finite.specs.Overwriting.{over-before, Copied, all-copied}
 use Rattle.printing.specs.Writing.{Room, Wrote}
 
 pub wrote-byte : {lent : List ℕ} {at b : ℕ} → Room lent at (b ∷ []) →

@@ -2,11 +2,12 @@
 -- page: no room for the length; a result that is refused; a result that is written.
 -- Assumes nothing.
 use mathlib.Core.Path.{_≡_, refl, sym, ap, _∙_}
-use mathlib.Core.Bool.{Bool, true, false, cond, _||_, or-true, or-false}
+use mathlib.Core.Bool.{Bool, true, cond, _||_, or-true, or-false}
 use mathlib.Core.List.{List, [], _∷_}
 use Prim.Native.Nat.{ℕ, _≤_, _<_}
 use borrow.Author.Tests.{lt-ltb, le-ltb}
 use lib.ListN.{length, set}
+use Rattle.finite.specs.Tests.{either-way}
 use Rattle.finite.specs.Overwriting.{over}
 use Rattle.model.specs.declared.Refusal.{Refusal}
 use Rattle.model.specs.declared.Outcome.{Outcome}
@@ -23,11 +24,7 @@ unless-same : {A : Type 0} (rules : List Rule) (a : A) → unless (λ r. a) rule
 unfolding unless
 unless-same [] a = refl
 unless-same (rule ∷ rules) a =
-    ap (cond (rule .applies) a) (unless-same rules a) ∙ either (rule .applies) a
-  where
-    either : {A : Type 0} (b : Bool) (a : A) → cond b a a ≡ a
-    either true a = refl
-    either false a = refl
+    ap (cond (rule .applies) a) (unless-same rules a) ∙ either-way (rule .applies) a
 
 abbrev written-outcome : Written → Outcome
 written-outcome (Written.Length n) = Outcome.Served

@@ -1,4 +1,4 @@
--- `saved::reading::helper_byte` meets its contract: helper byte k stands k bytes after the first.
+-- `layout::helper_byte` meets its contract: helper byte k stands k bytes after the first.
 -- Assumes nothing.
 use mathlib.Core.Path.{_≡_, ap, _∙_}
 use Prim.Native.Nat.{ℕ, _+_, _*_}

@@ -1,4 +1,4 @@
--- `saved::is_in_form` meets its contract: each test that fails is one of the form's, and with all
+-- `layout::is_in_form` meets its contract: each test that fails is one of the form's, and with all
 -- others passed the helper bytes decide. Assumes nothing.
 use mathlib.Core.Path.{ap, _∙_}
 use Prim.Native.Nat.{ℕ}

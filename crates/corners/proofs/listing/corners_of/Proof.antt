@@ -1,4 +1,5 @@
--- `hull::listing::corners_of` meets its contract: an iteration lists one corner. Assumes nothing.
+-- `corners::listing::corners_of` meets its contract: an iteration lists one corner. Assumes
+-- nothing.
 use borrow.Author.Needs.{needs}
 use mathlib.Core.Path.{refl}
 use Prim.Native.Nat.{ℕ, _-_}

@@ -1,4 +1,4 @@
--- `hull::listing::write_corners` meets its contract: a step writes one corner. Assumes nothing.
+-- `corners::listing::write_corners` meets its contract: a step writes one corner. Assumes nothing.
 use mathlib.Core.Path.{_≡_, _∙_}
 use Prim.Native.Nat.{_-_, _≤_}
 use native.Mathlib.Omega.{arith}

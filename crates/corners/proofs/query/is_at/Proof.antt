@@ -1,4 +1,4 @@
--- `hull::query::is_at` meets its contract: the corner is the point that is read from the arrays.
+-- `corners::query::is_at` meets its contract: the corner is the point that is read from the arrays.
 -- Assumes nothing.
 use borrow.Author.Needs.{needs}
 use mathlib.Core.Path.{_∙_, ap}

@@ -1,5 +1,5 @@
--- `hull::query::placed` meets its contract: a step looks at one corner and the edge that leaves it.
--- Assumes nothing.
+-- `corners::query::placed` meets its contract: a step looks at one corner and the edge that leaves
+-- it. Assumes nothing.
 use borrow.Author.Needs.{needs}
 use mathlib.Core.Path.{_≡_, _∙_}
 use mathlib.Core.Bool.{cond}

@@ -1,4 +1,4 @@
--- `saved::numbers::complement` meets its contract: by the sign, the machine's sum is the number in
+-- `layout::numbers::complement` meets its contract: by the sign, the machine's sum is the number in
 -- two's complement. Assumes nothing.
 use mathlib.Core.Path.{_≡_, subst}
 use mathlib.Core.Bool.{true, false}

@@ -1,4 +1,4 @@
--- `saved::numbers::signed` meets its contract: by the half in which the number lies.
+-- `layout::numbers::signed` meets its contract: by the half in which the number lies.
 -- Assumes nothing.
 use borrow.Author.Needs.{needs}
 use mathlib.Core.Path.{sym, _∙_}

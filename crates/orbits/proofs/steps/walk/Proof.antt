@@ -1,4 +1,5 @@
--- `steps::walk` meets its contract: a walk begins with an edge step, all its moves left. Assumes nothing.
+-- `orbits::steps::walk` meets its contract: a walk begins with an edge step, all its moves left.
+-- Assumes nothing.
 use borrow.Author.Needs.{needs}
 use mathlib.Core.Path.{ap, _∙_}
 use Rattle.orbits.specs.declared.Walker.{Walker}

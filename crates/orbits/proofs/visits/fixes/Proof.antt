@@ -1,4 +1,5 @@
--- `visits::fixes` answers `is-fixed`: within the list, what lies past it does not matter. Assumes nothing.
+-- `orbits::visits::fixes` answers `is-fixed`: within the list, what lies past it does not matter.
+-- Assumes nothing.
 use Rattle.orbits.specs.Classes.{is-fixed}
 use Rattle.orbits.proofs.Links.{link-read}
 use borrow.Author.Needs.{needs}

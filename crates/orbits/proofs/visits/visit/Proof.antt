@@ -1,5 +1,5 @@
--- `visits::visit` meets its contract. The loop's invariant: from wherever the visit began, it has come
--- as far as `head`. The measure is what is left of the darts. Assumes nothing.
+-- `orbits::visits::visit` meets its contract. The loop's invariant: from wherever the visit began,
+-- it has come as far as `head`. The measure is what is left of the darts. Assumes nothing.
 use mathlib.Core.List.{List}
 use Prim.Native.Nat.{ℕ, _-_, _<_}
 use native.Mathlib.Omega.{arith}

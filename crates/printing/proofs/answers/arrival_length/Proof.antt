@@ -1,5 +1,5 @@
--- `survey::answers::arrival_length` meets its contract: the number, a space and the answer's line.
--- Assumes nothing.
+-- `printing::answers::arrival_length` meets its contract: the number, a space and the answer's
+-- line. Assumes nothing.
 use mathlib.Core.Path.{_≡_}
 use Prim.Native.Nat.{_+_}
 use native.Mathlib.Omega.{arith}

@@ -1,4 +1,4 @@
--- `survey::answers::put_answer` meets its contract: the word, its values, then a line feed.
+-- `printing::answers::put_answer` meets its contract: the word, its values, then a line feed.
 -- Assumes nothing.
 use Rattle.printing.specs.Writing.{Wrote}
 use mathlib.Core.List.{[], _∷_, _++_}

@@ -1,4 +1,4 @@
--- `survey::answers::put_arrival` meets its contract: the number, a space, then the answer's line.
+-- `printing::answers::put_arrival` meets its contract: the number, a space, then the answer's line.
 -- Assumes nothing.
 use mathlib.Core.List.{[], _∷_}
 use lib.IntN.{pos}

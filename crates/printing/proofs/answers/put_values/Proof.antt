@@ -1,4 +1,4 @@
--- `survey::answers::put_values` meets its contract. The loop's invariant: the values before place
+-- `printing::answers::put_values` meets its contract. The loop's invariant: the values before place
 -- i are written. Assumes nothing.
 use borrow.Author.Needs.{needs}
 use Prim.Native.Nat.{_-_}

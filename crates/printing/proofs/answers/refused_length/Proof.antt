@@ -1,4 +1,4 @@
--- `survey::answers::refused_length` meets its contract: the word, a line feed and one value.
+-- `printing::answers::refused_length` meets its contract: the word, a line feed and one value.
 -- Assumes nothing.
 use mathlib.Core.Path.{_≡_, ap}
 use mathlib.Core.List.{[], _∷_}

@@ -1,4 +1,4 @@
--- `survey::answers::values_length` meets its contract. The loop's invariant: the total is the
+-- `printing::answers::values_length` meets its contract. The loop's invariant: the total is the
 -- length of what stands before place i. Assumes nothing.
 use mathlib.Core.Path.{refl, _≡_, ap, _∙_}
 use Prim.Native.Nat.{_+_, _*_, _-_, _≤_}

@@ -1,4 +1,4 @@
--- `survey::writing::magnitude` meets its contract: -1 - z is one less than the magnitude of a
+-- `printing::writing::magnitude` meets its contract: -1 - z is one less than the magnitude of a
 -- negative z, and a cast keeps a number that is not negative. Assumes nothing.
 use mathlib.Core.Path.{_≡_, ap}
 use mathlib.Core.Bool.{true, false}

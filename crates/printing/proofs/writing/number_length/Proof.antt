@@ -1,4 +1,4 @@
--- `survey::writing::number_length` meets its contract: a negative number has a minus before its
+-- `printing::writing::number_length` meets its contract: a negative number has a minus before its
 -- digits. Assumes nothing.
 use Rattle.printing.proofs.Magnitudes.{signed-spelling, plain-spelling}
 use mathlib.Core.Path.{sym, ap, _∙_}

@@ -1,4 +1,4 @@
--- `survey::writing::put_number` meets its contract: a negative number has a minus before its
+-- `printing::writing::put_number` meets its contract: a negative number has a minus before its
 -- digits. Assumes nothing.
 use mathlib.Core.Path.{refl}
 use mathlib.Core.List.{[], _∷_}

@@ -1,4 +1,4 @@
--- `survey::writing::put_word` meets its contract. The loop's invariant: the first i bytes of the
+-- `printing::writing::put_word` meets its contract. The loop's invariant: the first i bytes of the
 -- word are written, and the list is as long as it was. Assumes nothing.
 use borrow.Author.Needs.{needs}
 use mathlib.Core.Path.{refl}

@@ -1,4 +1,4 @@
--- `reach::opening::load_at` meets its contract: the file is loaded, and then the dart looked for.
+-- `replies::opening::load_at` meets its contract: the file is loaded, and then the dart looked for.
 -- Assumes nothing.
 use mathlib.Core.Path.{_≡_, sym, ap, _∙_}
 use mathlib.Core.Bool.{Bool, not}

@@ -1,5 +1,5 @@
--- `reach::opening::load_near` meets its contract: the file is loaded, and then the range looked at.
--- Assumes nothing.
+-- `replies::opening::load_near` meets its contract: the file is loaded, and then the range looked
+-- at. Assumes nothing.
 use mathlib.Core.Path.{sym, ap, _∙_}
 use mathlib.Core.Bool.{not}
 use Rattle.model.specs.Plane.{in-range}

@@ -1,4 +1,4 @@
--- `reach::values::arrival_values` meets its contract: arrival by arrival. Assumes nothing.
+-- `replies::values::arrival_values` meets its contract: arrival by arrival. Assumes nothing.
 use Rattle.model.specs.Answers.{arrival-answer}
 use Rattle.replies.specs.Replies.{place-of, told}
 use borrow.Author.Needs.{needs}

@@ -1,4 +1,4 @@
--- `reach::values::walk_values` meets its contract: ending by ending. Assumes nothing.
+-- `replies::values::walk_values` meets its contract: ending by ending. Assumes nothing.
 use Rattle.model.specs.Answers.{walked-answer}
 use Rattle.replies.specs.Replies.{place-of, told}
 use borrow.Author.Needs.{needs}

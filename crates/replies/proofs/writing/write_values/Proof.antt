@@ -1,4 +1,4 @@
--- `reach::writing::write_values` meets its contract: the room is checked, and then a step writes
+-- `replies::writing::write_values` meets its contract: the room is checked, and then a step writes
 -- one value. Assumes nothing.
 use mathlib.Core.Path.{_∙_}
 use Prim.Native.Nat.{_-_, _≤_}

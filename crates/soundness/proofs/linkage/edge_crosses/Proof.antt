@@ -1,4 +1,4 @@
--- `maps::linkage::edge_crosses` meets its contract, one return for each way through its tests.
+-- `soundness::linkage::edge_crosses` meets its contract, one return for each way through its tests.
 -- Assumes nothing.
 use borrow.Author.Needs.{needs}
 use mathlib.Core.Path.{sym, _∙_}

@@ -1,4 +1,4 @@
--- `maps::linkage::helpers_owned` meets its contract: it is what the call ensures.
+-- `soundness::linkage::helpers_owned` meets its contract: it is what the call ensures.
 -- Assumes nothing.
 use borrow.Author.Needs.{needs}
 use Rattle.model.specs.Sound.{helpers-owned}

@@ -1,5 +1,5 @@
--- `maps::linkage::links_sound` meets its contract: after each `&&` stands the conjunction of the tests so far.
--- Assumes nothing.
+-- `soundness::linkage::links_sound` meets its contract: after each `&&` stands the conjunction of
+-- the tests so far. Assumes nothing.
 use borrow.Author.Needs.{needs}
 use mathlib.Core.Path.{_≡_, _∙_}
 use mathlib.Core.Logic.{⊎-elim}

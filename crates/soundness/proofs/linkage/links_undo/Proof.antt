@@ -1,4 +1,4 @@
--- `maps::linkage::links_undo` meets its contract: the loop tests every dart below the bound.
+-- `soundness::linkage::links_undo` meets its contract: the loop tests every dart below the bound.
 -- Assumes nothing.
 use borrow.Author.Needs.{needs}
 use mathlib.Core.Bool.{Bool, _&&_}

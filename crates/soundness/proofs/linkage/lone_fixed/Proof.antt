@@ -1,4 +1,4 @@
--- `maps::linkage::lone_fixed` meets its contract: the loop tests every point.
+-- `soundness::linkage::lone_fixed` meets its contract: the loop tests every point.
 -- Assumes nothing.
 use mathlib.Core.Bool.{Bool, not}
 use Rattle.finite.specs.Tests.{_⇒_}

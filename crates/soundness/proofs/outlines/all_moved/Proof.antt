@@ -1,4 +1,4 @@
--- `maps::outlines::all_moved` meets its contract: the loop tests every dart.
+-- `soundness::outlines::all_moved` meets its contract: the loop tests every dart.
 -- Assumes nothing.
 use borrow.Author.Needs.{needs}
 use Prim.Native.Nat.{_-_}

@@ -1,5 +1,5 @@
--- `maps::outlines::is_outside_or_moved` meets its contract, one return for each way through its tests.
--- Assumes nothing.
+-- `soundness::outlines::is_outside_or_moved` meets its contract, one return for each way through
+-- its tests. Assumes nothing.
 use borrow.Author.Needs.{needs}
 use mathlib.Core.Path.{sym, _∙_}
 use borrow.Author.Tests.{eq-eqb, ne-eqb}

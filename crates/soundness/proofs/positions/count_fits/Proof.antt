@@ -1,4 +1,4 @@
--- `maps::positions::count_fits` meets its contract: the test is that of the definition.
+-- `soundness::positions::count_fits` meets its contract: the test is that of the definition.
 -- Assumes nothing.
 use mathlib.Core.Path.{refl}
 use Rattle.model.specs.Sound.{count-fits}

@@ -1,4 +1,4 @@
--- `maps::positions::is_first` meets its contract: it is what the call ensures, at point k.
+-- `soundness::positions::is_first` meets its contract: it is what the call ensures, at point k.
 -- Assumes nothing.
 use borrow.Author.Needs.{needs}
 use mathlib.Core.Path.{_∙_, ap}

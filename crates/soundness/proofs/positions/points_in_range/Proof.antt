@@ -1,4 +1,4 @@
--- `maps::positions::points_in_range` meets its contract: the loop tests every point.
+-- `soundness::positions::points_in_range` meets its contract: the loop tests every point.
 -- Assumes nothing.
 use borrow.Author.Needs.{needs}
 use mathlib.Core.Path.{ap, _∙_}

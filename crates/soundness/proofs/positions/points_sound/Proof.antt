@@ -1,5 +1,5 @@
--- `maps::positions::points_sound` meets its contract: after each `&&` stands the conjunction of the tests so far.
--- Assumes nothing.
+-- `soundness::positions::points_sound` meets its contract: after each `&&` stands the conjunction
+-- of the tests so far. Assumes nothing.
 use borrow.Author.Needs.{needs}
 use mathlib.Core.Path.{_≡_, sym, _∙_}
 use mathlib.Core.Logic.{⊎-elim}

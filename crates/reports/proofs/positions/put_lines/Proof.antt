@@ -4,7 +4,7 @@ use borrow.Author.Needs.{needs}
 use Prim.Native.Nat.{_-_}
 use native.Mathlib.Omega.{arith}
 use Rattle.reports.specs.Lines.{line-count}
-use Rattle.reports.proofs.ReportLines.{Putting, none-put, put-full, put-room, put-next, put-all}
+use Rattle.reports.proofs.ReportLoops.{Putting, none-put, put-full, put-room, put-next, put-all}
 use Rattle.reports.proofs.positions.put_lines.Statement.{statement}
 use Rattle.reports.proofs.positions.put_lines.Tie as tie
 

@@ -4,7 +4,7 @@ use borrow.Author.Needs.{needs}
 use Prim.Native.Nat.{_-_, _<_}
 use native.Mathlib.Omega.{arith}
 use Rattle.reports.specs.Lines.{line-count}
-use Rattle.reports.proofs.ReportLines.{Totalled, none-totalled, one-totalled, total-most, totalled-all}
+use Rattle.reports.proofs.ReportLoops.{Totalled, none-totalled, one-totalled, total-most, totalled-all}
 use Rattle.reports.proofs.positions.total_length.Statement.{statement}
 use Rattle.reports.proofs.positions.total_length.Tie as tie
 

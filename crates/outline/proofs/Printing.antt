@@ -1,13 +1,12 @@
 -- The loop that prints pieces, in the order of this page: where it begins; a piece that has bytes is
 -- not the last, and one that has none is; the report on a text. Assumes nothing.
-use mathlib.Core.Path.{_≡_, refl, ap, _∙_}
+use mathlib.Core.Path.{_≡_, _∙_}
 use mathlib.Core.Logic.{_≢_}
-use mathlib.Core.Bool.{Bool, true, false}
+use mathlib.Core.Bool.{true, false}
 use mathlib.Core.List.{List, []}
 use Prim.Native.Nat.{ℕ, _≤_, _<_}
 use native.Mathlib.Omega.{arith}
 use lib.ListN.{length}
-use Rattle.model.specs.Report.{report}
 use Rattle.reports.specs.declared.Decided.{Decided}
 use Rattle.reports.specs.declared.positions.Piece.{Piece}
 use Rattle.reports.specs.Lines.{line-count}

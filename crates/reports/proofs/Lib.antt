@@ -5,6 +5,7 @@
 --     ReportLines    the printed lines from a position on, and the report
 --     ReportLoops    the loops that add up the lengths of the lines and write them
 --     Wholes         what is decided is the report, and pieces put together are the report
+--     Lengths        how long a report is at most: `report-most`
 --     Histories      a report is that of a list of offers: `reports-history`
 pub mod Packed
 pub mod Verdicts
@@ -12,4 +13,5 @@ pub mod Decisions
 pub mod ReportLines
 pub mod ReportLoops
 pub mod Wholes
+pub mod Lengths
 pub mod Histories

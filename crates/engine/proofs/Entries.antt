@@ -1,21 +1,23 @@
 -- What an entry promises, from what it found, in the order of this page: an entry that looks at its rules
 -- first, by a function that answers an outcome; an entry that writes a result, after one rule and the room
--- for it. Each law is over the call. Assumes nothing.
-use mathlib.Core.Path.{_≡_, sym, _∙_}
+-- for it. Each law is over the call. Then what a caller has of a promise: a length that is answered lies
+-- within the list. Assumes nothing.
+use mathlib.Core.Path.{_≡_, refl, sym, ap, subst, _∙_}
 use mathlib.Core.Bool.{true, false}
 use mathlib.Core.List.{List, [], _∷_}
 use Prim.Native.Nat.{ℕ, _≤_, _<_}
+use native.Mathlib.Omega.{arith}
 use borrow.Author.Tests.{lt-ltb, le-ltb}
-use lib.ListN.{length}
+use lib.ListN.{length, length-append}
 use Rattle.finite.specs.Overwriting.{over}
 use Rattle.model.specs.declared.Refusal.{Refusal}
 use Rattle.model.specs.declared.Outcome.{Outcome}
 use Rattle.model.specs.declared.Written.{Written}
 use Rattle.model.specs.Refusals.{Rule}
 use Rattle.model.specs.Answers.{refused, Call, outcome-by, Answered}
-use Rattle.model.specs.Lent.{Wrote}
-use Rattle.model.proofs.Answers.{answered, rule-applies, rule-passes, no-rule}
-use Rattle.model.proofs.Answers.{outcome-refuses, outcome-serves}
+use Rattle.model.specs.Lent.{writing, Wrote}
+use Rattle.model.proofs.Answers.{answered, rule-applies, rule-passes, no-rule, unless-none}
+use Rattle.model.proofs.Answers.{outcome-refuses, outcome-serves, RulesDecide, refuses, serves, unless-decides}
 use Rattle.model.proofs.Lent.{wrote-nothing, wrote-result}
 
 -- the rules came to the outcome o
@@ -53,3 +55,18 @@ module _ {A : Type 0} {rule : Rule} {result lent : List A} where
         (rule-passes Written.Refused _ _ _ (le-ltb (length lent) (length result) l)
         (no-rule Written.Refused _)))
         holds
+
+-- a caller's list, where a length is answered
+module _ {A : Type 0} {rules : List Rule} {result before after : List A} {r : Written} {n : ℕ}
+    (wrote : Wrote rules result before after r) (told : r ≡ Written.Length n) where
+  pub written-within : n ≤ length after
+  written-within = go r (subst (RulesDecide Written.Refused _ _) (sym (wrote .answer .equal)) (unless-decides _ _ _)) refl
+    where
+      go : (x : Written) →
+          RulesDecide Written.Refused (writing rules result before .rules) (Written.Length (length result)) x →
+          r ≡ x → n ≤ length after
+      go x (refuses y _) e = absurd (let z : _≡_ {A = ℕ} 0 1 = cc in omega arith)
+      go x (serves none) e =
+          let size : length result ≡ n = cc in
+          let held : after ≡ over result before = wrote .list ∙ unless-none (λ y. before) (over result before) none in
+          omega (arith, simp length-append at (ap length held))

@@ -8,7 +8,7 @@ use mathlib.Core.List.{List, [], _∷_}
 use Prim.Native.Nat.{ℕ, _≤_}
 use native.Mathlib.Omega.{arith}
 use lib.Dec.{T}
-use Rattle.finite.specs.Tests.{of-true}
+use Rattle.finite.specs.Tests.{of-true, is-false}
 use Rattle.model.specs.declared.Refusal.{Refusal}
 use Rattle.model.specs.declared.Outcome.{Outcome}
 use Rattle.model.specs.Refusals.{number, Rule, unless, Refuses, at-once, later, NoneApplies, none, nor}
@@ -62,6 +62,13 @@ unless-decides {A} refuse (rule ∷ rules) a = go (rule .applies) refl (unless-d
         RulesDecide refuse (rule ∷ rules) a (cond t (refuse (rule .refusal)) (unless refuse rules a))
     go true e rest = refuses (rule .refusal) (at-once (of-true (rule .applies) e) refl)
     go false e rest = further (λ t. subst T e t) (unless refuse rules a) rest
+
+-- where no rule applies, the value
+pub unless-none : {A : Type 0} (refuse : Refusal → A) (a : A) {rules : List Rule} → NoneApplies rules →
+    unless refuse rules a ≡ a
+unfolding unless
+unless-none refuse a none = refl
+unless-none refuse a (nor {rule} n rest) = rw (is-false (rule .applies) n) (unless-none refuse a rest)
 
 -- ---- rules that are checked first, by a function that answers an outcome
 

@@ -269,8 +269,9 @@ files : List ℕ → List Question
 files two =
     -- "lent list shorter than the result; a longer one keeps its tail"
     (map (λ lent. number-of-rules (writing {A = ℕ} [] (1 ∷ 2 ∷ []) lent .rules)) ((7 ∷ []) ∷ (7 ∷ 8 ∷ []) ∷ []) is 10 ∷ 0 ∷ [])
-    ∷ (lent-after (Written.Length 2) (1 ∷ 2 ∷ []) (7 ∷ 8 ∷ 9 ∷ []) is 1 ∷ 2 ∷ 9 ∷ [])
-    ∷ (lent-after (Written.Refused Refusal.ShortList) (1 ∷ 2 ∷ []) (7 ∷ []) is 7 ∷ [])
+    ∷ (flatMap (λ lent. lent-after (writing {A = ℕ} [] (1 ∷ 2 ∷ []) lent .rules) (1 ∷ 2 ∷ []) lent)
+    ((7 ∷ []) ∷ (7 ∷ 8 ∷ 9 ∷ []) ∷ [])
+    is 7 ∷ 1 ∷ 2 ∷ 9 ∷ [])
     -- two's complement, both ways
     ∷ (saved (run (at (negℤ (pos 2)) far ∷ []) .map) is one-point)
     ∷ (saved (map-in one-point) is one-point)
@@ -334,7 +335,7 @@ unfolding table-onto all any sum count one-if table elem all-in all-places any-i
     lone-fixed one-outline reference-on-outline others-left no-outline sound links-of number-of darts counts cut join
     left-corner right-corner with-point alone pair spliced later-point arrive is-repeated is-in-line offer
     is-accepted extended run-from run reported reported-edges is-outside outside-arrivals edges-seen
-    strictly-visible place-among lent-after big-endian number-at complement signed block coordinate header
+    strictly-visible place-among big-endian number-at complement signed block coordinate header
     saved-in file-in-form-of map-in is-digit has-minus digits value-after magnitude is-number number-value
     line-read in-first-line lines spaced printed offer-line closing arrivals report session after far same-list
     told says short refusals answers number-of-rules crowded beyond-far limits five with-xs with-links

@@ -1,0 +1,168 @@
+// The session of document 01 taken through every entry of the engine, for whoever writes the next crate
+// that uses it. Each call prints a line: its name, what it was given (maps and lists are left out), a
+// colon, and the answer, by its word and its values. The values stand in the order of the declared types:
+//     offer          left corner, right corner, visible edges
+//     orbit          the darts of the set
+//     counts         darts, vertices, edges, faces, parts
+//     walk           the last dart, the moves made
+//     move_walker    the dart that the walker has reached
+//     place          the corner; the ends of the edge; the visible edges
+// A refused call prints `refused` and the number of document 01's table; every number from 1 to 10 is seen.
+
+mod calls;
+mod telling;
+
+use model::Kind;
+use model::Link;
+use model::Map;
+use model::NO_DART;
+use model::POINT_LIMIT;
+use model::Point;
+ghost use mathlib.Core.Path.{_≡_};
+ghost use lib.ListN.{length};
+
+fn main() {
+    orientations();
+    let map = survey();
+    readings(map);
+    queries(map);
+    lists(map);
+    files();
+    texts();
+    unsound(map);
+    calls::offer(full_map(), at(512, 0));
+}
+
+fn at(x: i64, y: i64) -> Point {
+    Point { x, y }
+}
+
+// Positive is a left turn.
+fn orientations() {
+    calls::orientation(at(0, 0), at(4, 0), at(1, 3));
+    calls::orientation(at(4, 0), at(0, 0), at(1, 3));
+    calls::orientation(at(0, 0), at(1, 1), at(2, 2));
+    calls::orientation(
+        at(-1000000, -1000000),
+        at(1000000, -1000000),
+        at(1000000, 1000000),
+    );
+    calls::orientation(at(0, 0), at(4, 0), at(1, 1000001));
+}
+
+// The worked survey, offered point by point. A refused point leaves the map as it was.
+fn survey() -> Map {
+    let none = engine::empty_map();
+    calls::is_sound(none);
+    calls::counts(none);
+    calls::place(none, at(0, 0));
+    let one = calls::offer(none, at(0, 0));
+    calls::counts(one);
+    let two = calls::offer(one, at(4, 0));
+    calls::counts(two);
+    let three = calls::offer(two, at(1, 3));
+    let four = calls::offer(three, at(5, 4));
+    let kept = calls::offer(four, at(1000001, 0));
+    let kept = calls::offer(kept, at(4, 0));
+    let kept = calls::offer(kept, at(2, 2));
+    let five = calls::offer(kept, at(2, 1));
+    calls::offer(five, at(6, 7))
+}
+
+// What is read from the map of six points.
+fn readings(map: Map) {
+    calls::orbit(map, b"edge", Kind::Edge, 2);
+    calls::orbit(map, b"edge", Kind::Edge, 10);
+    calls::orbit(map, b"edge", Kind::Edge, 6);
+    calls::orbit(map, b"vertex", Kind::Vertex, 10);
+    calls::orbit(map, b"face", Kind::Face, 0);
+    calls::orbit(map, b"part", Kind::Part, 0);
+    calls::orbit(map, b"part", Kind::Part, 6);
+    calls::orbit(map, b"face", Kind::Face, 9);
+    calls::counts(map);
+    calls::walk(map, 0);
+    calls::walk(map, 6);
+    calls::walk(map, 1024);
+    calls::move_walker(map, b"none", Link::None, 2);
+    calls::move_walker(map, b"edge", Link::Edge, 2);
+    calls::move_walker(map, b"point", Link::Point, 11);
+    calls::move_walker(map, b"edge", Link::Edge, 9);
+}
+
+// Query points: a corner, an edge between two corners, inside, outside, out of range.
+fn queries(map: Map) {
+    calls::place(map, at(6, 7));
+    calls::place(map, at(2, 0));
+    calls::place(map, at(2, 1));
+    calls::place(map, at(-1, 0));
+    calls::place(map, at(0, -1000001));
+}
+
+// Lists that are lent, long enough and too short, and files: of the version 2, and with a reference that
+// the empty map does not have.
+fn lists(map: Map) {
+    let mut corners = [0usize; 4];
+    calls::list_corners(map, &mut corners);
+    let mut short_list = [0usize; 3];
+    calls::list_corners(map, &mut short_list);
+    let mut file = [0u8; 87];
+    calls::save(map, &mut file);
+    calls::load(&file);
+    let mut short_file = [0u8; 86];
+    calls::save(map, &mut short_file);
+}
+
+// The file of the empty map; the same with another version, and with a reference.
+fn files() {
+    let mut file = [0u8; 9];
+    calls::save(engine::empty_map(), &mut file);
+    calls::load(&file);
+    calls::load(b"\0\0\0\x05\x02\0\0\x04\0");
+    calls::load(b"\0\0\0\x05\x01\0\0\0\0");
+}
+
+// Lines, and the report on the worked survey.
+fn texts() {
+    calls::read_line(b"-12 1000000");
+    calls::read_line(b"1  2");
+    let mut lent = [0u8; 118];
+    calls::report(b"0 0\n4 0\n1 3\n5 4\n2 1\n6 7\n", &mut lent);
+    let mut short = [0u8; 34];
+    calls::report(b"", &mut short);
+    calls::report(&long_text(), &mut short);
+}
+
+// One byte more than a survey text may have.
+fn long_text() -> [u8; 65537]
+    ensures { λ r. ⌜ 65537 ≡ length r ⌝ }
+{
+    [0u8; 65537]
+}
+
+// A map that is not sound: its outline has no reference.
+fn unsound(map: Map) {
+    let mut map = map;
+    map.reference = NO_DART;
+    calls::is_sound(map);
+    calls::offer(map, at(2, 5));
+    calls::orbit(map, b"face", Kind::Face, 0);
+    calls::counts(map);
+    calls::walk(map, 0);
+    calls::move_walker(map, b"edge", Link::Edge, 0);
+    calls::place(map, at(2, 5));
+    let mut corners = [0usize; 4];
+    calls::list_corners(map, &mut corners);
+    let mut file = [0u8; 87];
+    calls::save(map, &mut file);
+}
+
+// As many points as a map has, along a parabola: no three are in line.
+fn full_map() -> Map {
+    let mut map = engine::empty_map();
+    for k in 0..POINT_LIMIT {
+        let x = k as i64;
+        let offered = engine::offer(map, at(x, x * x));
+        map = offered.map;
+    }
+    map
+}

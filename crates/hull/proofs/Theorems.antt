@@ -1,6 +1,7 @@
 -- What holds of offers and outlines, each under one name, in the order of this page: an offer keeps a
--- map sound; what an offer changes; the corners of an outside point; the outline is the hull.
--- Demand 3 is proofs/History: `always-balanced`. The proofs are in the pages that are cited.
+-- map sound; where an accepted point sees an edge there is one left corner and one right, and no point sees
+-- every edge; the outline is the hull. What an offer changes is in proofs/Changes: `nothing-else-changes`;
+-- demand 3 is in proofs/History: `always-balanced`.
 -- Assumes nothing.
 use mathlib.Core.Path.{_≡_}
 use mathlib.Core.Logic.{_≢_, _↔_}

@@ -46,7 +46,7 @@ pub edge-previous : {m : Map} → Linked m → (a b : ℕ) → Edge m a b → pr
 unfolding previous-corner
 edge-previous l a b e = ap owner (edge-back l a b e) ∙ owner-own a
 
--- points with helpers, each all-distinct, round which edges lead
+-- points with helpers, no two the same, round which edges lead
 pub record Circuit (m : Map) (s : List ℕ) : Type 0 where
   pub all-distinct : T (distinct s)
   pub below : (a : ℕ) → T (elem a s) → a < m .count

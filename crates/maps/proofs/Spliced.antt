@@ -1,5 +1,5 @@
 -- The map after an outside point: `spliced` puts the new point between its left and its right corner
--- (`spliced-splices`, with every edge link-of in terms of the old ones). Where the old outline runs from the
+-- (`spliced-splices`, with every edge link in terms of the old ones). Where the old outline runs from the
 -- right corner r to the left corner l and on over the corners that are lost, the new outline is the new
 -- point and r .. l, and the map is sound if all points lie left of that outline.
 -- Assumes nothing.
@@ -120,7 +120,7 @@ module _ {m : Map} (s : Shaped m) (room : m .count < point-limit) (p : Point) (l
       (λ (n : j ≢ m .count). omega (arith, s .links .owned j (rw (spliced-helper-old j n) at t)))
       (same-or-not j (m .count))
 
-  -- ---- how the new edge link-of differs from the old one
+  -- ---- how the new edge link differs from the old one
 
   module _ (left-helped : T (has-helper m l)) (right-helped : T (has-helper m r)) where
     left-old : l < m .count

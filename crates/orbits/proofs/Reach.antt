@@ -1,6 +1,6 @@
 -- The laws of reaching, in the order of this page: paths put together and carried from one set of
 -- links to another; links that keep the present darts; the test `reaches` agrees with the relation
--- `Reach` where all that is reached lies below the bound, since each widened of `grow` adds a dart until
+-- `Reach` where all that is reached lies below the bound, since each round of `grow` adds a dart until
 -- the list is closed under the links; links that lead back make reaching an equivalence.
 -- Assumes nothing.
 use mathlib.Core.Path.{_≡_}
@@ -134,7 +134,7 @@ unfolding widened grow
 widened-sound next a s f = grow-sound next a 1 s f
 
 module _ {n : ℕ} {next : ℕ → List ℕ} {a : ℕ} (stays : StaysBelow n next a) where
-  -- a widened adds a member, or there was none to add
+  -- widening adds a member, or there was none to add
   widened-grows : (s : List ℕ) → ((x : ℕ) → T (elem x s) → Reach next a x) →
       Closed next s ⊎ (size n s < size n (widened next s))
   unfolding widened size

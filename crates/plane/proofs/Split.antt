@@ -1,4 +1,4 @@
--- The visible edges are one split of the outline, in the order of this page: an outline cut at its
+-- The visible edges are one run of the outline, in the order of this page: an outline cut at its
 -- right corner and rotated, so that the hidden edges come first and the visible ones follow from the
 -- left corner on; its lengths, members and count; that there is such a cut where just one corner is
 -- left and just one right, and so where a point that is general sees an edge.
@@ -168,7 +168,7 @@ module _ {n : ℕ} {P : ℕ → Point} {next prev : ℕ → ℕ} {s : List ℕ} 
           ⊎-elim (λ (k : l ≡ r). absurd (left-not-right L R k)) (λ m. m)
           (elem-cases l r (v ++ u) (elem-swap l u (r ∷ v) (rw e at (L .member))))
 
--- ---- the visible edges are one split
+-- ---- the visible edges are one run
 
 module _ {n : ℕ} {P : ℕ → Point} {next prev : ℕ → ℕ} {s : List ℕ} (C : Convex n P next prev s)
     (q : Point) (general : GeneralPosition n P q) where

@@ -15,7 +15,7 @@ ghost use Rattle.plane.specs.OrientedAnswer.{Near, OrientedAnswer};
 // Coordinates run from -COORDINATE_LIMIT to COORDINATE_LIMIT.
 pub const COORDINATE_LIMIT: i64 = 1000000;
 
-// The orientation of three points: positive is a left determinant. A coordinate out of range is refused.
+// The orientation of three points: positive is a left turn. A coordinate out of range is refused.
 pub fn orientation_of(a: Point, b: Point, c: Point) -> Oriented
     ensures { λ r. ⌜ OrientedAnswer a b c r ⌝ }
 {

@@ -1,4 +1,5 @@
--- `part` meets its contract: the visit begins with no dart, so its queue holds just what is reached. Assumes nothing.
+-- `orbits::part` meets its contract: the visit begins with no dart, so its queue holds just what is
+-- reached. Assumes nothing.
 use mathlib.Core.Path.{_∙_}
 use Rattle.orbits.specs.Links.{link-of}
 use Rattle.orbits.proofs.Queue.{queue-small}

@@ -1,4 +1,4 @@
--- `maps::outlines::is_end_or_beside` meets its contract, one return for each way through its tests.
+-- `maps::support::is_end_or_beside` meets its contract, one return for each way through its tests.
 -- Assumes nothing.
 use borrow.Author.Needs.{needs}
 use mathlib.Core.Path.{sym, subst, _∙_}

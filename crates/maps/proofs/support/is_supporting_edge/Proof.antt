@@ -1,4 +1,4 @@
--- `maps::outlines::is_supporting_edge` meets its contract: the loop tests every point.
+-- `maps::support::is_supporting_edge` meets its contract: the loop tests every point.
 -- Assumes nothing.
 use Prim.Native.Nat.{_-_}
 use native.Mathlib.Omega.{arith}

@@ -32,7 +32,7 @@ use Rattle.model.specs.declared.Written.{Written}
 use Rattle.model.specs.declared.Line.{Line}
 use Rattle.model.specs.Spelling.{bytes, decimal, spelt}
 use Rattle.model.specs.Refusals.{number, Rule, unless}
-use Rattle.model.specs.Answers.{Answer, oriented-answer, arrival-answer, outcome-answer, orbit-answer, counted-answer, walked-answer, moved-answer, placed-answer, written-answer, line-answer}
+use Rattle.model.specs.Answers.{Answer, answer-of, oriented-answer, arrival-answer, outcome-answer, orbit-answer, counted-answer, walked-answer, moved-answer, placed-answer, written-answer, line-answer}
 use Rattle.model.specs.Plane.{coordinate-limit, coordinate-in-range, in-range, at, origin, same-point, orientation, orientation-limit, left-of, visible-from, in-line, beside, sees-edge, strictly-between, lower}
 use Rattle.model.specs.Maps.{point-limit, no-dart, other-dart, point, has-helper, is-present, edge-link, point-link, face-link, empty-map, map-of}
 use Rattle.model.specs.Outline.{next-corner, previous-corner, corners-from, outline, sees, visible-edges, lowest-corner, corners}
@@ -44,7 +44,7 @@ use Rattle.model.specs.History.{Run, is-accepted, extended, run-from, ru
 use Rattle.model.specs.Placing.{strictly-visible, place-among, place-call}
 use Rattle.model.specs.Lent.{writing, lent-after}
 use Rattle.model.specs.Saved.{version, big-endian, number-at, complement, signed, block, version-place, count-place, reference-place, header-length, helpers-place, links-place, saved-length, following, coordinate, header, saved-in, saved, file-in-form-of, file-in-form, map-in}
-use Rattle.model.specs.Text.{digit-limit, is-digit, has-minus, digits, value-after, magnitude, is-number, number-value, line-read, in-first-line, lines}
+use Rattle.model.specs.Text.{digit-limit, is-digit, has-minus, digits, value-after, magnitude, is-number, number-value, line-read, in-first-line, lines, one-line, line-call}
 use Rattle.model.specs.Report.{text-limit, spaced, printed, offer-line, closing, arrivals, report}
 use Rattle.model.specs.Questions.{Question, _is_, same-list, session, after, far}
 
@@ -292,6 +292,10 @@ files two =
 number-of-line : String → ℕ
 number-of-line text = line-answer (line-read (bytes text)) .number
 
+-- what a line says that is lent by itself
+lent-line : String → List ℕ
+lent-line text = told (line-answer (answer-of (line-call (bytes text))))
+
 texts : List Question
 texts =
     (told (line-answer (line-read (bytes "-1234567 0"))) is says "point -1234567 0\n")
@@ -308,6 +312,9 @@ texts =
     ∷ "a 0"
     ∷ [])
     is replicate 21 8)
+    -- "and a line feed; the last feed may be missing, and nothing follows it"
+    ∷ (flatMap lent-line ("4 -1\n" ∷ "4 -1" ∷ []) is says "point 4 -1\n" ++ says "point 4 -1\n")
+    ∷ (flatMap (λ text. take 1 (lent-line text)) ("4 -1\n\n" ∷ "\n" ∷ "" ∷ "0 0\n4 0" ∷ []) is replicate 4 8)
     -- "the last feed may be missing", "With no points the last two lines are .."
     ∷ (report (bytes "0 0") is report (bytes "0 0\n"))
     ∷ (report [] is bytes "OUTLINE 1\ncorners\ncounts 0 0 0 0 0\n")
@@ -337,8 +344,8 @@ unfolding table-onto all any sum count one-if table elem all-in all-places any-i
     is-accepted extended run-from run reported reported-edges is-outside outside-arrivals edges-seen
     strictly-visible place-among big-endian number-at complement signed block coordinate header
     saved-in file-in-form-of map-in is-digit has-minus digits value-after magnitude is-number number-value
-    line-read in-first-line lines spaced printed offer-line closing arrivals report session after far same-list
+    line-read in-first-line lines one-line spaced printed offer-line closing arrivals report session after far same-list
     told says short refusals answers number-of-rules crowded beyond-far limits five with-xs with-links
     with-reference chained unsound-maps sound-maps soundness orbit-sizes moves placings sums of-session
-    of-few one-point files number-of-line texts further-questions
+    of-few one-point files number-of-line lent-line texts further-questions
 further-answers-are-right = tt

@@ -15,7 +15,7 @@
 --     Placing      where a query point lies
 --     Lent         results written into a lent list
 --     Saved        the file
---     Text         numbers and lines of a survey text
+--     Text         numbers and lines of a survey text, and a line lent by itself
 --     Report       the report on a survey text
 --     Orders       the order in which each call looks at its rules
 --     Questions    the starred questions, one list with one check

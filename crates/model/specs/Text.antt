@@ -1,6 +1,7 @@
--- Survey texts, in the order of this page: a number; a line; the lines of a text.
--- Document 01, "The text program". The bytes of a line stand without its line feed.
--- Assumes nothing.
+-- Survey texts, in the order of this page: a number; what the bytes of a line name, which stand
+-- without its line feed; the lines of a text; a line that is lent by itself.
+-- Document 01, "The text program": "A line is two numbers with one space between and a line feed;
+-- the last feed may be missing, and nothing follows it." Assumes nothing.
 use mathlib.Core.Bool.{Bool, not, cond, _&&_, _||_}
 use mathlib.Core.List.{List, [], _∷_}
 use Prim.Native.Nat.{ℕ, _+_, _-_, _*_}
@@ -47,9 +48,9 @@ is-number s =
 unfoldable pub number-value : List ℕ → ℤ
 number-value s = cond (has-minus s) (negℤ (pos (magnitude s))) (pos (magnitude s))
 
--- "A line is two numbers with one space between": the point that it names, or number 8
-abbrev pub line-call : List ℕ → Call Line
-line-call s =
+-- "two numbers with one space between": the point that they name, or number 8
+abbrev pub bytes-call : List ℕ → Call Line
+bytes-call s =
     let first = before space s in
     let second = beyond space s in
     record {
@@ -60,7 +61,7 @@ line-call s =
     }
 
 unfoldable pub line-read : List ℕ → Line
-line-read s = answer-of (line-call s)
+line-read s = answer-of (bytes-call s)
 
 -- the lines with b before the first of them
 unfoldable pub in-first-line : ℕ → List (List ℕ) → List (List ℕ)
@@ -71,3 +72,13 @@ in-first-line b (l ∷ ls) = (b ∷ l) ∷ ls
 unfoldable pub lines : List ℕ → List (List ℕ)
 lines [] = []
 lines (b ∷ s) = cond (eqb b line-feed) ([] ∷ lines s) (in-first-line b (lines s))
+
+-- the bytes of the one line; those of none or of several are no line, and stand as a blank one
+unfoldable pub one-line : List (List ℕ) → List ℕ
+one-line [] = []
+one-line (l ∷ []) = l
+one-line (l ∷ k ∷ ls) = []
+
+-- a line that is lent by itself is a text of one line, so one feed may end it
+abbrev pub line-call : List ℕ → Call Line
+line-call s = bytes-call (one-line (lines s))

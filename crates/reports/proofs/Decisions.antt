@@ -15,7 +15,6 @@ use Rattle.model.specs.declared.Refusal.{Refusal}
 use Rattle.model.specs.declared.Arrival.{Arrival}
 use Rattle.model.specs.declared.Point.{Point}
 use Rattle.model.specs.declared.Map.{Map}
-use Rattle.model.specs.declared.Line.{Line}
 use Rattle.model.specs.declared.Offered.{Offered}
 use Rattle.model.specs.Maps.{empty-map}
 use Rattle.model.specs.Sound.{Shaped}
@@ -23,7 +22,8 @@ use Rattle.model.specs.Arrival.{arrive, refusing}
 use Rattle.model.specs.Text.{lines}
 use Rattle.model.specs.Report.{text-limit, arrivals, closing, offer-line}
 use Rattle.maps.proofs.Empty.{empty-sound}
-use Rattle.survey.specs.Places.{at-end, line-at, next-line}
+use Rattle.survey.specs.declared.lines.Read.{Read}
+use Rattle.survey.specs.Places.{at-end, line-at, next-line, read-at}
 use Rattle.printing.specs.Printing.{arrival-line}
 use Rattle.survey.proofs.Texts.{next-further}
 use Rattle.printing.proofs.Reports.{report-ended, report-goes-on}
@@ -69,6 +69,13 @@ reports-begin text answers short whole =
 -- ---- a line that is there
 
 module _ {text answers : List ℕ} {m : Map} {n at : ℕ} (r : Reports text m answers n at) where
+  -- what the code finds for the line that it has read
+  ruled : {found verdict : Verdict} {read : Read} → found ≡ verdict →
+      found ≡ verdict-by (m .xs) (m .ys) (m .count) (read .line) → read ≡ read-at text at →
+      verdict ≡ verdict-by (m .xs) (m .ys) (m .count) (line-at text at)
+  ruled is found here =
+      sym is ∙ found ∙ ap (λ (q : Read). verdict-by (m .xs) (m .ys) (m .count) (q .line)) here
+
   module _ (there : at-end text at ≡ false) where
     before-end : at < length text
     unfolding at-end
@@ -110,17 +117,17 @@ module _ {text answers : List ℕ} {m : Map} {n at : ℕ} (r : Reports text m an
         Reports text m (set answers n (packed (Arrival.Refused x))) (n + 1) (next-line text at)
     reports-refused x e =
         reports-more (refusing m x) (line-refused (r .is-sound) (line-at text at) x e)
-        (refusal-packable (m .xs) (m .ys) (m .count) text at refl e refl) (r .is-sound)
+        (refusal-packable (m .xs) (m .ys) (m .count) text at {read = read-at text at} refl e refl)
+        (r .is-sound)
 
     -- as the code has it
-    pub refuse-next : (x : Refusal) {found : Verdict} {line : Line} {v next : ℕ} →
+    pub refuse-next : (x : Refusal) {found : Verdict} {read : Read} {v : ℕ} →
         found ≡ Verdict.Refused x →
-        found ≡ verdict-by (m .xs) (m .ys) (m .count) line → line ≡ line-at text at →
-        v ≡ packed (Arrival.Refused x) → next ≡ next-line text at →
-        Reports text m (set answers n v) (n + 1) next
-    refuse-next x is found read v-is next-is =
-        rw (v-is, next-is)
-        (reports-refused x (sym is ∙ found ∙ ap (verdict-by (m .xs) (m .ys) (m .count)) read))
+        found ≡ verdict-by (m .xs) (m .ys) (m .count) (read .line) → read ≡ read-at text at →
+        v ≡ packed (Arrival.Refused x) →
+        Reports text m (set answers n v) (n + 1) (read .next)
+    refuse-next x is found here v-is =
+        rw (v-is, ap (λ (q : Read). q .next) here) (reports-refused x (ruled is found here))
 
     pub reports-accepted : (p : Point) →
         Verdict.Accepted p ≡ verdict-by (m .xs) (m .ys) (m .count) (line-at text at) →
@@ -141,27 +148,31 @@ module _ {text answers : List ℕ} {m : Map} {n at : ℕ} (r : Reports text m an
   -- ---- where the refusals stop
 
   module _ {from : ℕ} (further : from ≤ at) where
-    pub stops-before : {p : Point} {found : Verdict} {line : Line} → at-end text at ≡ false →
-        found ≡ Verdict.Accepted p → found ≡ verdict-by (m .xs) (m .ys) (m .count) line →
-        line ≡ line-at text at →
-        Stopped text m answers from (record { at = at; line = n; ended = false; p = p })
-    stops-before there is found read =
+    pub stops-before : {p : Point} {found : Verdict} {read : Read} → at-end text at ≡ false →
+        found ≡ Verdict.Accepted p →
+        found ≡ verdict-by (m .xs) (m .ys) (m .count) (read .line) → read ≡ read-at text at →
+        Stopped text m answers from
+        (record { at = at; next = read .next; line = n; ended = false; p = p })
+    stops-before there is found here =
         record {
           reports = r;
           further = further;
           at-the-end = λ e. absurd (let z : _≡_ {A = ℕ} 0 1 = cc in omega arith);
           goes-on = λ e. there;
-          accepted = λ e. sym is ∙ found ∙ ap (verdict-by (m .xs) (m .ys) (m .count)) read;
+          next-read = λ e. ap (λ (q : Read). q .next) here;
+          accepted = λ e. ruled is found here;
         }
 
     pub stops-at-end : (p : Point) → at-end text at ≡ true →
-        Stopped text m answers from (record { at = at; line = n; ended = true; p = p })
+        Stopped text m answers from
+        (record { at = at; next = at; line = n; ended = true; p = p })
     stops-at-end p e =
         record {
           reports = r;
           further = further;
           at-the-end = λ z. e;
           goes-on = λ z. absurd (let y : _≡_ {A = ℕ} 0 1 = cc in omega arith);
+          next-read = λ z. absurd (let y : _≡_ {A = ℕ} 0 1 = cc in omega arith);
           accepted = λ z. absurd (let y : _≡_ {A = ℕ} 0 1 = cc in omega arith);
         }
 
@@ -173,8 +184,9 @@ module _ {text answers : List ℕ} {m : Map} {s : Stop} {from : ℕ}
   pub stop-free : s .line < text-limit
   stop-free = place-free (stopped .reports) (stopped .goes-on more)
 
-  pub stop-further : (s .at < next-line text (s .at)) × (next-line text (s .at) ≤ length text)
-  stop-further = place-further (stopped .reports) (stopped .goes-on more)
+  pub stop-further : (s .at < s .next) × (s .next ≤ length text)
+  stop-further =
+      rw (stopped .next-read more) (place-further (stopped .reports) (stopped .goes-on more))
 
   pub stop-accepted : Accepted m (s .p)
   stop-accepted =
@@ -182,11 +194,10 @@ module _ {text answers : List ℕ} {m : Map} {s : Stop} {from : ℕ}
       (stopped .accepted more) .1
 
   -- as the code has it
-  pub accept-next : {o : Offered} {v next : ℕ} → o ≡ arrive m (s .p) → v ≡ packed (o .arrival) →
-      next ≡ next-line text (s .at) →
-      Reports text (o .map) (set answers (s .line) v) (s .line + 1) next
-  accept-next o-is v-is next-is =
-      rw (v-is, next-is, o-is)
+  pub accept-next : {o : Offered} {v : ℕ} → o ≡ arrive m (s .p) → v ≡ packed (o .arrival) →
+      Reports text (o .map) (set answers (s .line) v) (s .line + 1) (s .next)
+  accept-next o-is v-is =
+      rw (v-is, stopped .next-read more, o-is)
       (reports-accepted (stopped .reports) (stopped .goes-on more) (s .p) (stopped .accepted more))
 
 pub stopped-onwards : {text answers : List ℕ} {m : Map} {s : Stop} {from : ℕ} →
@@ -198,6 +209,7 @@ stopped-onwards t =
       further = omega arith;
       at-the-end = t .at-the-end;
       goes-on = t .goes-on;
+      next-read = t .next-read;
       accepted = t .accepted;
     }
 

@@ -21,7 +21,8 @@ use Rattle.model.specs.Outline.{visible-edges}
 use Rattle.model.specs.Offers.{offer}
 use Rattle.model.specs.Report.{offer-line}
 use Rattle.model.proofs.Answers.{RulesDecide, refuses, serves, unless-decides}
-use Rattle.survey.specs.Places.{line-at}
+use Rattle.survey.specs.declared.lines.Read.{Read}
+use Rattle.survey.specs.Places.{line-at, read-at}
 use Rattle.survey.proofs.Texts.{line-at-refused}
 use Rattle.hull.specs.Admission.{rules-by, admission-by}
 use Rattle.hull.proofs.Admissions.{admission-refused, admission-served, admission-accepted, visible-most, corners-below}
@@ -93,11 +94,13 @@ module _ (xs ys : List ℤ) (count : ℕ) (text : List ℕ) (at : ℕ) where
       let bad = line-at-refused text at q is in
       let same : Refusal.BadLine ≡ r = cc in subst OfLine same bad-line
 
-  pub refusal-packable : {r : Refusal} {found : Verdict} {line : Line} →
-      found ≡ Verdict.Refused r → found ≡ verdict-by xs ys count line → line ≡ line-at text at →
+  -- as the code has it
+  pub refusal-packable : {r : Refusal} {found : Verdict} {read : Read} → found ≡ Verdict.Refused r →
+      found ≡ verdict-by xs ys count (read .line) → read ≡ read-at text at →
       Packable (Arrival.Refused r)
-  refusal-packable {r = r} {line = line} is ruled read =
-      packing.refused (refusal-by line r (sym read) (sym is ∙ ruled))
+  refusal-packable {r = r} {read = read} is ruled here =
+      packing.refused
+      (refusal-by (read .line) r (sym (ap (λ (q : Read). q .line) here)) (sym is ∙ ruled))
 
 -- ---- the arrival of an accepted point
 

@@ -12,7 +12,7 @@ use Rattle.model.specs.Maps.{point-limit, empty-map, with-points}
 use Rattle.model.specs.Sound.{Shaped}
 use Rattle.model.specs.Text.{lines}
 use Rattle.model.specs.Report.{text-limit, arrivals, closing, report}
-use Rattle.survey.specs.Places.{at-end, line-at}
+use Rattle.survey.specs.Places.{at-end, line-at, next-line}
 use Rattle.reports.specs.declared.deciding.Verdict.{Verdict}
 use Rattle.reports.specs.declared.deciding.Stop.{Stop}
 use Rattle.reports.specs.declared.deciding.Surveyed.{Surveyed}
@@ -38,6 +38,7 @@ pub record Stopped (text : List ℕ) (m : Map) (answers : List ℕ) (at : ℕ) (
   pub further : at ≤ s .at
   pub at-the-end : s .ended ≡ true → at-end text (s .at) ≡ true
   pub goes-on : s .ended ≡ false → at-end text (s .at) ≡ false
+  pub next-read : s .ended ≡ false → s .next ≡ next-line text (s .at)
   pub accepted : s .ended ≡ false →
       Verdict.Accepted (s .p) ≡ verdict-by (m .xs) (m .ys) (m .count) (line-at text (s .at))
 

@@ -11,9 +11,8 @@ use model::Map;
 use model::Outcome;
 use model::Point;
 use model::Refusal;
-use survey::reader::is_ended;
-use survey::reader::line_from;
-use survey::reader::next_from;
+use survey::lines::at_end;
+use survey::reader::read_from;
 ghost use mathlib.Core.Path.{_≡_};
 ghost use Rattle.hull.specs.Admission.{RangedPlaces};
 ghost use Rattle.reports.specs.Verdicts.{verdict-by};
@@ -29,9 +28,10 @@ pub enum Verdict {
 }
 
 // The place of a text and the number of the line there at which the refusals stop: at the end of
-// the text, or before a line that names an accepted point.
+// the text, or before a line that names an accepted point; and where the line after it begins.
 pub struct Stop {
     pub at: usize,
+    pub next: usize,
     pub line: usize,
     pub ended: bool,
     pub p: Point,
@@ -77,12 +77,16 @@ pub(crate) fn refuse_lines<'a>(
 {
     let mut place = at;
     let mut number = line;
-    while !is_ended(text, place) {
-        let found = verdict_on(xs, ys, count, line_from(text, place));
+    while !at_end(text, place) {
+        let read = read_from(text, place);
+        let named = read.line;
+        let next = read.next;
+        let found = verdict_on(xs, ys, count, named);
         match found {
             Verdict::Accepted(p) => {
                 return Stop {
                     at: place,
+                    next,
                     line: number,
                     ended: false,
                     p,
@@ -92,11 +96,12 @@ pub(crate) fn refuse_lines<'a>(
                 answers[number] = packed(Arrival::Refused(refusal));
             }
         }
-        place = next_from(text, place);
+        place = next;
         number += 1;
     }
     Stop {
         at: place,
+        next: place,
         line: number,
         ended: true,
         p: Point { x: 0, y: 0 },
@@ -117,7 +122,7 @@ pub(crate) fn decide_lines(text: &[u8], answers: &mut [u32; TEXT_LIMIT]) -> Surv
     let mut reference = empty.reference;
     let mut stop = refuse_lines(text, 0, 0, &xs, &ys, count, answers);
     while !stop.ended {
-        let at = stop.at;
+        let next = stop.next;
         let line = stop.line;
         let p = stop.p;
         let grown = grow(
@@ -133,15 +138,7 @@ pub(crate) fn decide_lines(text: &[u8], answers: &mut [u32; TEXT_LIMIT]) -> Surv
         count += 1;
         reference = grown.reference;
         answers[line] = packed(arrival);
-        stop = refuse_lines(
-            text,
-            next_from(text, at),
-            line + 1,
-            &xs,
-            &ys,
-            count,
-            answers,
-        );
+        stop = refuse_lines(text, next, line + 1, &xs, &ys, count, answers);
     }
     Surveyed {
         map: Map {

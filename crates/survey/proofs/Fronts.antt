@@ -3,26 +3,26 @@
 -- itself and for what stands before its first space; a line by its front. Assumes nothing.
 use mathlib.Core.Path.{_≡_, refl, sym, ap, ap₂, _∙_}
 use mathlib.Core.Logic.{_≢_, ⊎-elim}
-use mathlib.Core.Bool.{true, false, not, _&&_}
+use mathlib.Core.Bool.{true, false, not, cond, _&&_}
 use mathlib.Core.List.{List, [], _∷_, _++_, append-nil}
 use Prim.Native.Nat.{ℕ, suc, _+_, _-_, _≤_, _<_}
 use native.Mathlib.Numerals.{add-one}
+use native.Mathlib.Nat.{min-le-right}
 use native.Mathlib.Omega.{arith}
 use borrow.Author.Tests.{eq-eqb, ne-eqb}
 use lib.Dec.{T, T-not, eqb}
 use lib.IntN.{ℤ}
-use lib.ListN.{length, getD, take, drop, take-append-drop, drop-of-length-le, length-drop, List·getD-eq-default}
-use lib.Seq.{drop-cons, take-length, take-all}
+use lib.ListN.{length, getD, take, drop, take-append-drop, drop-of-length-le, length-take, List·getD-eq-default}
+use lib.Seq.{drop-cons, take-length}
 use Rattle.finite.specs.Tests.{and-left, and-right, decide, is-true, is-false, of-true, same-or-not}
 use Rattle.finite.specs.Bounded.{lt-or-ge}
 use Rattle.finite.specs.Lists.{all-in, before, beyond}
 use Rattle.model.specs.declared.Line.{Line}
 use Rattle.model.specs.declared.Refusal.{Refusal}
-use Rattle.model.specs.Spelling.{minus, space}
+use Rattle.model.specs.Spelling.{line-feed, minus, space}
 use Rattle.model.specs.Text.{digits, has-minus, is-digit, is-number, line-read, magnitude, number-value}
 use Rattle.survey.specs.declared.numbers.Front.{Front}
-use Rattle.survey.specs.declared.numbers.Number.{Number}
-use Rattle.survey.specs.Numbers.{front, front-number, is-magnitude, leading-digits, named, number-read}
+use Rattle.survey.specs.Numbers.{front, front-number, is-magnitude, leading-digits, named, Number, value-of, no-number, number-read}
 use Rattle.survey.proofs.Digits.{digit-or-not, digit-small, leading-more, leading-none, magnitude-digits}
 use Rattle.survey.proofs.Signs.{number-is}
 use Rattle.survey.proofs.Separators.{before-found, before-other, before-part, before-ends, beyond-part, line-is}
@@ -57,6 +57,64 @@ front-part (b ∷ s) =
     (λ (e : b ≡ minus). rw (front-minus b s e) (ap (λ (l : List ℕ). b ∷ l) (leading-part s)))
     (λ (n : b ≢ minus). rw (front-digit b s n) (leading-part (b ∷ s)))
     (same-or-not b minus)
+
+pub front-short : (s : List ℕ) → length (front s) ≤ length s
+front-short s =
+    omega (arith, ap length (front-part s) ∙ length-take (length (front s)) s, min-le-right (length (front s)) (length s))
+
+-- a line feed is no part of it, so the front of a line is that of the text from there on
+leading-before : (s : List ℕ) → leading-digits (before line-feed s) ≡ leading-digits s
+unfolding leading-digits before is-digit
+leading-before [] = refl
+leading-before (b ∷ s) =
+    ⊎-elim
+    (λ (e : line-feed ≡ b). rw (before-found line-feed b s e, ← e))
+    (λ (n : line-feed ≡ b → ⊥).
+    rw (before-other line-feed b s n)
+    (⊎-elim
+    (λ (e : is-digit b ≡ true).
+    rw (leading-more b (before line-feed s) e, leading-more b s e)
+    (ap (λ (l : List ℕ). b ∷ l) (leading-before s)))
+    (λ (e : is-digit b ≡ false). rw (leading-none b (before line-feed s) e, leading-none b s e))
+    (digit-or-not b)))
+    (same-or-not line-feed b)
+
+front-none : front [] ≡ leading-digits []
+unfolding front leading-digits
+front-none = refl
+
+front-before : (s : List ℕ) → front (before line-feed s) ≡ front s
+unfolding front before
+front-before [] = refl
+front-before (b ∷ s) =
+    ⊎-elim
+    (λ (m : b ≡ minus).
+    let other : line-feed ≢ b = λ f. omega arith in
+    rw (before-other line-feed b s other, front-minus b (before line-feed s) m, front-minus b s m)
+    (ap (λ (l : List ℕ). b ∷ l) (leading-before s)))
+    (λ (n : b ≢ minus). rw (front-digit b s n) (go n))
+    (same-or-not b minus)
+  where
+    go : b ≢ minus → front (before line-feed (b ∷ s)) ≡ leading-digits (b ∷ s)
+    go n =
+        ⊎-elim
+        (λ (e : line-feed ≡ b).
+        let none = before-found line-feed b s e in
+        ap front none ∙ front-none ∙ sym (ap leading-digits none) ∙ leading-before (b ∷ s))
+        (λ (o : line-feed ≡ b → ⊥).
+        rw (← leading-before (b ∷ s), before-other line-feed b s o, front-digit b (before line-feed s) n))
+        (same-or-not line-feed b)
+
+pub front-number-before : (s : List ℕ) → front-number (before line-feed s) ≡ front-number s
+unfolding front-number
+front-number-before s =
+    ap (λ (f : List ℕ). cond (is-number f) (Front.Value (number-value f) (length f)) Front.Malformed)
+    (front-before s)
+
+-- past the end of a list there is none
+pub front-past : (s : List ℕ) (at : ℕ) → length s ≤ at → Front.Malformed ≡ front-number (drop at s)
+unfolding front-number front is-number digits
+front-past s at h = let none : drop at s ≡ [] = drop-of-length-le s h in rw none
 
 -- ---- a number that is followed by something else
 
@@ -154,7 +212,7 @@ front-space (b ∷ s) e =
 
 -- ---- what is read
 
-unread : (p : List ℕ) → (T (is-number p) → ⊥) → number-read p ≡ Number.Malformed
+unread : (p : List ℕ) → (T (is-number p) → ⊥) → number-read p ≡ no-number
 unfolding number-read
 unread p n = rw (is-false (is-number p) n)
 
@@ -187,38 +245,38 @@ module _ (s : List ℕ) where
 
   -- a part p of the list that is a number only where it is the front
   module _ (p : List ℕ) (only : T (is-number p) → front s ≡ p) where
-    pub read-none : front-number s ≡ Front.Malformed → number-read p ≡ Number.Malformed
+    pub read-none : front-number s ≡ Front.Malformed → number-read p ≡ no-number
     read-none e =
         unread p (λ t.
         let has = has-front (rw (only t) t) in
         let never : _≡_ {A = ℕ} 0 1 = cc in omega arith)
 
-    read-other : (front s ≡ p → ⊥) → number-read p ≡ Number.Malformed
+    read-other : (front s ≡ p → ⊥) → number-read p ≡ no-number
     read-other n = unread p (λ t. n (only t))
 
-    read-front : {z : ℤ} {n : ℕ} → Leads s z n → front s ≡ p → number-read p ≡ Number.Value z
+    read-front : {z : ℤ} {n : ℕ} → Leads s z n → front s ≡ p → number-read p ≡ value-of z
     unfolding number-read
     read-front w e = rw (← e, is-true (is-number (front s)) (w .passes), w .value)
 
   -- the front is the list itself just where it ends where the list ends
   module _ {z : ℤ} {n : ℕ} (w : Leads s z n) where
-    pub read-whole : n ≡ length s → number-read s ≡ Number.Value z
+    pub read-whole : n ≡ length s → number-read s ≡ value-of z
     read-whole e =
         let ends : length (front s) ≡ length s = sym (w .ends) ∙ e in
         read-front s (whole-front s) w
         (front-part s ∙ ap (λ (k : ℕ). take k s) ends ∙ take-length s)
 
-    pub read-part : n ≢ length s → number-read s ≡ Number.Malformed
+    pub read-part : n ≢ length s → number-read s ≡ no-number
     read-part l = read-other s (whole-front s) (λ e. l (w .ends ∙ ap length e))
 
 -- ---- a line
 
-number-none : number-read [] ≡ Number.Malformed
+number-none : number-read [] ≡ no-number
 unfolding number-read is-number digits
 number-none = refl
 
 module _ (s : List ℕ) where
-  bad-first : number-read (before space s) ≡ Number.Malformed →
+  bad-first : number-read (before space s) ≡ no-number →
       line-read s ≡ Line.Refused Refusal.BadLine
   unfolding named
   bad-first e = line-is s ∙ ap (λ (x : Number). named x (number-read (beyond space s))) e
@@ -262,17 +320,14 @@ module _ (s : List ℕ) where
       is-first : front s ≡ before space s
       is-first = sym (front-space s (rw (w .ends) at h))
 
-      is-rest : take (length s - (n + 1)) (drop (n + 1) s) ≡ beyond space s
+      is-rest : drop (n + 1) s ≡ beyond space s
       is-rest =
           let ends : n + 1 ≡ suc (length (before space s)) =
           rw add-one (ap suc (w .ends ∙ ap length is-first)) in
-          take-all (length s - (n + 1)) (drop (n + 1) s) (omega (arith, length-drop (n + 1) s))
-          ∙ ap (λ (k : ℕ). drop k s) ends ∙ sym (beyond-part space s)
+          ap (λ (k : ℕ). drop k s) ends ∙ sym (beyond-part space s)
 
-      pub line-spaced : {y : Number} →
-          y ≡ number-read (take (length s - (n + 1)) (drop (n + 1) s)) →
-          named (Number.Value z) y ≡ line-read s
-      line-spaced e =
+      pub line-spaced : named (value-of z) (number-read (drop (n + 1) s)) ≡ line-read s
+      line-spaced =
           ap₂ named (sym (read-front s (before space s) (first-front s) w is-first))
-          (e ∙ ap number-read is-rest)
+          (ap number-read is-rest)
           ∙ sym (line-is s)

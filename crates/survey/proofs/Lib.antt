@@ -4,8 +4,10 @@
 --     Separators     before and after the first of a byte
 --     Fronts         the number at the front of a list
 --     Texts          the lines of a text by their places
+--     Readings       a line read within its text
 pub mod Digits
 pub mod Signs
 pub mod Separators
 pub mod Fronts
 pub mod Texts
+pub mod Readings

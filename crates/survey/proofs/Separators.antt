@@ -1,17 +1,19 @@
 -- What stands before and after the first of a byte in a list, in the order of this page: both as
--- parts of the list; what a search from place to place finds; a line as two numbers.
+-- parts of the list, from a place within on, and where the first ends; what a search from place to
+-- place finds; a line as two numbers.
 -- Assumes nothing.
-use mathlib.Core.Path.{_≡_, refl, sym, ap}
-use mathlib.Core.Logic.{⊎-elim}
+use mathlib.Core.Path.{_≡_, refl, sym, ap, _∙_}
+use mathlib.Core.Logic.{_≢_, ⊎-elim}
 use mathlib.Core.Bool.{Bool, true, false}
 use mathlib.Core.List.{List, [], _∷_}
-use Prim.Native.Nat.{ℕ, suc, _+_, _≤_, _<_}
+use Prim.Native.Nat.{ℕ, zero, suc, _+_, _≤_, _<_}
 use native.Mathlib.Numerals.{add-one}
 use native.Mathlib.Omega.{arith}
 use borrow.Author.Tests.{eq-eqb, ne-eqb}
-use lib.ListN.{length, getD, take, drop, drop-of-length-le}
-use lib.Seq.{drop-cons}
+use lib.ListN.{length, getD, take, drop, drop-of-length-le, List·getD-eq-default}
+use lib.Seq.{drop-cons, getD-take}
 use Rattle.finite.specs.Tests.{same-or-not}
+use Rattle.finite.specs.Bounded.{lt-or-ge}
 use Rattle.finite.specs.Lists.{before, beyond}
 use Rattle.model.specs.Refusals.{unless}
 use Rattle.model.specs.Spelling.{space}
@@ -74,6 +76,67 @@ before-ends x (y ∷ s) h =
     (λ (n : x ≡ y → ⊥).
     let more = before-other x y s n in rw more (before-ends x s (omega (arith, rw more at h))))
     (same-or-not x y)
+
+-- no place of it holds x
+pub before-none : (x : ℕ) (s : List ℕ) (k : ℕ) → k < length (before x s) → getD s k 0 ≢ x
+unfolding before
+before-none x [] k h = absurd (omega arith)
+before-none x (y ∷ s) zero h =
+    ⊎-elim
+    (λ (e : x ≡ y). absurd (omega (arith, rw (before-found x y s e) at h)))
+    (λ (n : x ≡ y → ⊥). λ e. n (sym e))
+    (same-or-not x y)
+before-none x (y ∷ s) (suc k) h =
+    ⊎-elim
+    (λ (e : x ≡ y). absurd (omega (arith, rw (before-found x y s e) at h)))
+    (λ (n : x ≡ y → ⊥). before-none x s k (omega (arith, rw (before-other x y s n) at h)))
+    (same-or-not x y)
+
+-- from a place within it on
+pub before-drop : (x : ℕ) (s : List ℕ) (k : ℕ) → k ≤ length (before x s) →
+    before x (drop k s) ≡ drop k (before x s)
+unfolding before
+before-drop x s zero h = refl
+before-drop x [] (suc k) h = absurd (omega arith)
+before-drop x (y ∷ s) (suc k) h =
+    ⊎-elim
+    (λ (e : x ≡ y). absurd (omega (arith, rw (before-found x y s e) at h)))
+    (λ (n : x ≡ y → ⊥).
+    let more = before-other x y s n in rw more (before-drop x s k (omega (arith, rw more at h))))
+    (same-or-not x y)
+
+-- what stands at its places
+pub before-at : (x : ℕ) (s : List ℕ) (k : ℕ) → k < length (before x s) →
+    getD (before x s) k 0 ≡ getD s k 0
+before-at x s k h =
+    ap (λ (l : List ℕ). getD l k 0) (before-part x s) ∙ getD-take (length (before x s)) s k 0 h
+
+-- a place up to its end is its end just where x stands there or the list ends there
+module _ (x : ℕ) (s : List ℕ) (k : ℕ) (inside : k ≤ length (before x s)) where
+  pub ends-at-end : length s ≤ k → k ≡ length (before x s)
+  ends-at-end h = omega (arith, before-short x s)
+
+  pub ends-found : getD s k 0 ≡ x → k ≡ length (before x s)
+  ends-found e =
+      ⊎-elim
+      (λ (h : k < length (before x s)). absurd (before-none x s k h e))
+      (λ (h : length (before x s) ≤ k). omega arith)
+      (lt-or-ge k (length (before x s)))
+
+  pub ends-later : k < length s → getD s k 0 ≢ x → k ≢ length (before x s)
+  ends-later h n e =
+      n (ap (λ (j : ℕ). getD s j 0) e ∙ before-ends x s (omega arith))
+
+  pub ends-not : getD s k 0 ≢ x → getD s k 0 ≢ 0 → k < length (before x s)
+  ends-not n z =
+      ⊎-elim
+      (λ (h : k < length (before x s)). h)
+      (λ (h : length (before x s) ≤ k).
+      ⊎-elim
+      (λ (l : k < length s). absurd (ends-later l n (omega arith)))
+      (λ (l : length s ≤ k). absurd (z (List·getD-eq-default s 0 l)))
+      (lt-or-ge k (length s)))
+      (lt-or-ge k (length (before x s)))
 
 -- ---- a search from place `at` on
 

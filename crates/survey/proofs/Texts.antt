@@ -1,15 +1,16 @@
--- The lines of a text by their places, in the order of this page: the line from a place on as a
--- part of the text; the lines of a text, first and rest; the lines from a place on are the line
--- there and the lines from the next place on, and there are none at the end of the text only.
+-- The lines of a text by their places, in the order of this page: a line from a place within it
+-- on; why a line is refused; the lines of a text, first and rest; the lines from a place on are the
+-- line there and the lines from the next place on, and there are none at the end of the text only;
+-- a line that is lent by itself.
 -- Document 01, "The text program". Assumes nothing.
 use mathlib.Core.Path.{_≡_, refl, sym, ap, _∙_}
-use mathlib.Core.Logic.{_⊎_, inl, inr, ⊎-elim}
+use mathlib.Core.Logic.{_≢_, _⊎_, inl, inr, ⊎-elim}
 use mathlib.Core.Bool.{true, false}
 use mathlib.Core.List.{List, [], _∷_}
-use Prim.Native.Nat.{ℕ, suc, _+_, _-_, _≤_, _<_}
+use Prim.Native.Nat.{ℕ, suc, _+_, _≤_, _<_}
 use native.Mathlib.Omega.{arith}
 use borrow.Author.Tests.{eq-eqb, ne-eqb, lt-ltb, le-ltb, leb-true, leb-false}
-use lib.ListN.{length, getD, take, drop, length-drop, drop-of-length-le}
+use lib.ListN.{length, getD, drop, length-drop, drop-of-length-le}
 use lib.Seq.{drop-cons, drop-drop}
 use Rattle.finite.specs.Tests.{same-or-not}
 use Rattle.finite.specs.Bounded.{lt-or-ge}
@@ -18,37 +19,26 @@ use Rattle.model.specs.declared.Line.{Line}
 use Rattle.model.specs.declared.Refusal.{Refusal}
 use Rattle.model.specs.Refusals.{unless}
 use Rattle.model.specs.Spelling.{line-feed, space}
-use Rattle.model.specs.Text.{in-first-line, is-number, digits, line-read, lines}
-use Rattle.survey.specs.declared.numbers.Number.{Number}
-use Rattle.survey.specs.Numbers.{named, number-read}
+use Rattle.model.specs.Text.{in-first-line, is-number, digits, line-read, lines, one-line}
+use Rattle.survey.specs.Numbers.{named, Number, value-of, no-number, number-read}
 use Rattle.survey.specs.Places.{at-end, line-at, line-bytes, line-end, next-line}
-use Rattle.survey.proofs.Separators.{before-part, before-short, beyond-part, before-found, before-other, beyond-found, beyond-other, line-is}
+use Rattle.survey.proofs.Separators.{before-short, before-drop, beyond-part, before-found, before-other, beyond-found, beyond-other, line-is}
 
-module _ (text : List ℕ) (at end : ℕ) (ends : end ≡ line-end text at) where
-  is-length : end ≡ at + length (line-bytes text at)
+-- from a place within a line on, the line ends where it ends, and the same line is next
+module _ (text : List ℕ) (at k : ℕ) (inside : k ≤ length (line-bytes text at)) where
+  pub bytes-within : line-bytes text (at + k) ≡ drop k (line-bytes text at)
+  unfolding line-bytes
+  bytes-within =
+      rw (← drop-drop k at text) (before-drop line-feed (drop at text) k inside)
+
+  end-within : line-end text (at + k) ≡ line-end text at
   unfolding line-end
-  is-length = ends
+  end-within =
+      omega (arith, ap length bytes-within ∙ length-drop k (line-bytes text at))
 
-  pub line-inside : at < end → end ≤ length text
-  unfolding line-bytes
-  line-inside h = omega (
-    arith,
-    is-length,
-    before-short line-feed (drop at text),
-    length-drop at
-        text,
-  )
-
-  pub line-part : take (end - at) (drop at text) ≡ line-bytes text at
-  unfolding line-bytes
-  line-part =
-      let e : end - at ≡ length (before line-feed (drop at text)) = omega (arith, is-length) in
-      rw e (sym (before-part line-feed (drop at text)))
-
-  pub line-blank : end ≤ at → line-bytes text at ≡ []
-  line-blank h =
-      let e : end - at ≡ 0 = omega arith in
-      sym line-part ∙ rw e
+  pub next-within : next-line text (at + k) ≡ next-line text at
+  unfolding next-line
+  next-within = rw end-within
 
 pub blank-refused : line-read [] ≡ Line.Refused Refusal.BadLine
 unfolding line-read unless before beyond is-number digits
@@ -63,10 +53,10 @@ line-at-refused text at r e =
     go (number-read (before space s)) (number-read (beyond space s)) (sym (line-is s) ∙ e)
   where
     go : (x y : Number) → named x y ≡ Line.Refused r → r ≡ Refusal.BadLine
-    go (Number.Value x) (Number.Value y) e =
+    go (value-of x) (value-of y) e =
         absurd (let z : _≡_ {A = ℕ} 0 1 = cc in omega arith)
-    go (Number.Value x) Number.Malformed e = cc
-    go Number.Malformed y e = cc
+    go (value-of x) no-number e = cc
+    go no-number y e = cc
 
 -- ---- the lines of a text
 
@@ -162,3 +152,41 @@ module _ (text : List ℕ) (at : ℕ) where
       lines (drop at text) ≡ line-bytes text at ∷ lines (drop (next-line text at) text)
   unfolding at-end
   one-left e = lines-from text at (leb-false (length text) at e)
+
+-- a line that is lent by itself is the line at the first place, where no other follows
+module _ (s : List ℕ) where
+  -- nothing is lent
+  lent-none : length s ≤ 0 → lines s ≡ []
+  lent-none h = lines-end s 0 h
+
+  pub lent-line : next-line s 0 ≡ length s → line-at s 0 ≡ line-read (one-line (lines s))
+  unfolding line-at line-bytes before one-line
+  lent-line e =
+      ⊎-elim
+      (λ (h : 0 < length s).
+      let last : lines (drop (next-line s 0) s) ≡ [] = lines-end s (next-line s 0) (omega arith) in
+      sym (ap (λ (ls : List (List ℕ)). line-read (one-line ls))
+      (lines-from s 0 h ∙ ap (λ (ls : List (List ℕ)). line-bytes s 0 ∷ ls) last)))
+      (λ (h : length s ≤ 0).
+      let none : drop 0 s ≡ [] = drop-of-length-le s h in
+      ap (λ (l : List ℕ). line-read (before line-feed l)) none
+      ∙ sym (ap (λ (ls : List (List ℕ)). line-read (one-line ls)) (lent-none h)))
+      (lt-or-ge 0 (length s))
+
+  pub lent-lines : next-line s 0 ≢ length s →
+      Line.Refused Refusal.BadLine ≡ line-read (one-line (lines s))
+  unfolding one-line
+  lent-lines n =
+      sym blank-refused
+      ∙ ⊎-elim
+      (λ (h : 0 < length s).
+      let most = next-further s 0 h .1 in
+      let more : next-line s 0 < length s =
+      ⊎-elim (λ l. l) (λ (l : length s ≤ next-line s 0). absurd (n (omega arith)))
+      (lt-or-ge (next-line s 0) (length s)) in
+      sym (ap (λ (ls : List (List ℕ)). line-read (one-line ls))
+      (lines-from s 0 h ∙ ap (λ (ls : List (List ℕ)). line-bytes s 0 ∷ ls)
+      (lines-from s (next-line s 0) more))))
+      (λ (h : length s ≤ 0).
+      sym (ap (λ (ls : List (List ℕ)). line-read (one-line ls)) (lent-none h)))
+      (lt-or-ge 0 (length s))

@@ -1,10 +1,12 @@
 -- What a spelling stands for, in the order of this page: digits without a sign; a number at the
--- front of a list; a number. Document 01, "The text program": "A number is an optional minus and 1
--- to 7 digits, no leading zero save 0 itself, no -0." Assumes nothing.
+-- front of a list; a number that is a whole list; two numbers. Document 01, "The text program": "A
+-- number is an optional minus and 1 to 7 digits, no leading zero save 0 itself, no -0." Assumes
+-- nothing.
 use mathlib.Core.Bool.{Bool, not, cond, _&&_, _||_}
 use mathlib.Core.List.{List, [], _∷_}
 use Prim.Native.Nat.{ℕ}
 use lib.Dec.{leb, eqb}
+use lib.IntN.{ℤ}
 use lib.ListN.{length, getD}
 use Rattle.finite.specs.Lists.{all-in}
 use Rattle.model.specs.declared.Line.{Line}
@@ -13,7 +15,6 @@ use Rattle.model.specs.Spelling.{digit-zero, minus}
 use Rattle.model.specs.Text.{digit-limit, is-digit, value-after, is-number, number-value}
 use Rattle.survey.specs.declared.numbers.Front.{Front}
 use Rattle.survey.specs.declared.numbers.Magnitude.{Magnitude}
-use Rattle.survey.specs.declared.numbers.Number.{Number}
 
 -- "no leading zero save 0 itself"
 unfoldable pub no-leading-zero : List ℕ → Bool
@@ -45,11 +46,16 @@ unfoldable pub front-number : List ℕ → Front
 front-number s =
     let f = front s in cond (is-number f) (Front.Value (number-value f) (length f)) Front.Malformed
 
+-- what a list of bytes stands for: a number that it spells, or none
+pub data Number : Type 0 where
+  value-of : ℤ → Number
+  no-number : Number
+
 unfoldable pub number-read : List ℕ → Number
-number-read s = cond (is-number s) (Number.Value (number-value s)) Number.Malformed
+number-read s = cond (is-number s) (value-of (number-value s)) no-number
 
 -- the point of two numbers, or number 8
 unfoldable pub named : Number → Number → Line
-named (Number.Value x) (Number.Value y) = Line.Named (record { x = x; y = y })
-named (Number.Value x) Number.Malformed = Line.Refused Refusal.BadLine
-named Number.Malformed y = Line.Refused Refusal.BadLine
+named (value-of x) (value-of y) = Line.Named (record { x = x; y = y })
+named (value-of x) no-number = Line.Refused Refusal.BadLine
+named no-number y = Line.Refused Refusal.BadLine

@@ -7,7 +7,7 @@ ghost use Prim.Native.Nat.{_-_};
 ghost use lib.Dec.{T, eqb};
 ghost use Rattle.model.specs.Spelling.{digit-zero};
 ghost use Rattle.model.specs.Text.{is-digit};
-ghost use Rattle.survey.specs.Numbers.{front-number, magnitude-read, number-read};
+ghost use Rattle.survey.specs.Numbers.{front-number, magnitude-read};
 
 // The most digits of a number.
 pub const DIGIT_LIMIT: usize = 7;
@@ -22,29 +22,6 @@ pub enum Magnitude {
 pub enum Front {
     Value { value: i64, end: usize },
     Malformed,
-}
-
-// What a spelling stands for.
-pub enum Number {
-    Value(i64),
-    Malformed,
-}
-
-// The number that a list of bytes spells: the one at its front, where nothing follows it.
-pub fn read_number(s: &[u8]) -> Number
-    ensures { λ r. ⌜ r ≡ number-read (now (s .entry)) ⌝ }
-{
-    let front = front_number(s);
-    match front {
-        Front::Value { value, end } => {
-            if end == s.len() {
-                Number::Value(value)
-            } else {
-                Number::Malformed
-            }
-        }
-        Front::Malformed => Number::Malformed,
-    }
 }
 
 // The number at the front of a list: an optional minus and all digits that follow.

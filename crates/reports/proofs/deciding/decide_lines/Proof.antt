@@ -62,16 +62,13 @@ grown-sound c =
     subst (λ (o : Offered). Shaped (o .map)) (sym (c .grow .ensures)) (arrive-sound (accepted (in-loop c)))
 
 -- .. and the report with the line of the arrival
-grown-reports : (c : tie.After-next-from Inv-loop μ-loop) →
-    let at-grow = c .before .before in
-    let l = in-loop at-grow .before .before in
-    Reports (now (at-empty (l .before .before .before) .before .before .args .text)) (grown at-grow)
-    (set (l .loop .answers) (l .loop .stop .line) (c .before .packed .result)) (l .loop .stop .line + 1) (c .next-from .result)
+grown-reports : (c : tie.After-packed Inv-loop μ-loop) →
+    let l = in-loop (c .before) .before .before in
+    Reports (now (at-empty (l .before .before .before) .before .before .args .text)) (grown (c .before))
+    (set (l .loop .answers) (l .loop .stop .line) (c .packed .result)) (l .loop .stop .line + 1) (l .loop .stop .next)
 grown-reports c =
-    let at-grow = c .before .before in
-    let test = in-loop at-grow in
-    accept-next (test .before .before .loop .inv) (more test) (at-grow .grow .ensures)
-    (c .before .packed .ensures) (c .next-from .ensures)
+    let test = in-loop (c .before) in
+    accept-next (test .before .before .loop .inv) (more test) (c .before .grow .ensures) (c .packed .ensures)
 
 -- nothing is decided at first
 begun : (c : tie.After-empty-map Inv-loop μ-loop) →
@@ -113,29 +110,29 @@ element-write-answers c =
 
 add-refuse-lines : tie.Need-add-refuse-lines Inv-loop μ-loop
 add-refuse-lines c =
-    let test = in-loop (c .before .before) in
+    let test = in-loop (c .before) in
     omega (arith, stop-free (test .before .before .loop .inv) (more test))
 
 slice-aggregate-refuse-lines-3 : tie.Need-slice-aggregate-refuse-lines-3 Inv-loop μ-loop
 slice-aggregate-refuse-lines-3 c =
-    sym (grown-sound (c .before .before .before) .points .xs-whole)
+    sym (grown-sound (c .before .before) .points .xs-whole)
 
 slice-aggregate-refuse-lines-4 : tie.Need-slice-aggregate-refuse-lines-4 Inv-loop μ-loop
 slice-aggregate-refuse-lines-4 c =
-    sym (grown-sound (c .before .before .before .before) .points .ys-whole)
+    sym (grown-sound (c .before .before .before) .points .ys-whole)
 
 refuse-lines-requires-2 : tie.Need-refuse-lines-requires-2 Inv-loop μ-loop
 refuse-lines-requires-2 c κs =
     let next = c .before .before .before in
-    record { rest = grown (next .before .before); reports = grown-reports next }
+    record { rest = grown (next .before); reports = grown-reports next }
 
 loop-less : tie.Need-loop-less Inv-loop μ-loop
 loop-less c =
     let next = c .before .before .before .before in
-    let test = in-loop (next .before .before) in
+    let test = in-loop (next .before) in
     let on = stop-further (test .before .before .loop .inv) (more test) in
-    let stopped = c .refuse-lines2 .ensures .stops (grown (next .before .before)) (grown-reports next) in
-    omega (arith, on .0, on .1, next .next-from .ensures, stopped .further)
+    let stopped = c .refuse-lines2 .ensures .stops (grown (next .before)) (grown-reports next) in
+    omega (arith, on .0, on .1, stopped .further)
 
 loop-again : tie.Need-loop-again Inv-loop μ-loop
 loop-again c =
@@ -161,7 +158,6 @@ decide-lines-spec =
     packed-requires
     mul-answers
     element-write-answers
-    (λ c κs. search needs)
     add-refuse-lines
     slice-aggregate-refuse-lines-3
     slice-aggregate-refuse-lines-4

@@ -1,16 +1,17 @@
 -- `reports::deciding::refuse_lines` meets its contract. The loop's invariant: what is decided and
 -- what is ahead make up the report. The measure is what is left of the text. Assumes nothing.
 use borrow.Author.Needs.{needs}
-use mathlib.Core.Path.{_≡_, sym, _∙_}
+use mathlib.Core.Path.{_≡_, sym, ap, _∙_}
 use mathlib.Core.Bool.{false}
-use Prim.Native.Nat.{_-_, _≤_}
+use Prim.Native.Nat.{ℕ, _-_, _≤_}
 use native.Mathlib.Omega.{arith}
 use borrow.Author.Tests.{not-true, not-false}
 use denote.Ref.{now}
 use lib.ListN.{length}
 use Rattle.model.specs.declared.Map.{Map}
 use Rattle.model.specs.Maps.{with-points}
-use Rattle.survey.specs.Places.{at-end}
+use Rattle.survey.specs.declared.lines.Read.{Read}
+use Rattle.survey.specs.Places.{at-end, next-line}
 use Rattle.hull.proofs.Admissions.{ranged-places}
 use Rattle.reports.specs.Deciding.{Reports}
 use Rattle.reports.proofs.Verdicts.{refusal-packable}
@@ -39,14 +40,14 @@ report : (l : tie.At-loop Inv-loop μ-loop) →
 report l = let pre = l .before .before .pre in l .loop .inv .0 (pre .rest) (pre .reports)
 
 -- where an iteration begins
-abbrev in-loop : tie.After-line-from Inv-loop μ-loop → tie.Then1 Inv-loop μ-loop
+abbrev in-loop : tie.After-read-from Inv-loop μ-loop → tie.Then1 Inv-loop μ-loop
 in-loop c = c .before
 
 -- there is a line
 there : (c : tie.Then1 Inv-loop μ-loop) →
     let l = c .before .before in at-end (now (l .before .before .args .text)) (l .loop .place)
     ≡ false
-there c = sym (c .before .is-ended .ensures) ∙ not-true _ (c .if1 .taken)
+there c = sym (c .before .at-end .ensures) ∙ not-true _ (c .if1 .taken)
 
 verdict-on-requires : tie.Need-verdict-on-requires Inv-loop μ-loop
 verdict-on-requires c κs = ranged-places (report (in-loop c .before .before) .is-sound)
@@ -60,7 +61,7 @@ returns c =
       stops =
           λ rest r.
           stops-before (l .loop .inv .0 rest r) (l .loop .inv .1) (there test)
-          (c .before .found .given .1) (call .verdict-on .ensures) (call .before .line-from .ensures);
+          (c .before .found .given .1) (call .verdict-on .ensures) (call .before .read-from .ensures);
     }
 
 packed-requires : tie.Need-packed-requires Inv-loop μ-loop
@@ -68,7 +69,7 @@ packed-requires c κs =
     let told = c .before in
     let call = told .before .before in
     refusal-packable _ _ _ _ _ (told .found2 .given .1) (call .verdict-on .ensures)
-    (call .before .line-from .ensures)
+    (call .before .read-from .ensures)
 
 -- where a refused line was found
 abbrev at-test : tie.After-packed Inv-loop μ-loop → tie.Then1 Inv-loop μ-loop
@@ -87,35 +88,38 @@ element-write-answers c =
 add-number : tie.Need-add-number Inv-loop μ-loop
 add-number c =
     let test =
-    at-test (c .before) in omega
-    (arith, place-free (report (test .before .before)) (there test))
+    at-test c in omega (arith, place-free (report (test .before .before)) (there test))
+
+-- where the next line begins
+next-is : (c : tie.After-read-from Inv-loop μ-loop) →
+    let l = in-loop c .before .before in
+    c .read-from .result .next ≡ next-line (now (l .before .before .args .text)) (l .loop .place)
+next-is c = ap (λ (q : Read). q .next) (c .read-from .ensures)
 
 loop-less : tie.Need-loop-less Inv-loop μ-loop
 loop-less c =
-    let test = at-test (c .before) in
-    let l = test .before .before in
-    let on = place-further (report l) (there test) in
-    omega (arith, on .0, on .1, c .next-from .ensures)
+    let test = at-test c in
+    let on = place-further (report (test .before .before)) (there test) in
+    omega (arith, on .0, on .1, next-is (c .before .before .before .before .before))
 
 loop-again : tie.Need-loop-again Inv-loop μ-loop
 loop-again c =
-    let stored = c .before in
-    let told = stored .before .before in
+    let told = c .before .before in
     let call = told .before .before in
-    let test = at-test stored in
+    let test = at-test c in
     let l = test .before .before in
     let on = place-further (report l) (there test) in (
       λ rest r.
           refuse-next (l .loop .inv .0 rest r) (there test) _ (told .found2 .given .1)
           (call .verdict-on .ensures)
-          (call .before .line-from .ensures) (stored .packed .ensures) (c .next-from .ensures),
-      omega (arith, on .0, c .next-from .ensures, l .loop .inv .1),
+          (call .before .read-from .ensures) (c .packed .ensures),
+      omega (arith, on .0, next-is (call .before), l .loop .inv .1),
     )
 
 returns-2 : tie.Need-returns-2 Inv-loop μ-loop
 returns-2 c =
     let l = c .before .before in
-    let ended = sym (c .before .is-ended .ensures) ∙ not-false _ (c .if1 .left) in
+    let ended = sym (c .before .at-end .ensures) ∙ not-false _ (c .if1 .left) in
     record {
       stops =
           λ rest r.
@@ -138,7 +142,6 @@ refuse-lines-spec =
     packed-requires
     mul-answers
     element-write-answers
-    (λ c κs. search needs)
     add-number
     loop-less
     loop-again

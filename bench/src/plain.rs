@@ -719,7 +719,8 @@ pub fn corners(file: &[u8], out: &mut [u64], length: &mut [u64]) -> u32 {
 
 #[inline(never)]
 pub fn line(line: &[u8], out: &mut [i64]) -> u32 {
-    answer(read_line(line).map(|(x, y)| write(&[x, y], out)))
+    let bytes = line.strip_suffix(b"\n").unwrap_or(line);
+    answer(read_line(bytes).map(|(x, y)| write(&[x, y], out)))
 }
 
 #[inline(never)]

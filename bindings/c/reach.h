@@ -187,8 +187,8 @@ uint32_t reach_corners(const uint8_t *map, size_t n, uint64_t *out, size_t m, ui
    Refusals: 7, 1. */
 uint32_t reach_check(const uint8_t *map, size_t n);
 
-/* Reads a text line, its line feed left out, and writes the coordinates x, y that it names, in
-   range or not. Refusals: 8, 10. */
+/* Reads a text line, with its one line feed or without it, and writes the coordinates x, y that it
+   names, in range or not. Refusals: 8, 10. */
 uint32_t reach_line(const uint8_t *line, size_t n, int64_t *out, size_t m);
 
 /* Writes what the program prints for a survey text, and how many bytes it is to length[0]: never

@@ -74,17 +74,20 @@ pub fn orientation(a: Point, b: Point, c: Point) -> Result<i64, Refusal> {
     Ok(out[0])
 }
 
-/// The point that a text line names, its line feed left out. It may be out of range.
+/// The point that a text line names, with its one line feed or without it. It may be out of range.
 ///
 /// # Errors
 ///
-/// [`Refusal::BadLine`] where the line is not two numbers with one space between.
+/// [`Refusal::BadLine`] where the line is not two numbers with one space between, or something
+/// follows its feed.
 ///
 /// ```
 /// use reach::{Point, Refusal, read_line};
 ///
 /// assert_eq!(read_line(b"-3 40"), Ok(Point { x: -3, y: 40 }));
+/// assert_eq!(read_line(b"-3 40\n"), Ok(Point { x: -3, y: 40 }));
 /// assert_eq!(read_line(b"-3  40"), Err(Refusal::BadLine));
+/// assert_eq!(read_line(b"-3 40\n\n"), Err(Refusal::BadLine));
 /// ```
 pub fn read_line(line: &[u8]) -> Result<Point, Refusal> {
     let mut out = [0; 2];

@@ -15,7 +15,7 @@ ghost use Rattle.model.specs.Lent.{Wrote};
 ghost use Rattle.model.specs.Report.{report, report-rules, text-limit};
 ghost use Rattle.model.specs.Text.{line-call};
 
-// The point that a line names, without its line feed: number 8.
+// The point that a line names, lent with its one line feed or without it: number 8.
 pub fn read_line(line: &[u8]) -> Line
     ensures { λ r. ⌜ Answered (line-call (now (line .entry))) r ⌝ }
 {

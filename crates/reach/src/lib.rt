@@ -310,7 +310,7 @@ pub extern "C" fn reach_corners(map: &[u8], out: &mut [usize], count: &mut [usiz
     }
 }
 
-// The point that a text line names: numbers 8 and 10.
+// The point that a text line names, with its one line feed or without it: numbers 8 and 10.
 #[no_mangle]
 pub extern "C" fn reach_line(line: &[u8], out: &mut [i64]) -> u32
     ensures { λ r. ⌜ Served (reply signed (line-call (now (line .entry))))

@@ -171,7 +171,7 @@ impl Session {
             texts::text(&mut c.draw)
         };
         c.report(&text)?;
-        let line = texts::line(&mut c.draw);
+        let line = texts::lent_line(&mut c.draw);
         c.line(&line)?;
         if c.draw.one_in(50) {
             c.wrapper_report(&text)?;

@@ -72,6 +72,13 @@ pub fn line(draw: &mut Draw) -> Vec<u8> {
     }
 }
 
+/// A line as it is lent by itself: without a line feed after it, with one, or with two.
+pub fn lent_line(draw: &mut Draw) -> Vec<u8> {
+    let mut bytes = line(draw);
+    bytes.extend(vec![b'\n'; draw.below(3)]);
+    bytes
+}
+
 /// A text of a survey, some of whose lines are not in form.
 pub fn text(draw: &mut Draw) -> Vec<u8> {
     let offers = draw.size(120);

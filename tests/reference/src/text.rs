@@ -15,14 +15,19 @@ fn read_number(bytes: &[u8]) -> Option<i64> {
     (has_few_digits && number.to_string() == spelling).then_some(number)
 }
 
-/// The point that a line names, its line feed left out, or number 8.
-pub fn read_line(line: &[u8]) -> Answer<Point> {
+/// The point that the bytes of a line name, its line feed left out, or number 8.
+fn read_bytes(line: &[u8]) -> Answer<Point> {
     let mut parts = line.split(|&b| b == b' ');
     let numbers = [parts.next(), parts.next()].map(|part| part.and_then(read_number));
     match (numbers, parts.next()) {
         ([Some(x), Some(y)], None) => Ok(Point { x, y }),
         _ => Err(refusal::BAD_LINE),
     }
+}
+
+/// The point that a line names which is lent with its one line feed or without it, or number 8.
+pub fn read_line(line: &[u8]) -> Answer<Point> {
+    read_bytes(line.strip_suffix(b"\n").unwrap_or(line))
 }
 
 /// What the program prints for a text.
@@ -38,7 +43,7 @@ pub fn report(text: &[u8]) -> Vec<u8> {
     let mut map = Map::empty();
     let mut printed = String::from(TITLE);
     for (number, line) in lines.into_iter().enumerate() {
-        let words = match read_line(line).and_then(|p| map.offer(p)) {
+        let words = match read_bytes(line).and_then(|p| map.offer(p)) {
             Ok(Arrival::First) => "first".into(),
             Ok(Arrival::Second) => "second".into(),
             Ok(Arrival::Inside) => "inside".into(),

@@ -60,7 +60,8 @@ front-part (b ∷ s) =
 
 pub front-short : (s : List ℕ) → length (front s) ≤ length s
 front-short s =
-    omega (arith, ap length (front-part s) ∙ length-take (length (front s)) s, min-le-right (length (front s)) (length s))
+    let n = length (front s) in
+    omega (arith, ap length (front-part s) ∙ length-take n s, min-le-right n (length s))
 
 -- a line feed is no part of it, so the front of a line is that of the text from there on
 leading-before : (s : List ℕ) → leading-digits (before line-feed s) ≡ leading-digits s
@@ -102,13 +103,18 @@ front-before (b ∷ s) =
         let none = before-found line-feed b s e in
         ap front none ∙ front-none ∙ sym (ap leading-digits none) ∙ leading-before (b ∷ s))
         (λ (o : line-feed ≡ b → ⊥).
-        rw (← leading-before (b ∷ s), before-other line-feed b s o, front-digit b (before line-feed s) n))
+        rw (
+          ← leading-before (b ∷ s),
+          before-other line-feed b s o,
+          front-digit b (before line-feed s) n,
+        ))
         (same-or-not line-feed b)
 
 pub front-number-before : (s : List ℕ) → front-number (before line-feed s) ≡ front-number s
 unfolding front-number
 front-number-before s =
-    ap (λ (f : List ℕ). cond (is-number f) (Front.Value (number-value f) (length f)) Front.Malformed)
+    ap
+    (λ (f : List ℕ). cond (is-number f) (Front.Value (number-value f) (length f)) Front.Malformed)
     (front-before s)
 
 -- past the end of a list there is none

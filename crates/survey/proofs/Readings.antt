@@ -1,9 +1,9 @@
--- A line read within its text, number by number, in the order of this page: the front of what stands
--- from a place on is the front of the line there; the first number, with a space after it and
--- without one; the second number, with the end of the text or the line feed after it, or something
--- else. Document 01, "The text program": "two numbers with one space between and a line feed; the
--- last feed may be missing". Assumes nothing.
-use mathlib.Core.Path.{_≡_, sym, ap, ap₂, _∙_}
+-- A line read within its text, number by number, in the order of this page: the front of what
+-- stands from a place on is the front of the line there; the first number, with a space after it
+-- and without one; the second number, with the end of the text or the line feed after it, or
+-- something else. Document 01, "The text program": "two numbers with one space between and a line
+-- feed; the last feed may be missing". Assumes nothing.
+use mathlib.Core.Path.{_≡_, sym, ap, _∙_}
 use mathlib.Core.Logic.{_≢_}
 use mathlib.Core.List.{List}
 use Prim.Native.Nat.{ℕ, _+_, _≤_, _<_}

@@ -15,9 +15,9 @@ returns : tie.Need-returns
 returns c =
     let a = c .before .before .before .before .args in
     let rest = drop (a .at) (a .text .now) in
+    let size = length-drop (a .at) (a .text .now) in
     c .front-number .ensures
-    ∙ ap front-number
-    (take-all (length (a .text .now) - a .at) rest (omega (arith, length-drop (a .at) (a .text .now))))
+    ∙ ap front-number (take-all (length (a .text .now) - a .at) rest (omega arith))
 
 returns-2 : tie.Need-returns-2
 returns-2 c = let a = c .before .before .args in front-past (a .text .now) (a .at) (c .if1 .left)

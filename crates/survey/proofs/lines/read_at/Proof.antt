@@ -24,7 +24,11 @@ module _ (c : tie.After-first) where
 add-stop : tie.Need-add-stop
 add-stop c =
     let a = at-start (c .before) .args in
-    omega (arith, not-past (a .text .now) (a .at) (some (c .before)), length-drop (a .at) (a .text .now))
+    omega (
+      arith,
+      not-past (a .text .now) (a .at) (some (c .before)),
+      length-drop (a .at) (a .text .now),
+    )
 
 add-read-second : tie.Need-add-read-second
 add-read-second c =
@@ -32,16 +36,18 @@ add-read-second c =
     let a = at-start first .args in
     omega (
       arith,
-      space-there (a .text .now) (a .at) (some first) (sym (c .before .byte-at .ensures) ∙ c .if1 .taken),
+      space-there (a .text .now) (a .at) (some first)
+          (sym (c .before .byte-at .ensures) ∙ c .if1 .taken),
     )
 
 returns : tie.Need-returns
 returns c =
     let test = c .before in
     let told = test .before .before in
-    let kept = toZ-ofZ w64 (told .before .first .given .0 .0) (record { sfits = told .known-told .given .0 .1 }) in
-    c .read-second .ensures
-    ∙ rw kept (first-spaced _ _ (some (told .before)) (sym (test .before .byte-at .ensures) ∙ test .if1 .taken))
+    let z = told .before .first .given .0 .0 in
+    let kept = toZ-ofZ w64 z (record { sfits = told .known-told .given .0 .1 }) in
+    let spaced = sym (test .before .byte-at .ensures) ∙ test .if1 .taken in
+    c .read-second .ensures ∙ rw kept (first-spaced _ _ (some (told .before)) spaced)
 
 returns-2 : tie.Need-returns-2
 returns-2 c =

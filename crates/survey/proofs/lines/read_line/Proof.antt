@@ -1,7 +1,7 @@
 -- `survey::lines::read_line` meets its contract: the line at the first place is all that is lent,
 -- or what is lent is no line. Assumes nothing.
 use borrow.Author.Needs.{needs}
-use mathlib.Core.Path.{_≡_, sym, ap, _∙_}
+use mathlib.Core.Path.{sym, ap, _∙_}
 use Rattle.survey.specs.declared.lines.Read.{Read}
 use Rattle.survey.proofs.Texts.{lent-line, lent-lines}
 use Rattle.survey.proofs.lines.read_line.Statement.{statement}

@@ -23,13 +23,19 @@ module _ (c : tie.After-second) where
   some = sym (c .before .before .front-at .ensures) ∙ c .second .given .1
 
 -- the two numbers stand in the point as they are
-kept : (c : tie.After-known-told) → let z = c .before .second .given .0 .0 in toZ w64 (ofZ w64 z) ≡ z
-kept c = toZ-ofZ w64 (c .before .second .given .0 .0) (record { sfits = c .known-told .given .0 .1 })
+kept : (c : tie.After-known-told) →
+    let z = c .before .second .given .0 .0 in toZ w64 (ofZ w64 z) ≡ z
+kept c =
+    toZ-ofZ w64 (c .before .second .given .0 .0) (record { sfits = c .known-told .given .0 .1 })
 
 add-stop : tie.Need-add-stop
 add-stop c =
     let a = at-start (c .before) .args in
-    omega (arith, not-past (a .text .now) (a .at) (some (c .before)), length-drop (a .at) (a .text .now))
+    omega (
+      arith,
+      not-past (a .text .now) (a .at) (some (c .before)),
+      length-drop (a .at) (a .text .now),
+    )
 
 returns : tie.Need-returns
 returns c =

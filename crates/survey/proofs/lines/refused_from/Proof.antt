@@ -14,4 +14,5 @@ unfolding next-line line-end line-bytes
 returns-2 c = rw (← c .before .place-of .ensures, le-ltb _ _ (c .if1 .left))
 
 pub refused-from-spec : {M : Type 1} → statement M
-refused-from-spec = tie.close (tie.spec (λ c κs. search needs) (λ c. search needs) returns returns-2)
+refused-from-spec =
+    tie.close (tie.spec (λ c κs. search needs) (λ c. search needs) returns returns-2)

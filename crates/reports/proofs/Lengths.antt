@@ -16,7 +16,9 @@ use lib.ListN.{length, length-append}
 use Rattle.finite.specs.Tests.{same-or-not}
 use Rattle.finite.specs.Bounded.{lt-or-ge}
 use Rattle.finite.specs.Counting.{count-small}
-use Rattle.finite.specs.Lists.{elem, elem-head, elem-tail, elem-one, length-distinct}
+use Rattle.finite.specs.Lists.{elem}
+use Rattle.finite.specs.ListLaws.{elem-head, elem-tail, elem-one}
+use Rattle.finite.specs.Distinct.{length-distinct}
 use Rattle.model.specs.declared.Refusal.{Refusal}
 use Rattle.model.specs.declared.Map.{Map}
 use Rattle.model.specs.declared.Arrival.{Arrival}

@@ -85,6 +85,18 @@ spaced-most (v ∷ values) below =
 
 -- ---- the line of an answer
 
+refused-answer-most : (r : Refusal) → length (printed (arrival-answer (Arrival.Refused r))) ≤ 20
+unfolding bytes
+refused-answer-most r =
+    omega (
+      arith,
+      ap length (refused-arrival r),
+      ap length (refused-line r),
+      line-length (bytes "refused") (number r ∷ []),
+      spaced-one (number r) [] (omega (arith, number-most r)),
+      spaced-length [],
+    )
+
 answer-most : {a : Arrival} → Packable a → length (printed (arrival-answer a)) ≤ 20
 unfolding bytes
 answer-most packing.first =
@@ -103,15 +115,7 @@ answer-most (packing.outside {l} {r} {v} small) =
       spaced-one v [] (omega (arith, small .visible-most)),
       spaced-length [],
     )
-answer-most (packing.refused r) =
-    omega (
-      arith,
-      ap length (refused-arrival r),
-      ap length (refused-line r),
-      line-length (bytes "refused") (number r ∷ []),
-      spaced-one (number r) [] (omega (arith, number-most r)),
-      spaced-length [],
-    )
+answer-most (packing.refused {r} o) = refused-answer-most r
 
 blank-most : length (printed (arrival-answer (Arrival.Refused Refusal.BadLine))) ≤ 10
 unfolding bytes number spaced
@@ -127,15 +131,15 @@ blank-most =
 
 -- what a line comes to on a sound map
 offered-small : {m : Map} → Shaped m → (line : Line) →
-    Packable (offer-line m line .arrival) × Shaped (offer-line m line .map)
+    (length (printed (arrival-answer (offer-line m line .arrival))) ≤ 20) × Shaped (offer-line m line .map)
 offered-small {m} s line = go (verdict-by (m .xs) (m .ys) (m .count) line) refl
   where
     go : (v : Verdict) → v ≡ verdict-by (m .xs) (m .ys) (m .count) line →
-        Packable (offer-line m line .arrival) × Shaped (offer-line m line .map)
+        (length (printed (arrival-answer (offer-line m line .arrival))) ≤ 20) × Shaped (offer-line m line .map)
     go (Verdict.Accepted q) e =
         let a = line-accepted s line q e in
-        rw (a .0) (arrive-packable (a .1), arrive-sound (a .1))
-    go (Verdict.Refused r) e = rw (line-refused s line r e) (packing.refused r, s)
+        rw (a .0) (answer-most (arrive-packable (a .1)), arrive-sound (a .1))
+    go (Verdict.Refused r) e = rw (line-refused s line r e) (refused-answer-most r, s)
 
 -- its line takes 16 bytes at most for each byte of it and its feed
 line-most : {m : Map} → Shaped m → (n : ℕ) → n < text-limit → (l : List ℕ) →
@@ -155,7 +159,7 @@ line-most {m} s n h (b ∷ l) =
       arith,
       arrival-line-length n a,
       spelt-most 4 n (omega arith) (omega arith),
-      answer-most (offered-small s (line-read (b ∷ l)) .0),
+      offered-small s (line-read (b ∷ l)) .0,
     )
 
 -- ---- the corners and the counts

@@ -137,7 +137,7 @@ loop-less c =
 loop-again : tie.Need-loop-again Inv-loop μ-loop
 loop-again c =
     let next = c .before .before .before .before in
-    stopped-onwards (c .refuse-lines2 .ensures .stops (grown (next .before .before)) (grown-reports next))
+    stopped-onwards (c .refuse-lines2 .ensures .stops (grown (next .before)) (grown-reports next))
 
 returns : tie.Need-returns Inv-loop μ-loop
 returns c = surveys (c .before .before .loop .inv) (not-false _ (c .if1 .left))

@@ -41,9 +41,10 @@ module _ (m : Map) (p : Point) where
   unfolding later-point
   outside n = rw (ne-eqb (visible-edges m p) 0 n)
 
--- ---- the arrays after an arrival: p was put into the coordinates, and the others are those of the definition
+-- ---- the arrays after an arrival: p was put into the coordinates, and the others are the definition's
 
-pub grown : (m : Map) (p : Point) {xs ys : List ℤ} {helpers helpers′ : List Bool} {edge edge′ : List ℕ} (reference : ℕ) →
+pub grown : (m : Map) (p : Point) {xs ys : List ℤ} {helpers helpers′ : List Bool} {edge edge′ : List ℕ}
+    (reference : ℕ) →
     (xs ≡ set (m .xs) (m .count) (p .x)) × (ys ≡ set (m .ys) (m .count) (p .y)) →
     (helpers ≡ helpers′) × (edge ≡ edge′) →
     map-of xs ys helpers edge (m .count + 1) reference ≡ with-point m p helpers′ edge′ reference

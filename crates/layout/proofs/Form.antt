@@ -68,7 +68,8 @@ module _ (v : ℕ) (s : List ℕ) where
   pub helpers-decide : count-in-file s ≤ point-limit →
       length s ≡ saved-length (count-in-file s) →
       number-at s 0 4 ≡ following (count-in-file s) → number-at s version-place 1 ≡ v →
-      all (count-in-file s) (λ k. leb (helper-in-file s (count-in-file s) k) 1) ≡ file-in-form-of v s
+      all (count-in-file s) (λ k. leb (helper-in-file s (count-in-file s) k) 1)
+      ≡ file-in-form-of v s
   helpers-decide few whole l r =
       same-test (all (count-in-file s) (λ k. leb (helper-in-file s (count-in-file s) k) 1))
       (file-in-form-of v s)

@@ -1,7 +1,8 @@
--- Questions of ours, beside document 01's (specs/Questions): one list with the answers that document 01's
--- sentences give, and one check over it. They pin what no starred question looks at, in the order of this
--- page: every case of every answer; every limit; what is unsound; the session's two sums, its orbits and
--- walkers; where a point lies; lent lists; files; lines of text. Assumes nothing.
+-- Questions of ours, beside document 01's (specs/Questions): one list with the answers that
+-- document 01's sentences give, and one check over it. They pin what no starred question looks at,
+-- in the order of this page: every case of every answer; every limit; what is unsound; the
+-- session's two sums, its orbits and walkers; where a point lies; lent lists; files; lines of text.
+-- Assumes nothing.
 use mathlib.Core.Bool.{Bool, true}
 use mathlib.Core.List.{List, [], _∷_, _++_, map, flatMap, flatten}
 use Prim.Native.Nat.{ℕ, _+_, _*_}
@@ -10,8 +11,10 @@ use lib.Dec.{T}
 use lib.IntN.{ℤ, pos, negℤ}
 use lib.ListN.{length, take, set, replicate}
 use Rattle.finite.specs.Bounded.{all, any, sum, count, one-if, table-onto, table}
-use Rattle.finite.specs.Lists.{elem, all-in, all-places, any-in, count-in, first-in, before, beyond, total, ring, insert, union}
+use Rattle.finite.specs.Lists.{elem, all-in, all-places, any-in, count-in, first-in, before, beyond}
+use Rattle.finite.specs.Lists.{total, ring, insert, union}
 use Rattle.orbits.specs.declared.Ending.{Ending}
+use Rattle.orbits.specs.declared.Walk.{Walk}
 use Rattle.orbits.specs.Reach.{grow, reached, reaches}
 use Rattle.orbits.specs.Classes.{is-least, classes, is-fixed, is-closed, closed-walks}
 use Rattle.orbits.specs.Walks.{walker-at}
@@ -24,6 +27,8 @@ use Rattle.model.specs.declared.Arrival.{Arrival}
 use Rattle.model.specs.declared.Outcome.{Outcome}
 use Rattle.model.specs.declared.Kind.{Kind}
 use Rattle.model.specs.declared.Link.{Link}
+use Rattle.model.specs.declared.Orbit.{Orbit}
+use Rattle.model.specs.declared.Counts.{Counts}
 use Rattle.model.specs.declared.Counted.{Counted}
 use Rattle.model.specs.declared.Walked.{Walked}
 use Rattle.model.specs.declared.Moved.{Moved}
@@ -32,20 +37,39 @@ use Rattle.model.specs.declared.Written.{Written}
 use Rattle.model.specs.declared.Line.{Line}
 use Rattle.model.specs.Spelling.{bytes, decimal, spelt}
 use Rattle.model.specs.Refusals.{number, Rule, unless}
-use Rattle.model.specs.Answers.{Answer, answer-of, oriented-answer, arrival-answer, outcome-answer, orbit-answer, counted-answer, walked-answer, moved-answer, placed-answer, written-answer, line-answer}
-use Rattle.model.specs.Plane.{coordinate-limit, coordinate-in-range, in-range, at, origin, same-point, orientation, orientation-limit, left-of, visible-from, in-line, beside, sees-edge, strictly-between, lower}
-use Rattle.model.specs.Maps.{point-limit, no-dart, other-dart, point, has-helper, is-present, edge-link, point-link, face-link, empty-map, map-of}
-use Rattle.model.specs.Outline.{next-corner, previous-corner, corners-from, outline, sees, visible-edges, lowest-corner, corners}
-use Rattle.model.specs.Sound.{arrays-whole, count-fits, points-in-range, points-differ, places-vacant, helpers-owned, absent-fixed, links-undo, edges-cross, lone-fixed, one-outline, reference-on-outline, others-left, no-outline, sound}
+use Rattle.model.specs.Answers.{Answer, answer-of, oriented-answer, arrival-answer, outcome-answer}
+use Rattle.model.specs.Answers.{orbit-answer, counted-answer, walked-answer, moved-answer}
+use Rattle.model.specs.Answers.{placed-answer, written-answer, line-answer}
+use Rattle.model.specs.Plane.{coordinate-limit, coordinate-in-range, in-range, at, origin}
+use Rattle.model.specs.Plane.{same-point, orientation, orientation-limit, left-of}
+use Rattle.model.specs.Plane.{visible-from, in-line, beside, sees-edge, strictly-between}
+use Rattle.model.specs.Plane.{lower}
+use Rattle.model.specs.Maps.{point-limit, no-dart, other-dart, point, has-helper, is-present}
+use Rattle.model.specs.Maps.{edge-link, point-link, face-link, empty-map, map-of}
+use Rattle.model.specs.Outline.{next-corner, previous-corner, corners-from, outline, sees}
+use Rattle.model.specs.Outline.{visible-edges, lowest-corner, corners}
+use Rattle.model.specs.Sound.{arrays-whole, count-fits, points-in-range, points-differ}
+use Rattle.model.specs.Sound.{places-vacant, helpers-owned, absent-fixed, links-undo}
+use Rattle.model.specs.Sound.{edges-cross, lone-fixed, one-outline, reference-on-outline}
+use Rattle.model.specs.Sound.{others-left, no-outline, sound}
 use Rattle.model.specs.Reading.{links-of, number-of, darts, counts, orbit-set, walker-call}
-use Rattle.model.specs.Arrival.{cut, join, left-corner, right-corner, with-point, alone, pair, spliced, later-point, arrive, is-repeated, is-in-line, admission-rules}
+use Rattle.model.specs.Arrival.{cut, join, left-corner, right-corner, with-point, alone, pair}
+use Rattle.model.specs.Arrival.{spliced, later-point, arrive, is-repeated, is-in-line}
+use Rattle.model.specs.Arrival.{admission-rules}
 use Rattle.model.specs.Offers.{offer}
-use Rattle.model.specs.History.{Run, is-accepted, extended, run-from, run, reported, reported-edges, is-outside, outside-arrivals, edges-seen}
+use Rattle.model.specs.History.{Run, is-accepted, extended, run-from, run, reported}
+use Rattle.model.specs.History.{reported-edges, is-outside, outside-arrivals, edges-seen}
 use Rattle.model.specs.Placing.{strictly-visible, place-among, place-call}
 use Rattle.model.specs.Lent.{writing, lent-after}
-use Rattle.model.specs.Saved.{version, big-endian, number-at, complement, signed, block, version-place, count-place, reference-place, header-length, helpers-place, links-place, saved-length, following, coordinate, header, saved-in, saved, file-in-form-of, file-in-form, map-in}
-use Rattle.model.specs.Text.{digit-limit, is-digit, has-minus, digits, value-after, magnitude, is-number, number-value, line-read, in-first-line, lines, one-line, line-call}
-use Rattle.model.specs.Report.{text-limit, spaced, printed, offer-line, closing, arrivals, report}
+use Rattle.model.specs.Saved.{version, big-endian, number-at, complement, signed, block}
+use Rattle.model.specs.Saved.{version-place, count-place, reference-place, header-length}
+use Rattle.model.specs.Saved.{helpers-place, links-place, saved-length, following, coordinate}
+use Rattle.model.specs.Saved.{header, saved-in, saved, file-in-form-of, file-in-form, map-in}
+use Rattle.model.specs.Text.{digit-limit, is-digit, has-minus, digits, value-after, magnitude}
+use Rattle.model.specs.Text.{is-number, number-value, line-read, in-first-line, lines}
+use Rattle.model.specs.Text.{one-line, line-call}
+use Rattle.model.specs.Report.{text-limit, spaced, printed, offer-line, closing, arrivals}
+use Rattle.model.specs.Report.{report}
 use Rattle.model.specs.Questions.{Question, _is_, same-list, session, after, far}
 
 -- ---- answers: the number, the word and the values
@@ -63,12 +87,23 @@ short = 10 ∷ bytes "refused 10\n"
 
 refusals : List Refusal
 refusals =
-    Refusal.NotSound ∷ Refusal.Full ∷ Refusal.OutOfRange ∷ Refusal.Repeated ∷ Refusal.InLine ∷ Refusal.NoDart
+    Refusal.NotSound ∷ Refusal.Full ∷ Refusal.OutOfRange ∷ Refusal.Repeated ∷ Refusal.InLine
+    ∷ Refusal.NoDart
     ∷ Refusal.BadFile
     ∷ Refusal.BadLine
     ∷ Refusal.LongText
     ∷ Refusal.ShortList
     ∷ []
+
+-- answers with values that all differ
+orbit-with : Outcome → Orbit
+orbit-with o = record { outcome = o; darts = record { words = 7 ∷ 8 ∷ []; size = 9 } }
+
+five-counts : Counts
+five-counts = record { darts = 1; vertices = 2; edges = 3; faces = 4; parts = 5 }
+
+walk-to : Ending → Walk
+walk-to ending = record { last = 1; ending = ending; moves = 2 }
 
 answers : List Question
 answers =
@@ -82,18 +117,12 @@ answers =
     ∷ (told (arrival-answer (Arrival.Refused Refusal.ShortList)) is short)
     ∷ (told (outcome-answer Outcome.Served) is says "served\n")
     ∷ (told (outcome-answer (Outcome.Refused Refusal.ShortList)) is short)
-    ∷ (told (orbit-answer (record { outcome = Outcome.Served; darts = record { words = 7 ∷ 8 ∷ []; size = 9 } }))
-    is says "orbit 7 8 9\n")
-    ∷ (told
-    (orbit-answer (record { outcome = Outcome.Refused Refusal.ShortList; darts = record { words = []; size = 9 } }))
-    is short)
-    ∷ (told
-    (counted-answer (Counted.Numbers (record { darts = 1; vertices = 2; edges = 3; faces = 4; parts = 5 })))
-    is says "counts 1 2 3 4 5\n")
+    ∷ (told (orbit-answer (orbit-with Outcome.Served)) is says "orbit 7 8 9\n")
+    ∷ (told (orbit-answer (orbit-with (Outcome.Refused Refusal.ShortList))) is short)
+    ∷ (told (counted-answer (Counted.Numbers five-counts)) is says "counts 1 2 3 4 5\n")
     ∷ (told (counted-answer (Counted.Refused Refusal.ShortList)) is short)
-    ∷ (told (walked-answer (Walked.Ended (record { last = 1; ending = Ending.Home; moves = 2 }))) is says "home 1 2\n")
-    ∷ (told (walked-answer (Walked.Ended (record { last = 1; ending = Ending.Loose; moves = 2 })))
-    is says "loose 1 2\n")
+    ∷ (told (walked-answer (Walked.Ended (walk-to Ending.Home))) is says "home 1 2\n")
+    ∷ (told (walked-answer (Walked.Ended (walk-to Ending.Loose))) is says "loose 1 2\n")
     ∷ (told (walked-answer (Walked.Refused Refusal.ShortList)) is short)
     ∷ (told (moved-answer (Moved.At (walker-at 5))) is says "dart 5\n")
     ∷ (told (moved-answer (Moved.Refused Refusal.ShortList)) is short)
@@ -135,14 +164,17 @@ limits =
     is 1 ∷ 1 ∷ 0 ∷ 0 ∷ 0 ∷ 0 ∷ [])
     -- "from -4,000,000,000,000 to 4,000,000,000,000": both are attained
     ∷ (spelt (pos orientation-limit) is bytes "4000000000000")
-    ∷ (spelt (orientation (at (negℤ far) (negℤ far)) (at far (negℤ far)) (at far far)) is bytes "4000000000000")
-    ∷ (spelt (orientation (at far (negℤ far)) (at (negℤ far) (negℤ far)) (at far far)) is bytes "-4000000000000")
+    ∷ (spelt (orientation (at (negℤ far) (negℤ far)) (at far (negℤ far)) (at far far))
+    is bytes "4000000000000")
+    ∷ (spelt (orientation (at far (negℤ far)) (at (negℤ far) (negℤ far)) (at far far))
+    is bytes "-4000000000000")
     -- "512 points already", and one fewer: the place that is looked at next holds an equal point
-    ∷ (number-of-rules (admission-rules (crowded 512) origin) ∷ number-of-rules (admission-rules (crowded 511) origin) ∷ []
+    ∷ (map (λ n. number-of-rules (admission-rules (crowded n) origin)) (512 ∷ 511 ∷ [])
     is 2 ∷ 4 ∷ [])
     -- "The whole is 9 + 13 × n bytes", and where its parts stand
     ∷ (version-place ∷ count-place ∷ reference-place ∷ header-length ∷ [] is 4 ∷ 5 ∷ 7 ∷ 9 ∷ [])
-    ∷ (helpers-place 6 ∷ links-place 6 ∷ saved-length 6 ∷ following 6 ∷ [] is 57 ∷ 63 ∷ 87 ∷ 83 ∷ [])
+    ∷ (helpers-place 6 ∷ links-place 6 ∷ saved-length 6 ∷ following 6 ∷ []
+    is 57 ∷ 63 ∷ 87 ∷ 83 ∷ [])
     ∷ (saved-length 0 ∷ saved-length 512 ∷ [] is 9 ∷ 6_665 ∷ [])
     ∷ []
 
@@ -152,7 +184,9 @@ limits =
 five : Map
 five =
     run
-    (at (pos 0) (pos 0) ∷ at (pos 4) (pos 0) ∷ at (pos 1) (pos 3) ∷ at (pos 2) (pos 1) ∷ at (pos 1) (pos 1) ∷ [])
+    (at (pos 0) (pos 0) ∷ at (pos 4) (pos 0) ∷ at (pos 1) (pos 3) ∷ at (pos 2) (pos 1)
+    ∷ at (pos 1) (pos 1)
+    ∷ [])
     .map
 
 -- a map with some of its fields changed
@@ -168,7 +202,8 @@ with-reference d m = map-of (m .xs) (m .ys) (m .helpers) (m .edge) (m .count) d
 -- the points 3 and 4 with helpers, and with these edge links of darts 6 to 9
 chained : ℕ → ℕ → ℕ → ℕ → Map → Map
 chained a b c d m =
-    with-links (set (set (m .helpers) 3 true) 4 true) (set (set (set (set (m .edge) 6 a) 7 b) 8 c) 9 d) m
+    with-links (set (set (m .helpers) 3 true) 4 true)
+    (set (set (set (set (m .edge) 6 a) 7 b) 8 c) 9 d) m
 
 -- one map for each sentence of "A sound map": all else of it holds there
 unsound-maps : Map → Map → Map → List Map
@@ -213,7 +248,8 @@ orbit-sizes m d =
 
 moves : Map → ℕ → List (List ℕ)
 moves m d =
-    map (λ link. told (moved-answer (walker-call m link d .value))) (Link.None ∷ Link.Edge ∷ Link.Point ∷ [])
+    map (λ link. told (moved-answer (walker-call m link d .value)))
+    (Link.None ∷ Link.Edge ∷ Link.Point ∷ [])
 
 -- where points lie
 placings : Map → List Point → List (List ℕ)
@@ -239,10 +275,12 @@ of-session r =
     -- "A fixed dart is an edge orbit of one"
     ∷ (orbit-sizes (r .map) 6 is 1 ∷ 2 ∷ 2 ∷ 2 ∷ [])
     ∷ (orbit-sizes (r .map) 2 is 2 ∷ 2 ∷ 4 ∷ 8 ∷ [])
-    ∷ (flatten (moves (r .map) 2) is flatten (says "dart 2\n" ∷ says "dart 11\n" ∷ says "dart 3\n" ∷ []))
+    ∷ (flatten (moves (r .map) 2)
+    is flatten (says "dart 2\n" ∷ says "dart 11\n" ∷ says "dart 3\n" ∷ []))
     -- a corner, an edge, inside, outside
     ∷ (flatten
-    (placings (r .map) (at (pos 4) (pos 0) ∷ at (pos 2) (pos 0) ∷ at (pos 5) (pos 4) ∷ at (pos 10) (pos 0) ∷ []))
+    (placings (r .map)
+    (at (pos 4) (pos 0) ∷ at (pos 2) (pos 0) ∷ at (pos 5) (pos 4) ∷ at (pos 10) (pos 0) ∷ []))
     is flatten (says "corner 1\n" ∷ says "edge 0 1\n" ∷ says "inside\n" ∷ says "outside 1\n" ∷ []))
     ∷ []
 
@@ -262,13 +300,17 @@ of-few none one two =
 -- the file of one point with a negative coordinate
 one-point : List ℕ
 one-point =
-    0 ∷ 0 ∷ 0 ∷ 18 ∷ 1 ∷ 0 ∷ 1 ∷ 4 ∷ 0 ∷ 255 ∷ 255 ∷ 255 ∷ 254 ∷ 0 ∷ 15 ∷ 66 ∷ 64 ∷ 0 ∷ 0 ∷ 0 ∷ 0 ∷ 1 ∷ []
+    0 ∷ 0 ∷ 0 ∷ 18 ∷ 1 ∷ 0 ∷ 1 ∷ 4 ∷ 0 ∷ 255 ∷ 255 ∷ 255 ∷ 254 ∷ 0 ∷ 15 ∷ 66 ∷ 64 ∷ 0 ∷ 0 ∷ 0 ∷ 0
+    ∷ 1
+    ∷ []
 
 -- two: the file of two points
 files : List ℕ → List Question
 files two =
     -- "lent list shorter than the result; a longer one keeps its tail"
-    (map (λ lent. number-of-rules (writing {A = ℕ} [] (1 ∷ 2 ∷ []) lent .rules)) ((7 ∷ []) ∷ (7 ∷ 8 ∷ []) ∷ []) is 10 ∷ 0 ∷ [])
+    (map (λ lent. number-of-rules (writing {A = ℕ} [] (1 ∷ 2 ∷ []) lent .rules))
+    ((7 ∷ []) ∷ (7 ∷ 8 ∷ []) ∷ [])
+    is 10 ∷ 0 ∷ [])
     ∷ (flatMap (λ lent. lent-after (writing {A = ℕ} [] (1 ∷ 2 ∷ []) lent .rules) (1 ∷ 2 ∷ []) lent)
     ((7 ∷ []) ∷ (7 ∷ 8 ∷ 9 ∷ []) ∷ [])
     is 7 ∷ 1 ∷ 2 ∷ 9 ∷ [])
@@ -277,7 +319,8 @@ files two =
     ∷ (saved (map-in one-point) is one-point)
     ∷ (flatMap (λ n. spelt (signed n)) (2_147_483_647 ∷ 2_147_483_648 ∷ 4_294_967_295 ∷ [])
     is bytes "2147483647-2147483648-1")
-    -- in form; under 9 bytes; one byte more; the length, the version and a helper byte wrong; n above 512
+    -- in form; under 9 bytes; one byte more; the length, the version and a helper byte wrong; n
+    -- above 512
     ∷ (map (λ s. one-if (file-in-form s))
     (two ∷ take 8 two ∷ (two ++ 0 ∷ []) ∷ set two 3 32 ∷ set two 4 2
     ∷ set two 25 2
@@ -299,9 +342,12 @@ lent-line text = told (line-answer (answer-of (line-call (bytes text))))
 texts : List Question
 texts =
     (told (line-answer (line-read (bytes "-1234567 0"))) is says "point -1234567 0\n")
-    -- no digit, eight digits, a leading zero, -0, a sign that is none, and spaces and numbers too many or too few
+    -- no digit, eight digits, a leading zero, -0, a sign that is none, and spaces and numbers too
+    -- many or too few
     ∷ (map number-of-line
-    ("" ∷ " " ∷ "1" ∷ "1 " ∷ " 1" ∷ "- 1" ∷ "1 -" ∷ "12345678 0" ∷ "0 12345678" ∷ "01 0" ∷ "0 00" ∷ "-0 0" ∷ "0 -0"
+    ("" ∷ " " ∷ "1" ∷ "1 " ∷ " 1" ∷ "- 1" ∷ "1 -" ∷ "12345678 0" ∷ "0 12345678" ∷ "01 0" ∷ "0 00"
+    ∷ "-0 0"
+    ∷ "0 -0"
     ∷ "+1 0"
     ∷ "--1 0"
     ∷ "1  2"
@@ -319,7 +365,8 @@ texts =
     ∷ (report (bytes "0 0") is report (bytes "0 0\n"))
     ∷ (report [] is bytes "OUTLINE 1\ncorners\ncounts 0 0 0 0 0\n")
     -- "A blank line gets 8; later lines are still read."
-    ∷ (report (bytes "\n0 0\n") is bytes "OUTLINE 1\n0 refused 8\n1 first\ncorners 0\ncounts 1 1 1 1 1\n")
+    ∷ (report (bytes "\n0 0\n")
+    is bytes "OUTLINE 1\n0 refused 8\n1 first\ncorners 0\ncounts 1 1 1 1 1\n")
     ∷ []
 
 pub further-questions : List Question
@@ -331,21 +378,23 @@ further-questions =
 
 -- one check over the list
 pub further-answers-are-right : T (all-in (λ q. same-list (q .said) (q .right)) further-questions)
-unfolding table-onto all any sum count one-if table elem all-in all-places any-in count-in first-in before
-    beyond total ring insert union flatMap flatten grow reached reaches is-least classes is-fixed is-closed
-    closed-walks bits set-of bytes decimal spelt number unless oriented-answer arrival-answer outcome-answer
-    orbit-answer counted-answer walked-answer moved-answer placed-answer written-answer line-answer
-    coordinate-in-range in-range same-point orientation left-of visible-from in-line beside sees-edge
-    strictly-between lower other-dart point has-helper is-present edge-link point-link face-link empty-map
-    next-corner previous-corner corners-from outline sees visible-edges lowest-corner corners arrays-whole
-    count-fits points-in-range points-differ places-vacant helpers-owned absent-fixed links-undo edges-cross
-    lone-fixed one-outline reference-on-outline others-left no-outline sound links-of number-of darts counts cut join
-    left-corner right-corner with-point alone pair spliced later-point arrive is-repeated is-in-line offer
-    is-accepted extended run-from run reported reported-edges is-outside outside-arrivals edges-seen
-    strictly-visible place-among big-endian number-at complement signed block coordinate header
-    saved-in file-in-form-of map-in is-digit has-minus digits value-after magnitude is-number number-value
-    line-read in-first-line lines one-line spaced printed offer-line closing arrivals report session after far same-list
-    told says short refusals answers number-of-rules crowded beyond-far limits five with-xs with-links
-    with-reference chained unsound-maps sound-maps soundness orbit-sizes moves placings sums of-session
-    of-few one-point files number-of-line lent-line texts further-questions
+unfolding table-onto all any sum count one-if table elem all-in all-places any-in count-in first-in
+    before beyond total ring insert union flatMap flatten grow reached reaches is-least classes
+    is-fixed is-closed closed-walks bits set-of bytes decimal spelt number unless oriented-answer
+    arrival-answer outcome-answer orbit-answer counted-answer walked-answer moved-answer
+    placed-answer written-answer line-answer coordinate-in-range in-range same-point orientation
+    left-of visible-from in-line beside sees-edge strictly-between lower other-dart point has-helper
+    is-present edge-link point-link face-link empty-map next-corner previous-corner corners-from
+    outline sees visible-edges lowest-corner corners arrays-whole count-fits points-in-range
+    points-differ places-vacant helpers-owned absent-fixed links-undo edges-cross lone-fixed
+    one-outline reference-on-outline others-left no-outline sound links-of number-of darts counts
+    cut join left-corner right-corner with-point alone pair spliced later-point arrive is-repeated
+    is-in-line offer is-accepted extended run-from run reported reported-edges is-outside
+    outside-arrivals edges-seen strictly-visible place-among big-endian number-at
+    complement signed block coordinate header saved-in file-in-form-of map-in is-digit has-minus
+    digits value-after magnitude is-number number-value line-read in-first-line lines one-line spaced printed
+    offer-line closing arrivals report session after far same-list told says short refusals
+    orbit-with five-counts walk-to answers number-of-rules crowded beyond-far limits five with-xs
+    with-links with-reference chained unsound-maps sound-maps soundness orbit-sizes moves placings
+    sums of-session of-few one-point files number-of-line lent-line texts further-questions
 further-answers-are-right = tt

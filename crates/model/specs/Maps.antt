@@ -1,7 +1,7 @@
--- Maps, in the order of this page: the limits; the darts of a point; points, present darts and point
--- links by coordinates and helpers alone, for code that is lent a map's arrays; the points, the helpers,
--- the present darts and the two links of a map; the empty map; a map by its arrays, of which code is lent
--- all or some.
+-- Maps, in the order of this page: the limits; the darts of a point; points, present darts and
+-- point links by coordinates and helpers alone, for code that is lent a map's arrays; the points,
+-- the helpers, the present darts and the two links of a map; the empty map; a map by its arrays, of
+-- which code is lent all or some.
 -- Document 01, "What the engine holds" and "A sound map". A dart that the document calls own is 2k
 -- and a helper 2k + 1, for the point k that owns them. Assumes nothing.
 use mathlib.Core.Bool.{Bool, false, cond, _&&_, _||_}
@@ -92,8 +92,8 @@ empty-map =
     }
 
 -- ---- a map by its arrays
--- A function that is lent arrays has each of them as a parameter of its own. Which of them make a map is
--- said here, once.
+-- A function that is lent arrays has each of them as a parameter of its own. Which of them make a
+-- map is said here, once.
 
 -- the map of these arrays and numbers
 abbrev pub map-of : List ℤ → List ℤ → List Bool → List ℕ → ℕ → ℕ → Map
@@ -111,9 +111,9 @@ map-of xs ys helpers edge count reference =
 abbrev pub map-lent : RefT (List ℤ) → RefT (List ℤ) → RefT (List Bool) → RefT (List ℕ) → ℕ → ℕ → Map
 map-lent xs ys helpers edge = map-of (now xs) (now ys) (now helpers) (now edge)
 
--- where the coordinates alone are lent: the map m with these points, its other fields as they are ..
-abbrev pub with-points : Map → List ℤ → List ℤ → ℕ → Map
-with-points m xs ys count = map-of xs ys (m .helpers) (m .edge) count (m .reference)
+-- where the coordinates alone are lent: the map m with these, and its other fields as they are ..
+abbrev pub with-coordinates : Map → List ℤ → List ℤ → ℕ → Map
+with-coordinates m xs ys count = map-of xs ys (m .helpers) (m .edge) count (m .reference)
 
 -- .. and where the edge links are lent too: the map m with this outline
 abbrev pub with-outline : Map → List ℤ → List ℤ → List ℕ → ℕ → ℕ → Map

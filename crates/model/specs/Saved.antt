@@ -1,6 +1,6 @@
 -- The saved form, in the order of this page: bytes; numbers in bytes and back; blocks of fields;
--- the layout; the bytes of a map; a file in form; the map of a file; loading and saving. What is written
--- and what is in form are said of any version, and used at the one that there is.
+-- the layout; the bytes of a map; a file in form; the map of a file; loading and saving. What is
+-- written and what is in form are said of any version, and used at the one that there is.
 -- Document 01, "Saved form": "Big-endian: 4 bytes, the length of all that follows; version byte 1;
 -- 2 bytes, the number of points n; 2 bytes reference; n pairs x, y in 4 bytes each, two's
 -- complement; n helper bytes, 0 or 1; 2n edge links of 2 bytes. The whole is 9 + 13 × n bytes."

@@ -1,7 +1,7 @@
--- Demand 3 at the boundary, in the order of this page: what a call of `reach_offer` leaves, by the number that
--- it returns; the file that an offer leaves of a sound map's file is that of the map after the offer; so a
--- chain of calls from the empty map's file holds the map of the run (`file-run`), of which demand 3 is proved.
--- Assumes nothing.
+-- Demand 3 at the boundary, in the order of this page: what a call of `reach_offer` leaves, by the
+-- number that it returns; the file that an offer leaves of a sound map's file is that of the map
+-- after the offer; so a chain of calls from the empty map's file holds the map of the run
+-- (`file-run`), of which demand 3 is proved. Assumes nothing.
 use mathlib.Core.Path.{_≡_, refl, sym, ap, _∙_}
 use mathlib.Core.Logic.{_≢_}
 use mathlib.Core.Bool.{Bool, true, false, not, cond, _||_}
@@ -27,7 +27,7 @@ use Rattle.maps.proofs.Empty.{empty-sound}
 use Rattle.hull.proofs.Arrivals.{offer-sound}
 use Rattle.hull.proofs.History.{run-sound}
 use Rattle.saved.proofs.Files.{served, saved-in-form, map-back, load-of-save}
-use Rattle.replies.specs.Served.{and-short, is-short}
+use Rattle.model.specs.Lent.{and-short, is-short}
 use Rattle.replies.specs.Opened.{of-file}
 use Rattle.replies.specs.Replies.{Offering, meaning-of, arrival-told}
 use Rattle.replies.specs.Chains.{file-after, files-after}
@@ -69,7 +69,8 @@ some-applies a x [] n = absurd (n refl)
 some-applies a x (rule ∷ rules) n = go (rule .applies) n (some-applies a x rules)
   where
     go : (t : Bool) → cond t (number (rule .refusal)) (unless number rules 0) ≢ 0 →
-        (unless number rules 0 ≢ 0 → unless (λ r. a) rules x ≡ a) → cond t a (unless (λ r. a) rules x) ≡ a
+        (unless number rules 0 ≢ 0 → unless (λ r. a) rules x ≡ a) →
+        cond t a (unless (λ r. a) rules x) ≡ a
     go true n rest = refl
     go false n rest = rest n
 
@@ -85,8 +86,10 @@ before-10 a x short (rule ∷ rules) n ten = go (rule .applies) n ten (before-10
     later : ℕ
     later = unless number (and-short rules short) 0
 
-    go : (t : Bool) → cond t (number (rule .refusal)) later ≢ 0 → cond t (number (rule .refusal)) later ≢ 10 →
-        (later ≢ 0 → later ≢ 10 → unless (λ r. a) rules x ≡ a) → cond t a (unless (λ r. a) rules x) ≡ a
+    go : (t : Bool) → cond t (number (rule .refusal)) later ≢ 0 →
+        cond t (number (rule .refusal)) later ≢ 10 →
+        (later ≢ 0 → later ≢ 10 → unless (λ r. a) rules x ≡ a) →
+        cond t a (unless (λ r. a) rules x) ≡ a
     go true n ten rest = refl
     go false n ten rest = rest n ten
 
@@ -111,15 +114,17 @@ module _ (s : List ℕ) (p : Point) {before after before′ after′ : List ℕ}
   served-leaves e =
       let none : unless number (and-short rules short) 0 ≡ 0 = sym (o .code) ∙ e in
       o .list
-      ∙ none-applies (λ r. before) (and-short rules short) [] (file ++ drop (length file) before) (rw append-nil none)
-      ∙ ap (λ (t : List ℕ). t ++ drop (length t) before) (sym (none-applies (λ r. s) rules _ file none))
+      ∙ none-applies (λ r. before) (and-short rules short) [] (file ++ drop (length file) before)
+      (rw append-nil none)
+      ∙ ap (λ (t : List ℕ). t ++ drop (length t) before)
+      (sym (none-applies (λ r. s) rules _ file none))
 
   -- refused: the lent list is as it was ..
   pub refused-leaves : k ≢ 0 → after ≡ before
   refused-leaves n = o .list ∙ some-applies before _ (and-short rules short) (λ e. n (o .code ∙ e))
 
-  -- .. and the file that the caller goes on with is the one that it had. Number 10 alone says nothing of the
-  -- offer: a lent list is too short.
+  -- .. and the file that the caller goes on with is the one that it had. Number 10 alone says
+  -- nothing of the offer: a lent list is too short.
   pub refused-stays : k ≢ 0 → k ≢ 10 → file-after s p ≡ s
   unfolding file-after
   refused-stays n ten = before-10 s file short rules (λ e. n (o .code ∙ e)) (λ e. ten (o .code ∙ e))
@@ -132,9 +137,11 @@ file-of-offer m p s =
     let small : version < 256 = omega arith in
     rw (map-back version small s)
     (sym
-    (rule-passes (λ r. saved m) (Refusal.BadFile when not (file-in-form (saved m))) (offer-rules m p) (saved (arrive m p .map))
+    (rule-passes (λ r. saved m) (Refusal.BadFile when not (file-in-form (saved m)))
+    (offer-rules m p) (saved (arrive m p .map))
     (ap not (is-true (file-in-form (saved m)) (saved-in-form version small s)))
-    (unless-made (λ (o : Offered). saved (o .map)) (refusing m) (λ r. saved m) (λ r. refl) (offer-rules m p) (arrive m p))))
+    (unless-made (λ (o : Offered). saved (o .map)) (refusing m) (λ r. saved m) (λ r. refl)
+    (offer-rules m p) (arrive m p))))
 
 -- ---- a chain of calls
 
@@ -146,11 +153,14 @@ file-run-from r s (p ∷ ps) =
     ap (λ (t : List ℕ). files-after t ps) (file-of-offer (r .map) p s)
     ∙ file-run-from (extended r p) (offer-sound (r .map) p s) ps
 
--- from the empty map's file the chain holds the map of the run, of which `always-balanced` speaks ..
+-- from the empty map's file the chain holds the map of the run, of which `always-balanced` speaks,
 pub file-run : (ps : List Point) → files-after (saved empty-map) ps ≡ saved (run ps .map)
 unfolding run
 file-run ps = file-run-from (record { map = empty-map; history = [] }) empty-sound ps
 
--- .. and that map is what is loaded from it
-pub chain-loads : (ps : List Point) → loaded (files-after (saved empty-map) ps) ≡ served (run ps .map)
-chain-loads ps = ap loaded (file-run ps) ∙ load-of-save (run ps .map) (sound-by (run ps .map) (run-sound ps))
+-- and that map is what is loaded from it
+pub chain-loads : (ps : List Point) →
+    loaded (files-after (saved empty-map) ps) ≡ served (run ps .map)
+chain-loads ps =
+    ap loaded (file-run ps)
+    ∙ load-of-save (run ps .map) (sound-by (run ps .map) (run-sound ps))

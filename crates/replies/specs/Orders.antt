@@ -1,7 +1,7 @@
--- The order in which each exported function looks at its rules, as the numbers of document 01's table: one
--- computed test for each function, as model/specs/Orders has them for the engine's calls. Number 7 comes
--- first where a map comes as a file, and number 10 last where a list is lent: "The lowest number that
--- applies is given; loading looks at 7 before 1." Assumes nothing.
+-- The order in which each exported function looks at its rules, as the numbers of document 01's
+-- table: one computed test for each function, as model/specs/Orders has them for the engine's
+-- calls. Number 7 comes first where a map comes as a file, and number 10 last where a list is lent:
+-- "The lowest number that applies is given; loading looks at 7 before 1." Assumes nothing.
 use mathlib.Core.Path.{_≡_, refl}
 use mathlib.Core.Bool.{Bool}
 use mathlib.Core.List.{List, [], _∷_}
@@ -18,9 +18,11 @@ use Rattle.model.specs.Offers.{offer-call}
 use Rattle.model.specs.Saved.{load-call, saved}
 use Rattle.model.specs.Text.{line-call}
 use Rattle.model.specs.Report.{report-rules}
-use Rattle.replies.specs.Served.{Reply, only, and-short}
+use Rattle.model.specs.Lent.{and-short}
+use Rattle.replies.specs.Served.{Reply, only}
 use Rattle.replies.specs.Opened.{of-file}
-use Rattle.replies.specs.Replies.{signed, reply, from-file, counts-reply, orbit-reply, walk-reply, walker-reply, place-reply}
+use Rattle.replies.specs.Replies.{signed, reply, from-file, counts-reply, orbit-reply}
+use Rattle.replies.specs.Replies.{walk-reply, walker-reply, place-reply}
 
 -- the numbers of rules with number 10 after them, whether a lent list is short or not
 module _ (short : Bool) where

@@ -8,7 +8,7 @@ use Prim.Native.Nat.{ℕ, _≤_}
 use lib.IntN.{ℤ}
 use lib.ListN.{length, drop}
 use Rattle.model.specs.declared.Map.{Map}
-use Rattle.model.specs.Maps.{point-limit, empty-map, with-points}
+use Rattle.model.specs.Maps.{point-limit, empty-map, with-coordinates}
 use Rattle.model.specs.Sound.{Shaped}
 use Rattle.model.specs.Text.{lines}
 use Rattle.model.specs.Report.{text-limit, arrivals, closing, report}
@@ -46,13 +46,13 @@ pub record Stopped (text : List ℕ) (m : Map) (answers : List ℕ) (at : ℕ) (
 pub record ReportsSome (text : List ℕ) (xs ys : List ℤ) (count : ℕ) (answers : List ℕ) (n at : ℕ)
     : Type 0 where
   pub rest : Map
-  pub reports : Reports text (with-points rest xs ys count) answers n at
+  pub reports : Reports text (with-coordinates rest xs ys count) answers n at
 
 -- .. and of every such map
 pub record StopsAll (text : List ℕ) (xs ys : List ℤ) (count : ℕ) (before after : List ℕ) (n at : ℕ)
     (s : Stop) : Type 0 where
-  pub stops : (rest : Map) → Reports text (with-points rest xs ys count) before n at →
-      Stopped text (with-points rest xs ys count) after at s
+  pub stops : (rest : Map) → Reports text (with-coordinates rest xs ys count) before n at →
+      Stopped text (with-coordinates rest xs ys count) after at s
 
 -- a text that is not too long, and a place for the answer of each of its lines
 pub record Readable (text answers : List ℕ) : Type 0 where

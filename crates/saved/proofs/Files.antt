@@ -29,7 +29,8 @@ use Rattle.model.specs.Sound.{Shaped, sound}
 use Rattle.model.specs.Saved.{Bytes, big-endian, number-at, complement, signed, field}
 use Rattle.model.specs.Saved.{version-place, count-place, reference-place, header-length}
 use Rattle.model.specs.Saved.{coordinates-place, helpers-place, links-place}
-use Rattle.model.specs.Saved.{version, coordinate, header, saved-in, saved, count-in-file, coordinate-in-file}
+use Rattle.model.specs.Saved.{version, coordinate, header, saved-in, saved, count-in-file}
+use Rattle.model.specs.Saved.{coordinate-in-file}
 use Rattle.model.specs.Saved.{helper-in-file, link-in-file, coordinates-in-file, helpers-in-file}
 use Rattle.model.specs.Saved.{links-in-file, file-in-form-of, file-in-form, map-in, loaded}
 use Rattle.model.proofs.Sound.{place-ranged, present-below, sound-holds}
@@ -105,7 +106,8 @@ module _ (v : ℕ) (small : v < 256) {m : Map} (s : Shaped m) where
       ap (λ (n : ℕ). field (saved-in v m) (links-place n) 2 d) count-back
       ∙ link-read v m d l (link-small s d l)
 
-  coordinate-back : (i : ℕ) → i < 2 * m .count → coordinate-in-file (saved-in v m) i ≡ coordinate m i
+  coordinate-back : (i : ℕ) → i < 2 * m .count →
+      coordinate-in-file (saved-in v m) i ≡ coordinate m i
   coordinate-back i l =
       let b = coordinate-small s i in
       ap signed (coordinate-read v m i l (complement-small (coordinate m i) (omega arith)))
@@ -302,7 +304,8 @@ unfolding loaded unless
 load-of-save m t =
     let h = sound-holds m t in
     let small : version < 256 = omega arith in
-    rw (map-back version small h, is-true (file-in-form (saved m)) (saved-in-form version small h), is-true (sound m) t)
+    let in-form = saved-in-form version small h in
+    rw (map-back version small h, is-true (file-in-form (saved m)) in-form, is-true (sound m) t)
 
 -- "an accepted file is the only file that its map writes"
 pub save-of-load : (s : List ℕ) → Bytes s → Accepted s → saved (loaded s .map) ≡ s

@@ -82,7 +82,8 @@ module _ (v : ℕ) (m : Map) where
       (number-placed (lengths ++ versions) (references ++ (coordinates ++ (helpers ++ links)))
       count-place 2 n refl (omega arith))
 
-  pub reference-read : m .reference < 256 ^ 2 → number-at (saved-in v m) reference-place 2 ≡ m .reference
+  pub reference-read : m .reference < 256 ^ 2 →
+      number-at (saved-in v m) reference-place 2 ≡ m .reference
   unfolding saved-in header big-endian
   reference-read l =
       subst (λ (s : List ℕ). number-at s reference-place 2 ≡ m .reference)
@@ -117,8 +118,8 @@ module _ (v : ℕ) (m : Map) where
   link-read d l h =
       subst (λ (s : List ℕ). field s (links-place n) 2 d ≡ edge-link m d)
       (simp (append-assoc, append-nil))
-      (block-placed (header v n (m .reference) ++ coordinates ++ helpers) [] (links-place n) (2 * n) 2
-      (edge-link m)
+      (block-placed (header v n (m .reference) ++ coordinates ++ helpers) [] (links-place n)
+      (2 * n) 2 (edge-link m)
       (simp length-append (omega (
         arith,
         length-header,

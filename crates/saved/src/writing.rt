@@ -25,7 +25,8 @@ ghost use Rattle.saved.specs.Fields.{coordinate-field, helper-field};
 // The header of a map of so many points with a reference.
 pub fn write_header(count: usize, reference: usize, lent: &mut [u8])
     requires { ⌜ (count ≤ point-limit) × (header-length ≤ length (now lent)) ⌝ }
-    ensures { λ _. ⌜ now (lent .exit) ≡ over (header version count reference) (now (lent .entry)) ⌝ }
+    ensures { λ _. ⌜ now (lent .exit) ≡
+        over (header version count reference) (now (lent .entry)) ⌝ }
 {
     let following = saved_length(count) - VERSION_PLACE;
     put_number(lent, 4, following);

@@ -12,7 +12,8 @@ use Rattle.layout.proofs.is_in_form.Statement.{statement}
 use Rattle.layout.proofs.is_in_form.Tie as tie
 
 returns : tie.Need-returns
-returns c = not-in-form _ _ (λ f. omega (arith, f .few, f .whole, f .length-right, f .version-right))
+returns c =
+    not-in-form _ _ (λ f. omega (arith, f .few, f .whole, f .length-right, f .version-right))
 
 returns-2 : tie.Need-returns-2
 returns-2 c =

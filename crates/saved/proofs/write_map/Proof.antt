@@ -36,8 +36,11 @@ first-3 m = first-2 m ++ block (m .count) 1 (λ k. one-if (has-helper m k))
 
 length-2 : (m : Map) → helpers-place (m .count) ≡ length (first-2 m)
 length-2 m =
-    simp length-append (omega
-    (arith, length-header version m, length-block (2 * m .count) 4 (λ i. complement (coordinate m i))))
+    simp length-append (omega (
+      arith,
+      length-header version m,
+      length-block (2 * m .count) 4 (λ i. complement (coordinate m i)),
+    ))
 
 length-3 : (m : Map) → links-place (m .count) ≡ length (first-3 m)
 length-3 m =

@@ -9,7 +9,7 @@ use borrow.Author.Tests.{not-true, not-false}
 use denote.Ref.{now}
 use lib.ListN.{length}
 use Rattle.model.specs.declared.Map.{Map}
-use Rattle.model.specs.Maps.{with-points}
+use Rattle.model.specs.Maps.{with-coordinates}
 use Rattle.survey.specs.declared.lines.Read.{Read}
 use Rattle.survey.specs.Places.{at-end, next-line}
 use Rattle.hull.proofs.Admissions.{ranged-places}
@@ -21,8 +21,8 @@ use Rattle.reports.proofs.deciding.refuse_lines.Tie as tie
 
 abbrev Inv-loop : tie.InvT-loop
 Inv-loop text at line xs ys count answers₀ place₀ number₀ answers place number =
-    ((rest : Map) → Reports text (with-points rest xs ys count) answers₀ line at →
-    Reports text (with-points rest xs ys count) answers number place)
+    ((rest : Map) → Reports text (with-coordinates rest xs ys count) answers₀ line at →
+    Reports text (with-coordinates rest xs ys count) answers number place)
     × (at ≤ place)
 
 abbrev μ-loop : tie.MeasureT-loop
@@ -35,7 +35,7 @@ loop-holds c = (λ rest r. r, omega arith)
 report : (l : tie.At-loop Inv-loop μ-loop) →
     let s = l .before .before in
     Reports (now (s .args .text))
-    (with-points (s .pre .rest) (now (s .args .xs)) (now (s .args .ys)) (s .args .count))
+    (with-coordinates (s .pre .rest) (now (s .args .xs)) (now (s .args .ys)) (s .args .count))
     (l .loop .answers) (l .loop .number) (l .loop .place)
 report l = let pre = l .before .before .pre in l .loop .inv .0 (pre .rest) (pre .reports)
 

@@ -24,7 +24,7 @@ use Rattle.model.specs.Arrival.{arrive, refusing, admission-rules, is-repeated,
 use Rattle.model.specs.Offers.{offer}
 use Rattle.model.proofs.Sound.{place-ranged, sound-by}
 use Rattle.model.proofs.Answers.{rule-passes, outcome-refuses, outcome-serves, served-none}
-use Rattle.hull.specs.Admission.{RangedPlaces, admission-by}
+use Rattle.admission.specs.Admission.{RangedPlaces, admission-by}
 use Rattle.hull.specs.Requires.{RoomFor}
 use Rattle.hull.proofs.Indices.{spliceable}
 use Rattle.hull.proofs.Outcomes.{Accepted, accepted-by}

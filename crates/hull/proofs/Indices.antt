@@ -4,30 +4,28 @@
 -- Assumes nothing.
 use mathlib.Core.Path.{_≡_, sym, subst}
 use mathlib.Core.Logic.{_≢_, ⊎-elim}
-use mathlib.Core.Bool.{Bool, true, false, cond, _&&_}
+use mathlib.Core.Bool.{Bool, true, false, cond}
 use mathlib.Core.List.{List, [], _∷_}
 use Prim.Native.Nat.{ℕ, _≤_, _<_}
 use native.Mathlib.Omega.{arith}
 use lib.Dec.{T, T-not}
-use lib.IntN.{ℤ}
 use lib.ListN.{length, getD, set}
 use lib.Seq.{set-out, getD-set-same, getD-set-other}
-use Rattle.finite.specs.Tests.{and-both, decide, same-or-not}
+use Rattle.finite.specs.Tests.{decide, same-or-not}
 use Rattle.finite.specs.Bounded.{lt-or-ge}
 use Rattle.finite.specs.Lists.{elem, first-in}
 use Rattle.finite.specs.ListLaws.{elem-head, elem-tail}
 use Rattle.orbits.specs.Sets.{dart-limit}
 use Rattle.model.specs.declared.Point.{Point}
 use Rattle.model.specs.declared.Map.{Map}
-use Rattle.model.specs.Plane.{in-range}
 use Rattle.model.specs.Maps.{point-limit, point, is-present, edge-link}
 use Rattle.model.specs.Outline.{outline}
 use Rattle.model.specs.Sound.{Shaped}
 use Rattle.model.specs.Arrival.{cut, left-corner, right-corner}
 use Rattle.model.proofs.Sound.{place-ranged, present-below}
-use Rattle.model.specs.Maps.{point-at}
 use Rattle.maps.proofs.Outline.{outline-circuit}
-use Rattle.hull.specs.Requires.{RoomFor, OutlineFor, Ranged, Spliceable}
+use Rattle.admission.specs.Ranges.{Ranged}
+use Rattle.hull.specs.Requires.{RoomFor, OutlineFor, Spliceable}
 
 -- ---- edge links
 
@@ -67,23 +65,6 @@ module _ {m : Map} (s : Shaped m) where
 pub ranged : {m : Map} {p : Point} → OutlineFor m p → Ranged (m .xs) (m .ys) p
 unfolding point
 ranged o = record { places = place-ranged (o .is-sound); offered = o .offered }
-
--- the offered point and one of the points
-pub two-ranged : {xs ys : List ℤ} {p a : Point} → Ranged xs ys p → (k : ℕ) → a ≡ point-at xs ys k →
-    T (in-range p && in-range a)
-two-ranged {a} r k e =
-    let ta : T (in-range a) = rw e (r .places k) in
-    let tp = r .offered in
-    search and-both
-
--- two of the points and the offered one
-pub three-ranged : {xs ys : List ℤ} {p a b : Point} → Ranged xs ys p → (i j : ℕ) →
-    a ≡ point-at xs ys i → b ≡ point-at xs ys j → T (in-range a && in-range b && in-range p)
-three-ranged {a} {b} r i j ea eb =
-    let ta : T (in-range a) = rw ea (r .places i) in
-    let tb : T (in-range b) = rw eb (r .places j) in
-    let tp = r .offered in
-    search and-both
 
 -- ---- corners
 

@@ -5,7 +5,6 @@
 --     History        demand 3: `always-balanced`
 --     Theorems       what holds of offers and outlines, each under one name
 --     Indices        what the code takes for an index lies within its array
---     Slopes         points in line with a point have one slope from it
 --     Seeing         the way round an outline on which a point looks for its corners
 --     Cases          from the answer that the code makes to the definition, case by case
 --     Admissions     from a sound map's coordinates to the offer of a point
@@ -15,7 +14,6 @@ pub mod Changes
 pub mod History
 pub mod Theorems
 pub mod Indices
-pub mod Slopes
 pub mod Seeing
 pub mod Cases
 pub mod Admissions

@@ -1,15 +1,13 @@
 // The arrival of a point in a map: why an offered point is refused, or how it arrives.
 
-pub mod admission;
 mod change;
-mod conditions;
 mod sight;
 
-use crate::admission::admission;
 use crate::change::pair;
 use crate::change::put_point;
 use crate::change::splice;
 use crate::sight::seen_from;
+use admission::admission;
 use model::Arrival;
 use model::Map;
 use model::Offered;

@@ -10,7 +10,8 @@ ghost use mathlib.Core.Bool.{cond, not};
 ghost use Prim.Native.Nat.{_+_, _<_};
 ghost use Rattle.finite.specs.Bounded.{one-if};
 ghost use Rattle.model.specs.Maps.{point-limit};
-ghost use Rattle.hull.specs.Requires.{OutlineIn, Ranged, visible-at};
+ghost use Rattle.admission.specs.Ranges.{Ranged};
+ghost use Rattle.hull.specs.Requires.{OutlineIn, visible-at};
 ghost use Rattle.hull.specs.Sight.{sought-at, seen};
 
 // The corners between which the visible edges lie, and their number.

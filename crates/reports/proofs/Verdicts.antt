@@ -24,7 +24,7 @@ use Rattle.model.proofs.Answers.{RulesDecide, refuses, serves, unless-decides}
 use Rattle.survey.specs.declared.lines.Read.{Read}
 use Rattle.survey.specs.Places.{line-at, read-at}
 use Rattle.survey.proofs.Texts.{line-at-refused}
-use Rattle.hull.specs.Admission.{rules-by, admission-by}
+use Rattle.admission.specs.Admission.{rules-by, admission-by}
 use Rattle.hull.proofs.Admissions.{admission-refused, admission-served, admission-accepted, visible-most, corners-below}
 use Rattle.hull.proofs.Outcomes.{Accepted, Arrives, first, second, inside, outside, arrive-arrives}
 use Rattle.hull.proofs.Arrivals.{arrival-sound}

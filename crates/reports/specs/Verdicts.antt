@@ -6,7 +6,7 @@ use lib.IntN.{ℤ}
 use Rattle.model.specs.declared.Outcome.{Outcome}
 use Rattle.model.specs.declared.Point.{Point}
 use Rattle.model.specs.declared.Line.{Line}
-use Rattle.hull.specs.Admission.{admission-by}
+use Rattle.admission.specs.Admission.{admission-by}
 use Rattle.reports.specs.declared.deciding.Verdict.{Verdict}
 
 unfoldable pub verdict-on : Point → Outcome → Verdict

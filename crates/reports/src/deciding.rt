@@ -2,7 +2,7 @@
 // the map, and an accepted point is written into the map's arrays: no map is copied.
 
 use super::packing::packed;
-use hull::admission::admission;
+use admission::admission;
 use hull::grow;
 use maps::empty_map;
 use model::Arrival;
@@ -14,7 +14,7 @@ use model::Refusal;
 use survey::lines::at_end;
 use survey::reader::read_from;
 ghost use mathlib.Core.Path.{_≡_};
-ghost use Rattle.hull.specs.Admission.{RangedPlaces};
+ghost use Rattle.admission.specs.Admission.{RangedPlaces};
 ghost use Rattle.reports.specs.Verdicts.{verdict-by};
 ghost use Rattle.reports.specs.Deciding.{Readable, ReportsSome, StopsAll, Surveys};
 

@@ -5,7 +5,7 @@ use mathlib.Core.Path.{sym, _∙_}
 use Rattle.model.specs.Maps.{point}
 use Rattle.model.specs.Arrival.{arrive, refusing, admission-rules, is-repeated, is-in-line, admitted}
 use Rattle.model.proofs.Answers.{outcome-refuses, outcome-serves}
-use Rattle.hull.specs.Admission.{admission-by}
+use Rattle.admission.specs.Admission.{admission-by}
 use Rattle.hull.proofs.Admissions.{ranged-places, admission-accepted, accepted-room}
 use Rattle.hull.proofs.admitted.Statement.{statement}
 use Rattle.hull.proofs.admitted.Tie as tie

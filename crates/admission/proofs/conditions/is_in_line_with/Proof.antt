@@ -10,10 +10,10 @@ use lib.IntN.{ℤ}
 use Rattle.model.specs.declared.Point.{Point}
 use Rattle.model.specs.Plane.{in-line}
 use Rattle.model.specs.Maps.{point-at}
-use Rattle.hull.proofs.Indices.{three-ranged}
+use Rattle.admission.proofs.Ranges.{three-ranged}
 use Rattle.finite.specs.Loops.{Passed, Iteration, none-passed, one-passed, one-failed, all-passed, none-below, some-found, none-found, not-twice}
-use Rattle.hull.proofs.conditions.is_in_line_with.Statement.{statement}
-use Rattle.hull.proofs.conditions.is_in_line_with.Tie as tie
+use Rattle.admission.proofs.conditions.is_in_line_with.Statement.{statement}
+use Rattle.admission.proofs.conditions.is_in_line_with.Tie as tie
 
 abbrev here : List ℤ → List ℤ → ℕ → Point → ℕ → Bool
 here xs ys j p i = in-line (point-at xs ys i) (point-at xs ys j) p

@@ -16,7 +16,7 @@ use Rattle.model.specs.Refusals.{Rule, _when_}
 use Rattle.model.specs.Answers.{outcome-by}
 use Rattle.model.specs.Plane.{in-range, same-point}
 use Rattle.model.specs.Maps.{point-limit, point-at}
-use Rattle.hull.specs.Requires.{in-line-among}
+use Rattle.admission.specs.Ranges.{in-line-among}
 
 -- as the arrays of a sound map do, past its last point too
 pub record RangedPlaces (xs ys : List ℤ) : Type 0 where

@@ -12,10 +12,10 @@ use Rattle.integers.specs.Range.{Number, read, sub, back, fits, same-bits, lite
 use Rattle.finite.specs.Tests.{and-left, and-right}
 use Rattle.model.specs.Plane.{in-range}
 use Rattle.plane.proofs.Bounds.{x-near, y-near}
-use Rattle.hull.specs.Slopes.{slope-count, slope}
-use Rattle.hull.proofs.Slopes.{span, lift, lifted, scaling, divided, slope-vertical}
-use Rattle.hull.proofs.conditions.slope.Statement.{statement}
-use Rattle.hull.proofs.conditions.slope.Tie as tie
+use Rattle.admission.specs.Slopes.{slope-count, slope}
+use Rattle.admission.proofs.Slopes.{span, lift, lifted, scaling, divided, slope-vertical}
+use Rattle.admission.proofs.conditions.slope.Statement.{statement}
+use Rattle.admission.proofs.conditions.slope.Tie as tie
 
 module _ (s : tie.Start) where
   p-ranged : T (in-range (s .args .p))

@@ -29,8 +29,8 @@ use Rattle.model.specs.declared.Point.{Point}
 use Rattle.model.specs.Plane.{coordinate-limit, same-point, orientation, in-line}
 use Rattle.model.specs.Maps.{point-at}
 use Rattle.plane.proofs.Orientation.{orientation-cyclic, in-line-zero}
-use Rattle.hull.specs.Requires.{NewAmong, in-line-with}
-use Rattle.hull.specs.Slopes.{slope-count, slope-words, slope-parts, scaled, slope}
+use Rattle.admission.specs.Ranges.{NewAmong, in-line-with}
+use Rattle.admission.specs.Slopes.{slope-count, slope-words, slope-parts, scaled, slope}
 
 -- ---- quotients
 

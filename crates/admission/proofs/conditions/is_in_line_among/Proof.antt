@@ -12,14 +12,14 @@ use lib.IntN.{ℤ}
 use Rattle.orbits.proofs.Sets.{mask-is}
 use Rattle.model.specs.declared.Point.{Point}
 use Rattle.model.specs.Maps.{point-at}
-use Rattle.hull.specs.Requires.{in-line-with}
-use Rattle.hull.specs.Slopes.{slope-count, slope}
+use Rattle.admission.specs.Ranges.{in-line-with}
+use Rattle.admission.specs.Slopes.{slope-count, slope}
 use Rattle.finite.specs.Loops.{Passed, Iteration, none-passed, one-passed, one-failed, all-passed}
 use Rattle.finite.specs.Loops.{none-below, some-found, none-found, not-twice}
-use Rattle.hull.proofs.Indices.{two-ranged}
-use Rattle.hull.proofs.Slopes.{SlopesSeen, slope-below, none-seen, one-seen, unseen}
-use Rattle.hull.proofs.conditions.is_in_line_among.Statement.{statement}
-use Rattle.hull.proofs.conditions.is_in_line_among.Tie as tie
+use Rattle.admission.proofs.Ranges.{two-ranged}
+use Rattle.admission.proofs.Slopes.{SlopesSeen, slope-below, none-seen, one-seen, unseen}
+use Rattle.admission.proofs.conditions.is_in_line_among.Statement.{statement}
+use Rattle.admission.proofs.conditions.is_in_line_among.Tie as tie
 
 abbrev here : List ℤ → List ℤ → Point → ℕ → Bool
 here xs ys p j = in-line-with xs ys j p

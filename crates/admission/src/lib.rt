@@ -1,6 +1,8 @@
 // Why a sound map refuses a point, asked of the map's coordinates: no map is copied for it.
 
-use super::conditions::is_in_line_among;
+mod conditions;
+
+use crate::conditions::is_in_line_among;
 use maps::places::is_new;
 use model::Outcome;
 use model::POINT_LIMIT;
@@ -8,7 +10,7 @@ use model::Point;
 use model::Refusal;
 use plane::in_range;
 ghost use mathlib.Core.Path.{_≡_};
-ghost use Rattle.hull.specs.Admission.{RangedPlaces, admission-by};
+ghost use Rattle.admission.specs.Admission.{RangedPlaces, admission-by};
 
 // Whether a point is accepted, or why it is refused.
 pub fn admission<'a>(xs: &'a [i64], ys: &'a [i64], count: usize, p: Point) -> Outcome

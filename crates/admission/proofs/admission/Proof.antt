@@ -11,9 +11,9 @@ use Rattle.model.specs.declared.Outcome.{Outcome}
 use Rattle.model.specs.Plane.{in-range, same-point}
 use Rattle.model.specs.Maps.{point-limit, point-at}
 use Rattle.model.proofs.Answers.{rule-applies, rule-passes, no-rule}
-use Rattle.hull.specs.Admission.{admission-by}
-use Rattle.hull.proofs.admission.admission.Statement.{statement}
-use Rattle.hull.proofs.admission.admission.Tie as tie
+use Rattle.admission.specs.Admission.{admission-by}
+use Rattle.admission.proofs.admission.Statement.{statement}
+use Rattle.admission.proofs.admission.Tie as tie
 
 -- the rules that do not apply
 room : (c : tie.Else1) → leb point-limit (c .before .args .count) ≡ false

@@ -9,8 +9,8 @@ ghost use mathlib.Core.Bool.{_&&_};
 ghost use lib.Dec.{T};
 ghost use lib.ListN.{length};
 ghost use Rattle.model.specs.Plane.{in-range};
-ghost use Rattle.hull.specs.Requires.{NewAmong, Ranged, in-line-among, in-line-with};
-ghost use Rattle.hull.specs.Slopes.{slope, slope-words};
+ghost use Rattle.admission.specs.Ranges.{NewAmong, Ranged, in-line-among, in-line-with};
+ghost use Rattle.admission.specs.Slopes.{slope, slope-words};
 
 // How many slopes are told apart.
 const SLOPE_COUNT: usize = 65536;

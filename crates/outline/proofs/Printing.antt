@@ -8,9 +8,10 @@ use Prim.Native.Nat.{ℕ, _≤_, _<_}
 use native.Mathlib.Omega.{arith}
 use lib.ListN.{length}
 use Rattle.reports.specs.declared.Decided.{Decided}
-use Rattle.reports.specs.declared.positions.Piece.{Piece}
-use Rattle.reports.specs.Lines.{line-count}
-use Rattle.reports.specs.Deciding.{Fits, Decides}
+use Rattle.lines.specs.declared.positions.Piece.{Piece}
+use Rattle.lines.specs.Lines.{line-count}
+use Rattle.reports.specs.Deciding.{Decides}
+use Rattle.reports.specs.Summaries.{Fits}
 use Rattle.reports.specs.Pieces.{WroteLines, Pieces, begun, continued}
 use Rattle.reports.proofs.Wholes.{piece-whole, piece-last, piece-further, pieces-are-the-report}
 use Rattle.outline.specs.declared.Printed.{Printed}

@@ -6,7 +6,7 @@ use mathlib.Core.List.{List}
 use Prim.Native.Nat.{ℕ}
 use Rattle.model.specs.Report.{report}
 use Rattle.reports.specs.declared.Decided.{Decided}
-use Rattle.reports.specs.Lines.{line-count}
+use Rattle.lines.specs.Lines.{line-count}
 use Rattle.reports.specs.Pieces.{Pieces}
 use Rattle.outline.specs.declared.Printed.{Printed}
 

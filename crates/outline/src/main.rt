@@ -22,7 +22,7 @@ ghost use mathlib.Core.Path.{_≡_};
 ghost use Prim.Native.Nat.{_+_, _≤_};
 ghost use lib.ListN.{length};
 ghost use Rattle.model.specs.Report.{text-limit};
-ghost use Rattle.reports.specs.Deciding.{Fits};
+ghost use Rattle.reports.specs.Summaries.{Fits};
 ghost use Rattle.outline.specs.Reading.{ReadMore, ReadText};
 ghost use Rattle.outline.specs.Printing.{PrintsLines, PrintsReport};
 

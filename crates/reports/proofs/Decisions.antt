@@ -30,11 +30,11 @@ use Rattle.printing.proofs.Reports.{report-ended, report-goes-on}
 use Rattle.hull.proofs.Outcomes.{Accepted}
 use Rattle.reports.specs.declared.deciding.Verdict.{Verdict}
 use Rattle.reports.specs.declared.deciding.Stop.{Stop}
-use Rattle.reports.specs.Packing.{Packable, packed, unpacked}
+use Rattle.lines.specs.Packing.{Packable, packed, unpacked}
 use Rattle.reports.specs.Verdicts.{verdict-by}
-use Rattle.reports.specs.Lines.{answer-at, answer-lines}
+use Rattle.lines.specs.Lines.{answer-at, answer-lines}
 use Rattle.reports.specs.Deciding.{Reports, Stopped, Surveys}
-use Rattle.reports.proofs.Packed.{unpacked-packed}
+use Rattle.lines.proofs.Packed.{unpacked-packed}
 use Rattle.reports.proofs.Verdicts.{line-refused, refusal-packable, line-accepted, arrive-sound, arrive-packable}
 
 -- ---- the lines of the answers

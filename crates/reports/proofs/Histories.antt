@@ -20,7 +20,7 @@ use Rattle.model.specs.Text.{line-read, lines}
 use Rattle.model.specs.Report.{text-limit, printed, offer-line, closing, arrivals, report}
 use Rattle.hull.proofs.History.{always-balanced}
 use Rattle.printing.specs.Printing.{arrival-line}
-use Rattle.reports.specs.Lines.{header}
+use Rattle.lines.specs.Lines.{header}
 use Rattle.reports.specs.Histories.{named, points-named, answers-on, map-after, numbered, accepted-in, arrivals-of, ReportsHistory}
 
 -- a list of offers that came to the map m, with these answers more

@@ -42,9 +42,9 @@ use Rattle.printing.proofs.Printed.{line-length, first-line, second-line, insid
 use Rattle.printing.proofs.Reports.{closing-lines}
 use Rattle.corners.proofs.Corners.{corners-circuit, one-listed, none-listed}
 use Rattle.reports.specs.declared.deciding.Verdict.{Verdict}
-use Rattle.reports.specs.Packing as packing
-use Rattle.reports.specs.Packing.{Packable}
-use Rattle.reports.specs.Lines.{counts-values}
+use Rattle.lines.specs.Packing as packing
+use Rattle.lines.specs.Packing.{Packable}
+use Rattle.lines.specs.Lines.{counts-values}
 use Rattle.reports.specs.Verdicts.{verdict-by}
 use Rattle.reports.proofs.Verdicts.{line-refused, line-accepted, arrive-sound, arrive-packable}
 

@@ -30,8 +30,8 @@ use Rattle.hull.proofs.Outcomes.{Accepted, Arrives, first, second, inside, outs
 use Rattle.hull.proofs.Arrivals.{arrival-sound}
 use Rattle.reports.specs.declared.deciding.Verdict.{Verdict}
 use Rattle.reports.specs.Verdicts.{verdict-on, verdict-by}
-use Rattle.reports.specs.Packing as packing
-use Rattle.reports.specs.Packing.{OfLine, full, out-of-range, repeated, in-line, bad-line, Packable}
+use Rattle.lines.specs.Packing as packing
+use Rattle.lines.specs.Packing.{OfLine, full, out-of-range, repeated, in-line, bad-line, Packable}
 
 outcome-refused : (p : Point) (r : Refusal) (o : Outcome) → Verdict.Refused r ≡ verdict-on p o →
     Outcome.Refused r ≡ o

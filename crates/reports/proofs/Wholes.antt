@@ -27,13 +27,14 @@ use Rattle.printing.proofs.Overwriting.{wrote-length}
 use Rattle.printing.proofs.Reports.{closing-lines}
 use Rattle.reports.specs.declared.Decided.{Decided}
 use Rattle.reports.specs.declared.deciding.Surveyed.{Surveyed}
-use Rattle.reports.specs.declared.positions.Ends.{Ends}
-use Rattle.reports.specs.declared.positions.Piece.{Piece}
-use Rattle.reports.specs.Lines.{header, corners-in, report-line, lines-from, line-count, report-of}
-use Rattle.reports.specs.Printing.{Printable, PutLines}
+use Rattle.lines.specs.declared.positions.Ends.{Ends}
+use Rattle.lines.specs.declared.positions.Piece.{Piece}
+use Rattle.lines.specs.Lines.{header, report-line, lines-from, line-count}
+use Rattle.reports.specs.Summaries.{corners-in, report-of, Fits}
+use Rattle.lines.specs.Printing.{Printable, PutLines}
 use Rattle.reports.specs.Pieces.{WroteLines, line-limit, Pieces, begun, continued}
-use Rattle.reports.specs.Deciding.{Surveys, Fits, Decides}
-use Rattle.reports.proofs.ReportLines.{report-line-most, lines-more, lines-none, lines-joined, report-short, report-long}
+use Rattle.reports.specs.Deciding.{Surveys, Decides}
+use Rattle.lines.proofs.ReportLines.{report-line-most, lines-more, lines-none, lines-joined, report-short, report-long}
 
 -- ---- a text that is too long
 

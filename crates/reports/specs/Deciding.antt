@@ -18,7 +18,8 @@ use Rattle.reports.specs.declared.deciding.Stop.{Stop}
 use Rattle.reports.specs.declared.deciding.Surveyed.{Surveyed}
 use Rattle.reports.specs.declared.Decided.{Decided}
 use Rattle.reports.specs.Verdicts.{verdict-by}
-use Rattle.reports.specs.Lines.{answer-lines, report-of}
+use Rattle.lines.specs.Lines.{answer-lines}
+use Rattle.reports.specs.Summaries.{report-of}
 
 -- the answers of the lines before number n, and the lines from a place on, offered to the map
 pub record Reports (text : List ℕ) (m : Map) (answers : List ℕ) (n at : ℕ) : Type 0 where
@@ -66,12 +67,6 @@ pub record Surveys (text answers : List ℕ) (s : Surveyed) : Type 0 where
   pub lines-fit : s .lines ≤ text-limit
   pub together : answer-lines answers (s .lines) ++ closing (s .map)
       ≡ arrivals empty-map 0 (lines text)
-
--- the corners and the number of lines within their limits
-pub record Fits (d : Decided) : Type 0 where
-  pub corners-whole : length (d .corners) ≡ point-limit
-  pub corners-fit : d .listed ≤ point-limit
-  pub lines-fit : d .ends .lines ≤ text-limit
 
 -- what is decided is the report on the text
 pub record Decides (text answers : List ℕ) (d : Decided) : Type 0 where

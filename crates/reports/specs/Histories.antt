@@ -16,7 +16,7 @@ use Rattle.model.specs.History.{Entry, Run, is-accepted, run, Balanced}
 use Rattle.model.specs.Text.{line-read, lines}
 use Rattle.model.specs.Report.{text-limit, offer-line, closing, report}
 use Rattle.printing.specs.Printing.{arrival-line}
-use Rattle.reports.specs.Lines.{header}
+use Rattle.lines.specs.Lines.{header}
 
 abbrev pub named : Line → List Point → List Point
 named (Line.Named p) ps = p ∷ ps

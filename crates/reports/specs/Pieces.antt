@@ -5,9 +5,9 @@ use mathlib.Core.List.{List, [], _++_}
 use Prim.Native.Nat.{ℕ}
 use lib.ListN.{take}
 use Rattle.reports.specs.declared.Decided.{Decided}
-use Rattle.reports.specs.declared.positions.Piece.{Piece}
-use Rattle.reports.specs.Lines.{corners-in}
-use Rattle.reports.specs.Printing.{PutLines}
+use Rattle.lines.specs.declared.positions.Piece.{Piece}
+use Rattle.reports.specs.Summaries.{corners-in}
+use Rattle.lines.specs.Printing.{PutLines}
 
 -- the printed lines of what was decided
 abbrev pub WroteLines : List ℕ → Decided → ℕ → List ℕ → List ℕ → Piece → Type 0

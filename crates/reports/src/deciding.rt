@@ -1,9 +1,9 @@
 // What becomes of the lines of a text, one after another. A refused line asks the coordinates of
 // the map, and an accepted point is written into the map's arrays: no map is copied.
 
-use super::packing::packed;
 use admission::admission;
 use hull::grow;
+use lines::packing::packed;
 use maps::empty_map;
 use model::Arrival;
 use model::Line;

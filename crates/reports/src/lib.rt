@@ -3,16 +3,14 @@
 // the lines stand in an array that the caller lends, so that no call copies them.
 
 pub mod deciding;
-mod packing;
-pub mod positions;
 
 use crate::deciding::TEXT_LIMIT;
 use crate::deciding::decide_lines;
-use crate::positions::Ends;
-use crate::positions::Piece;
-use crate::positions::put_lines;
-use crate::positions::total_length;
 use corners::listing::corners_of;
+use lines::positions::Ends;
+use lines::positions::Piece;
+use lines::positions::put_lines;
+use lines::positions::total_length;
 use maps::traversal::counts_of;
 use model::Counts;
 use model::POINT_LIMIT;
@@ -22,8 +20,8 @@ ghost use lib.Dec.{ltb};
 ghost use lib.ListN.{length};
 ghost use Rattle.finite.specs.Overwriting.{over};
 ghost use Rattle.model.specs.Report.{text-limit};
-ghost use Rattle.reports.specs.Lines.{report-of};
-ghost use Rattle.reports.specs.Deciding.{Decides, Fits};
+ghost use Rattle.reports.specs.Summaries.{report-of, Fits};
+ghost use Rattle.reports.specs.Deciding.{Decides};
 ghost use Rattle.reports.specs.Pieces.{WroteLines};
 
 // What is decided of a text beside the answers of its lines: the corners, which are the first so

@@ -4,7 +4,7 @@ use borrow.Author.Needs.{needs}
 use Prim.Native.Nat.{_-_, _≤_}
 use native.Mathlib.Omega.{arith}
 use lib.ListN.{length, length-take}
-use Rattle.reports.specs.Lines.{line-count}
+use Rattle.lines.specs.Lines.{line-count}
 use Rattle.outline.proofs.Printing.{Printing, none-printed, buffer-whole, one-printed, goes-further, all-printed, print-failed}
 use Rattle.outline.proofs.print_lines.Statement.{statement}
 use Rattle.outline.proofs.print_lines.Tie as tie

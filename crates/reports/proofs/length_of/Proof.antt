@@ -1,6 +1,6 @@
 -- `reports::length_of` meets its contract: the lengths of all printed lines. Assumes nothing.
 use borrow.Author.Needs.{needs}
-use Rattle.reports.specs.Lines.{report-of}
+use Rattle.reports.specs.Summaries.{report-of}
 use Rattle.reports.proofs.Wholes.{listed-length, corners-few, printable}
 use Rattle.reports.proofs.length_of.Statement.{statement}
 use Rattle.reports.proofs.length_of.Tie as tie

@@ -1,7 +1,7 @@
 -- `reports::write_report` meets its contract: it lends the corners. Assumes
 -- nothing.
 use borrow.Author.Needs.{needs}
-use Rattle.reports.specs.Lines.{report-of}
+use Rattle.reports.specs.Summaries.{report-of}
 use Rattle.reports.proofs.Wholes.{listed-length, corners-few, printable, all-written}
 use Rattle.reports.proofs.write_report.Statement.{statement}
 use Rattle.reports.proofs.write_report.Tie as tie

@@ -14,7 +14,7 @@ use Rattle.model.specs.Maps.{map-of}
 use Rattle.model.specs.Sound.{Shaped}
 use Rattle.hull.proofs.Outcomes.{Accepted}
 use Rattle.hull.proofs.Admissions.{accepted-room}
-use Rattle.reports.specs.Packing.{Packable}
+use Rattle.lines.specs.Packing.{Packable}
 use Rattle.reports.specs.Deciding.{Reports, Stopped}
 use Rattle.reports.proofs.Verdicts.{arrive-sound, arrive-packable}
 use Rattle.reports.proofs.Decisions.{reports-begin, stop-free, stop-further, stop-accepted}

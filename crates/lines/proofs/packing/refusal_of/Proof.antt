@@ -1,8 +1,8 @@
 -- `reports::packing::refusal_of` meets its contract, number by number. Assumes nothing.
 use borrow.Author.Tests.{eq-eqb, ne-eqb}
-use Rattle.reports.specs.Packing.{refusal-of}
-use Rattle.reports.proofs.packing.refusal_of.Statement.{statement}
-use Rattle.reports.proofs.packing.refusal_of.Tie as tie
+use Rattle.lines.specs.Packing.{refusal-of}
+use Rattle.lines.proofs.packing.refusal_of.Statement.{statement}
+use Rattle.lines.proofs.packing.refusal_of.Tie as tie
 
 returns : tie.Need-returns
 unfolding refusal-of

@@ -20,10 +20,10 @@ use Rattle.model.specs.Report.{printed}
 use Rattle.printing.specs.Printing.{answer-line, values-spaced}
 use Rattle.printing.proofs.Values.{spaced-length}
 use Rattle.printing.proofs.Printed.{line-length, refused-most, arrival-line-most}
-use Rattle.reports.specs.declared.positions.Ends.{Ends}
-use Rattle.reports.specs.Packing.{unpacked}
-use Rattle.reports.specs.Lines.{header, answer-at, answer-lines, counts-values, report-line}
-use Rattle.reports.specs.Lines.{lines-from, line-count}
+use Rattle.lines.specs.declared.positions.Ends.{Ends}
+use Rattle.lines.specs.Packing.{unpacked}
+use Rattle.lines.specs.Lines.{header, answer-at, answer-lines, counts-values, report-line}
+use Rattle.lines.specs.Lines.{lines-from, line-count}
 use Rattle.finite.specs.Bounded.{flatten-more}
 
 -- as many bytes as a printed line takes at most

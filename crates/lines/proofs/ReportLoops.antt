@@ -11,10 +11,10 @@ use Rattle.model.specs.Maps.{point-limit}
 use Rattle.model.specs.Report.{text-limit}
 use Rattle.printing.specs.Writing.{Room, Wrote}
 use Rattle.printing.proofs.Overwriting.{wrote-none, wrote-as, wrote-then, wrote-length}
-use Rattle.reports.specs.declared.positions.Ends.{Ends}
-use Rattle.reports.specs.Lines.{report-line, lines-from, line-count}
-use Rattle.reports.specs.Printing.{Printable, PutLines}
-use Rattle.reports.proofs.ReportLines.{line-most, lines-none, lines-more, lines-most}
+use Rattle.lines.specs.declared.positions.Ends.{Ends}
+use Rattle.lines.specs.Lines.{report-line, lines-from, line-count}
+use Rattle.lines.specs.Printing.{Printable, PutLines}
+use Rattle.lines.proofs.ReportLines.{line-most, lines-none, lines-more, lines-most}
 
 -- ---- the loop that adds up their lengths
 

@@ -8,11 +8,11 @@ use lib.ListN.{length}
 use Rattle.model.specs.Spelling.{bytes}
 use Rattle.printing.specs.Printing.{arrival-line}
 use Rattle.printing.proofs.Values.{spaced-length}
-use Rattle.reports.specs.Packing.{unpacked}
-use Rattle.reports.specs.Lines.{counts-values}
-use Rattle.reports.proofs.ReportLines.{header-is, long-is, answer-is, corners-is, counts-is, corners-length, counts-length}
-use Rattle.reports.proofs.positions.line_length.Statement.{statement}
-use Rattle.reports.proofs.positions.line_length.Tie as tie
+use Rattle.lines.specs.Packing.{unpacked}
+use Rattle.lines.specs.Lines.{counts-values}
+use Rattle.lines.proofs.ReportLines.{header-is, long-is, answer-is, corners-is, counts-is, corners-length, counts-length}
+use Rattle.lines.proofs.positions.line_length.Statement.{statement}
+use Rattle.lines.proofs.positions.line_length.Tie as tie
 
 returns : tie.Need-returns
 unfolding bytes

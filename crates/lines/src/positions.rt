@@ -16,8 +16,8 @@ ghost use Prim.Native.Nat.{_≤_};
 ghost use lib.ListN.{getD, length};
 ghost use Rattle.model.specs.Maps.{point-limit};
 ghost use Rattle.printing.specs.Writing.{Room, Wrote};
-ghost use Rattle.reports.specs.Lines.{line-count, lines-from, report-line};
-ghost use Rattle.reports.specs.Printing.{Printable, PutLines};
+ghost use Rattle.lines.specs.Lines.{line-count, lines-from, report-line};
+ghost use Rattle.lines.specs.Printing.{Printable, PutLines};
 
 // How many lines the text has, whether it is too long to be read, and the counts of the map at its
 // end.
@@ -34,7 +34,7 @@ pub struct Piece {
 }
 
 // How many printed lines a report has.
-pub(crate) fn line_count(ends: Ends) -> usize
+pub fn line_count(ends: Ends) -> usize
     requires { ⌜ Printable ends ⌝ }
     ensures { λ r. ⌜ r ≡ line-count ends ⌝ }
 {
@@ -42,12 +42,7 @@ pub(crate) fn line_count(ends: Ends) -> usize
 }
 
 // How many bytes the printed line at position j takes.
-pub(crate) fn line_length<'a>(
-    answers: &'a [u32],
-    corners: &'a [usize],
-    ends: Ends,
-    j: usize,
-) -> usize
+pub fn line_length<'a>(answers: &'a [u32], corners: &'a [usize], ends: Ends, j: usize) -> usize
     requires { ⌜ length (now corners) ≤ point-limit ⌝ }
     ensures { λ r. ⌜ r ≡ length (report-line (now (answers .entry)) (now (corners .entry)) ends j) ⌝ }
 {
@@ -76,7 +71,7 @@ pub(crate) fn line_length<'a>(
 }
 
 // Writes the printed line at position j.
-pub(crate) fn put_line<'a>(
+pub fn put_line<'a>(
     lent: &mut [u8],
     at: usize,
     answers: &'a [u32],
@@ -120,7 +115,7 @@ fn answer_at(answers: &[u32], i: usize) -> u32
 }
 
 // How many bytes all printed lines take.
-pub(crate) fn total_length<'a>(answers: &'a [u32], corners: &'a [usize], ends: Ends) -> usize
+pub fn total_length<'a>(answers: &'a [u32], corners: &'a [usize], ends: Ends) -> usize
     requires { ⌜ length (now corners) ≤ point-limit ⌝ }
     requires { ⌜ Printable ends ⌝ }
     ensures { λ r. ⌜ r ≡
@@ -135,7 +130,7 @@ pub(crate) fn total_length<'a>(answers: &'a [u32], corners: &'a [usize], ends: E
 }
 
 // Writes the printed lines from a position on, as many whole ones as the list holds.
-pub(crate) fn put_lines<'a>(
+pub fn put_lines<'a>(
     lent: &mut [u8],
     answers: &'a [u32],
     corners: &'a [usize],

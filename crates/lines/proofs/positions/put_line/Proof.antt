@@ -7,11 +7,11 @@ use denote.Ref.{now}
 use Rattle.model.specs.Spelling.{bytes}
 use Rattle.printing.specs.Printing.{arrival-line}
 use Rattle.printing.proofs.Overwriting.{room-as, wrote-as}
-use Rattle.reports.specs.Packing.{unpacked}
-use Rattle.reports.specs.Lines.{answer-at, report-line}
-use Rattle.reports.proofs.ReportLines.{header-is, long-is, answer-is, corners-is, counts-is}
-use Rattle.reports.proofs.positions.put_line.Statement.{statement}
-use Rattle.reports.proofs.positions.put_line.Tie as tie
+use Rattle.lines.specs.Packing.{unpacked}
+use Rattle.lines.specs.Lines.{answer-at, report-line}
+use Rattle.lines.proofs.ReportLines.{header-is, long-is, answer-is, corners-is, counts-is}
+use Rattle.lines.proofs.positions.put_line.Statement.{statement}
+use Rattle.lines.proofs.positions.put_line.Tie as tie
 
 put-word-requires : tie.Need-put-word-requires
 unfolding bytes

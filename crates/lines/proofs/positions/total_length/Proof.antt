@@ -3,10 +3,10 @@
 use borrow.Author.Needs.{needs}
 use Prim.Native.Nat.{_-_, _<_}
 use native.Mathlib.Omega.{arith}
-use Rattle.reports.specs.Lines.{line-count}
-use Rattle.reports.proofs.ReportLoops.{Totalled, none-totalled, one-totalled, total-most, totalled-all}
-use Rattle.reports.proofs.positions.total_length.Statement.{statement}
-use Rattle.reports.proofs.positions.total_length.Tie as tie
+use Rattle.lines.specs.Lines.{line-count}
+use Rattle.lines.proofs.ReportLoops.{Totalled, none-totalled, one-totalled, total-most, totalled-all}
+use Rattle.lines.proofs.positions.total_length.Statement.{statement}
+use Rattle.lines.proofs.positions.total_length.Tie as tie
 
 abbrev Inv-loop : tie.InvT-loop
 Inv-loop answers corners ends count total₀ j₀ total j = Totalled answers corners ends total j

@@ -5,9 +5,9 @@ use Prim.Native.Nat.{ℕ, _+_, _-_, _≤_, _<_}
 use lib.ListN.{length}
 use Rattle.model.specs.Report.{text-limit}
 use Rattle.printing.specs.Writing.{Wrote}
-use Rattle.reports.specs.declared.positions.Ends.{Ends}
-use Rattle.reports.specs.declared.positions.Piece.{Piece}
-use Rattle.reports.specs.Lines.{report-line, lines-from, line-count}
+use Rattle.lines.specs.declared.positions.Ends.{Ends}
+use Rattle.lines.specs.declared.positions.Piece.{Piece}
+use Rattle.lines.specs.Lines.{report-line, lines-from, line-count}
 
 pub record Printable (ends : Ends) : Type 0 where
   pub lines-fit : ends .lines ≤ text-limit

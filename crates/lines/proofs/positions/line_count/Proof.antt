@@ -1,8 +1,8 @@
 -- `reports::positions::line_count` meets its contract. Assumes nothing.
 use borrow.Author.Needs.{needs}
-use Rattle.reports.specs.Lines.{line-count}
-use Rattle.reports.proofs.positions.line_count.Statement.{statement}
-use Rattle.reports.proofs.positions.line_count.Tie as tie
+use Rattle.lines.specs.Lines.{line-count}
+use Rattle.lines.proofs.positions.line_count.Statement.{statement}
+use Rattle.lines.proofs.positions.line_count.Tie as tie
 
 returns : tie.Need-returns
 unfolding line-count

@@ -5,7 +5,7 @@ use model::POINT_LIMIT;
 use model::Refusal;
 use model::refusal_number;
 ghost use mathlib.Core.Path.{_≡_};
-ghost use Rattle.reports.specs.Packing.{Packable, packed, refusal-of, unpacked};
+ghost use Rattle.lines.specs.Packing.{Packable, packed, refusal-of, unpacked};
 
 // The least numbers that stand for arrivals; an outside arrival adds what it reports.
 const FIRST: usize = 11;
@@ -17,7 +17,7 @@ const INSIDE: usize = 13;
 const OUTSIDE: usize = 14;
 
 // The number of an answer.
-pub(crate) fn packed(arrival: Arrival) -> u32
+pub fn packed(arrival: Arrival) -> u32
     requires { ⌜ Packable arrival ⌝ }
     ensures { λ r. ⌜ r ≡ packed arrival ⌝ }
 {
@@ -35,7 +35,7 @@ pub(crate) fn packed(arrival: Arrival) -> u32
 }
 
 // The answer of a number.
-pub(crate) fn unpacked(number: u32) -> Arrival
+pub fn unpacked(number: u32) -> Arrival
     ensures { λ r. ⌜ r ≡ unpacked number ⌝ }
 {
     let n = number as usize;

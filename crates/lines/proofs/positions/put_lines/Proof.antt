@@ -3,10 +3,10 @@
 use borrow.Author.Needs.{needs}
 use Prim.Native.Nat.{_-_}
 use native.Mathlib.Omega.{arith}
-use Rattle.reports.specs.Lines.{line-count}
-use Rattle.reports.proofs.ReportLoops.{Putting, none-put, put-full, put-room, put-next, put-all}
-use Rattle.reports.proofs.positions.put_lines.Statement.{statement}
-use Rattle.reports.proofs.positions.put_lines.Tie as tie
+use Rattle.lines.specs.Lines.{line-count}
+use Rattle.lines.proofs.ReportLoops.{Putting, none-put, put-full, put-room, put-next, put-all}
+use Rattle.lines.proofs.positions.put_lines.Statement.{statement}
+use Rattle.lines.proofs.positions.put_lines.Tie as tie
 
 abbrev Inv-loop : tie.InvT-loop
 Inv-loop lent₀ answers corners ends from count next₀ end₀ lent next end =

@@ -2,8 +2,8 @@
 use borrow.Author.Needs.{needs}
 use mathlib.Core.Path.{sym}
 use lib.ListN.{List·getD-eq-default}
-use Rattle.reports.proofs.positions.answer_at.Statement.{statement}
-use Rattle.reports.proofs.positions.answer_at.Tie as tie
+use Rattle.lines.proofs.positions.answer_at.Statement.{statement}
+use Rattle.lines.proofs.positions.answer_at.Tie as tie
 
 returns-2 : tie.Need-returns-2
 returns-2 c = sym (List·getD-eq-default (c .before .args .answers .now) 0 (c .if1 .left))

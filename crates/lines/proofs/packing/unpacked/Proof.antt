@@ -4,9 +4,9 @@ use borrow.Author.Needs.{needs}
 use mathlib.Core.Path.{ap}
 use borrow.Author.Tests.{lt-ltb, le-ltb, eq-eqb, ne-eqb}
 use Rattle.model.specs.declared.Arrival.{Arrival}
-use Rattle.reports.specs.Packing.{unpacked}
-use Rattle.reports.proofs.packing.unpacked.Statement.{statement}
-use Rattle.reports.proofs.packing.unpacked.Tie as tie
+use Rattle.lines.specs.Packing.{unpacked}
+use Rattle.lines.proofs.packing.unpacked.Statement.{statement}
+use Rattle.lines.proofs.packing.unpacked.Tie as tie
 
 returns : tie.Need-returns
 unfolding unpacked

@@ -8,9 +8,9 @@ use Rattle.model.specs.declared.Refusal.{Refusal}
 use Rattle.model.specs.declared.Arrival.{Arrival}
 use Rattle.model.specs.Refusals.{number}
 use Rattle.model.specs.Maps.{point-limit}
-use Rattle.reports.specs.Packing.{OfLine, full, out-of-range, repeated, in-line, bad-line}
-use Rattle.reports.specs.Packing.{SmallValues, Packable, first, second, inside, outside, refused}
-use Rattle.reports.specs.Packing.{packed, refusal-of, outside-of, unpacked}
+use Rattle.lines.specs.Packing.{OfLine, full, out-of-range, repeated, in-line, bad-line}
+use Rattle.lines.specs.Packing.{SmallValues, Packable, first, second, inside, outside, refused}
+use Rattle.lines.specs.Packing.{packed, refusal-of, outside-of, unpacked}
 
 refusal-back : {r : Refusal} → OfLine r → unpacked (number r) ≡ Arrival.Refused r
 unfolding unpacked refusal-of number

@@ -3,10 +3,10 @@ use borrow.Author.Needs.{needs}
 use mathlib.Core.Path.{sym, ap, _∙_}
 use native.Mathlib.Omega.{arith}
 use Rattle.model.proofs.Answers.{number-most}
-use Rattle.reports.specs.Packing.{SmallValues, packed}
-use Rattle.reports.proofs.Packed.{small-values}
-use Rattle.reports.proofs.packing.packed.Statement.{statement}
-use Rattle.reports.proofs.packing.packed.Tie as tie
+use Rattle.lines.specs.Packing.{SmallValues, packed}
+use Rattle.lines.proofs.Packed.{small-values}
+use Rattle.lines.proofs.packing.packed.Statement.{statement}
+use Rattle.lines.proofs.packing.packed.Tie as tie
 
 -- what an outside arrival reports is small
 small : (c : tie.After-arrival) →

@@ -1,13 +1,13 @@
 -- The printed lines of a report by their positions, in the order of this page: the lines of the
 -- answers; one printed line, of the answers that were decided, the corners and the ends; how many
--- there are; those from a position on; the report. Document 01, "The text program". Position 0 is
+-- there are; those from a position on. Document 01, "The text program". Position 0 is
 -- the first line; a text that is too long has one line more, and any other its arrivals, the
 -- corners and the counts. Assumes nothing.
 use mathlib.Core.Bool.{cond}
 use mathlib.Core.List.{List, [], _∷_, flatten}
 use Prim.Native.Nat.{ℕ, _+_, _-_}
 use lib.Dec.{ltb, eqb}
-use lib.ListN.{getD, take}
+use lib.ListN.{getD}
 use Rattle.finite.specs.Bounded.{table}
 use Rattle.model.specs.declared.Refusal.{Refusal}
 use Rattle.model.specs.declared.Counts.{Counts}
@@ -15,9 +15,8 @@ use Rattle.model.specs.Spelling.{bytes}
 use Rattle.model.specs.Answers.{refused}
 use Rattle.model.specs.Report.{printed}
 use Rattle.printing.specs.Printing.{answer-line, arrival-line}
-use Rattle.reports.specs.declared.positions.Ends.{Ends}
-use Rattle.reports.specs.declared.Decided.{Decided}
-use Rattle.reports.specs.Packing.{unpacked}
+use Rattle.lines.specs.declared.positions.Ends.{Ends}
+use Rattle.lines.specs.Packing.{unpacked}
 
 -- the line of the answer that stands at place i
 abbrev pub answer-at : List ℕ → ℕ → List ℕ
@@ -50,10 +49,3 @@ module _ (answers corners : List ℕ) (ends : Ends) where
 -- how many printed lines there are
 unfoldable pub line-count : Ends → ℕ
 line-count ends = cond (ends .long) 2 (ends .lines + 3)
-
--- the corners that were decided
-abbrev pub corners-in : Decided → List ℕ
-corners-in d = take (d .listed) (d .corners)
-
-unfoldable pub report-of : List ℕ → Decided → List ℕ
-report-of answers d = lines-from answers (corners-in d) (d .ends) 0 (line-count (d .ends))

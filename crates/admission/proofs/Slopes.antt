@@ -1,5 +1,5 @@
 -- The slope of a line, in the order of this page: quotients; what the machine computes; points in
--- line with p have one slope from p; the slopes seen on the way through the points. Assumes nothing.
+-- line with p have one slope from p; the slopes seen on the way through the points.
 use mathlib.Core.Path.{_≡_, refl, sym, ap, ap₂, subst, _∙_}
 use mathlib.Core.Logic.{_≢_, ⊎-elim}
 use mathlib.Core.Bool.{true, false, _&&_, true≢false}

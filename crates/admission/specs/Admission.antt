@@ -1,6 +1,6 @@
 -- Why a sound map refuses a point, by the map's coordinates alone, for code that is lent its
 -- arrays, in the order of this page: all places, which hold points in range; what the rules come to.
--- Document 01, "The number on the returned sheet", 2 to 5. Assumes nothing.
+-- Document 01, "The number on the returned sheet", 2 to 5.
 use mathlib.Core.Path.{_≡_}
 use mathlib.Core.Bool.{not}
 use mathlib.Core.List.{List, [], _∷_}

@@ -12,13 +12,13 @@ use Rattle.model.specs.Plane.{in-range, same-point, in-line}
 use Rattle.model.specs.Maps.{point-at}
 
 -- places that hold points in range, as those of a sound map do past its last point too, and a point in range
-pub record Ranged (xs ys : List ℤ) (p : Point) : Type 0 where
+pub record RangedQuery (xs ys : List ℤ) (p : Point) : Type 0 where
   pub places : (k : ℕ) → T (in-range (point-at xs ys k))
   pub offered : T (in-range p)
 
 -- the same, and a number of first points that are all other points
 pub record NewAmong (xs ys : List ℤ) (count : ℕ) (p : Point) : Type 0 where
-  pub ranged : Ranged xs ys p
+  pub ranged : RangedQuery xs ys p
   pub new : any count (λ k. same-point (point-at xs ys k) p) ≡ false
 
 -- p is in line with point j and a point before it

@@ -1,6 +1,6 @@
 -- The slope of a line, by which lines through one point are told apart: points in line with p have
 -- one slope from p, and points of one slope from p are seldom not in line with it. In the order of
--- this page: how many slopes there are; what is divided; the slope. Assumes nothing.
+-- this page: how many slopes there are; what is divided; the slope.
 use Prim.Native.Nat.{ℕ, _+_, _*_, _/_, _%_}
 use lib.IntN.{ℤ, pos, _+ℤ_, _-ℤ_, _*ℤ_, natAbs}
 use Rattle.model.specs.declared.Point.{Point}

@@ -9,7 +9,7 @@ ghost use mathlib.Core.Bool.{_&&_};
 ghost use lib.Dec.{T};
 ghost use lib.ListN.{length};
 ghost use Rattle.model.specs.Plane.{in-range};
-ghost use Rattle.admission.specs.Ranges.{NewAmong, Ranged, in-line-among, in-line-with};
+ghost use Rattle.admission.specs.Ranges.{NewAmong, RangedQuery, in-line-among, in-line-with};
 ghost use Rattle.admission.specs.Slopes.{slope, slope-words};
 
 // How many slopes are told apart.
@@ -63,7 +63,7 @@ fn slope(p: Point, a: Point) -> usize
 
 // Whether p is in line with point j and a point before it.
 fn is_in_line_with<'a>(xs: &'a [i64], ys: &'a [i64], j: usize, p: Point) -> bool
-    requires { ⌜ Ranged (now xs) (now ys) p ⌝ }
+    requires { ⌜ RangedQuery (now xs) (now ys) p ⌝ }
     ensures { λ r. ⌜ r ≡ in-line-with (now (xs .entry)) (now (ys .entry)) j p ⌝ }
 {
     let b = point_at(xs, ys, j);

@@ -1,7 +1,6 @@
 -- The loops that look for the lowest corner and list the corners, in this order, each with its
 -- invariant and the laws of its start, of a step and of the end. What is found and what is still
 -- ahead make up the answer together.
--- Assumes nothing.
 use mathlib.Core.Path.{_≡_, refl, sym, ap, subst, _∙_}
 use mathlib.Core.Logic.{_≢_}
 use mathlib.Core.List.{List, [], _∷_, _++_, append-assoc, append-nil}
@@ -64,61 +63,61 @@ module _ (m : Map) where
 
 module _ (m : Map) (start : ℕ) where
   -- what is listed and what is ahead are the corners from `start`
-  pub record Listing (places : List ℕ) (listed a ahead : ℕ) : Type 0 where
-    pub whole : length places ≡ point-limit
+  pub record Listing (points : List ℕ) (listed a ahead : ℕ) : Type 0 where
+    pub whole : length points ≡ point-limit
     pub few : listed + ahead ≤ m .count
-    pub so-far : take listed places ++ ring (next-corner m) start ahead a ≡ corners-from m start
+    pub so-far : take listed points ++ ring (next-corner m) start ahead a ≡ corners-from m start
 
-  pub listing-first : {places : List ℕ} {ahead : ℕ} → length places ≡ point-limit → ahead ≡ m .count →
-      Listing places 0 start ahead
+  pub listing-first : {points : List ℕ} {ahead : ℕ} → length points ≡ point-limit → ahead ≡ m .count →
+      Listing points 0 start ahead
   unfolding corners-from
   listing-first e all = rw all (record { whole = e; few = omega arith; so-far = refl })
 
-  module _ {places : List ℕ} {listed a b ahead : ℕ} (u : Listing places listed a ahead) (more : 0 < ahead)
+  module _ {points : List ℕ} {listed a b ahead : ℕ} (u : Listing points listed a ahead) (more : 0 < ahead)
       (room : listed < point-limit) (to : b ≡ next-corner m a) where
     grown : (on : ℕ) → on < ahead → ring (next-corner m) start ahead a ≡ a ∷ ring (next-corner m) start on b →
-        Listing (set places listed a) (listed + 1) b on
+        Listing (set points listed a) (listed + 1) b on
     grown on h is =
         record {
-          whole = length-set places listed a ∙ u .whole;
+          whole = length-set points listed a ∙ u .whole;
           few = omega (arith, u .few);
           so-far =
-              let inside : listed < length places = omega (arith, u .whole) in
-              ap (λ (j : ℕ). take j (set places listed a) ++ ring (next-corner m) start on b) (add-one listed)
-              ∙ ap (λ (t : List ℕ). t ++ ring (next-corner m) start on b) (take-suc-set places listed a inside)
-              ∙ append-assoc (take listed places) (a ∷ []) (ring (next-corner m) start on b)
-              ∙ ap (λ (t : List ℕ). take listed places ++ t) (sym is)
+              let inside : listed < length points = omega (arith, u .whole) in
+              ap (λ (j : ℕ). take j (set points listed a) ++ ring (next-corner m) start on b) (add-one listed)
+              ∙ ap (λ (t : List ℕ). t ++ ring (next-corner m) start on b) (take-suc-set points listed a inside)
+              ∙ append-assoc (take listed points) (a ∷ []) (ring (next-corner m) start on b)
+              ∙ ap (λ (t : List ℕ). take listed points ++ t) (sym is)
               ∙ u .so-far;
         }
 
-    pub listing-last : b ≡ start → Listing (set places listed a) (listed + 1) b 0
+    pub listing-last : b ≡ start → Listing (set points listed a) (listed + 1) b 0
     listing-last e = grown 0 more (rw to (ring-last (next-corner m) start ahead a more (sym to ∙ e)))
 
-    pub listing-more : {on : ℕ} → on ≡ ahead - 1 → b ≢ start → Listing (set places listed a) (listed + 1) b on
+    pub listing-more : {on : ℕ} → on ≡ ahead - 1 → b ≢ start → Listing (set points listed a) (listed + 1) b on
     listing-more one-less n =
         rw one-less
         (grown (ahead - 1) (omega arith) (rw to (ring-more (next-corner m) start ahead a more (λ e. n (to ∙ e)))))
 
 pub listing-end : {m : Map} → Shaped m → 2 ≤ m .count → {start : ℕ} → start ≡ lowest-corner m →
-    {places : List ℕ} {listed a ahead : ℕ} → Listing m start places listed a ahead → ahead ≤ 0 →
-    ListsCorners m (record { places = places; count = listed })
+    {points : List ℕ} {listed a ahead : ℕ} → Listing m start points listed a ahead → ahead ≤ 0 →
+    ListsCorners m (record { points = points; count = listed })
 unfolding ring
-listing-end {m} s two {start} is {places} {listed} {a} {ahead} u h =
+listing-end {m} s two {start} is {points} {listed} {a} {ahead} u h =
     let none : ahead ≡ 0 = omega arith in
-    let w = subst (Listing m start places listed a) none u in
+    let w = subst (Listing m start points listed a) none u in
     let fits : listed ≤ point-limit = omega (arith, u .few, s .links .fits) in
-    let members : take listed places ≡ corners m =
-    sym (append-nil (take listed places)) ∙ w .so-far ∙ ap (corners-from m) is ∙ sym (corners-lowest s two) in
+    let members : take listed points ≡ corners m =
+    sym (append-nil (take listed points)) ∙ w .so-far ∙ ap (corners-from m) is ∙ sym (corners-lowest s two) in
     record {
       members = members;
-      number = sym (length-take-le listed places (omega (arith, u .whole))) ∙ ap length members;
+      number = sym (length-take-le listed points (omega (arith, u .whole))) ∙ ap length members;
       whole = u .whole;
       fits = fits;
     }
 
 -- one point or none
 pub listing-few : {m : Map} → m .count < 2 → {n : ℕ} → n ≡ m .count →
-    ListsCorners m (record { places = replicate point-limit 0; count = n })
+    ListsCorners m (record { points = replicate point-limit 0; count = n })
 unfolding table
 listing-few {m} few {n} e =
     let members : take n (replicate point-limit 0) ≡ corners m =

@@ -2,7 +2,7 @@
 -- corner is there, and is the only one; the listing is the outline rotated, so that it has the same
 -- members, each once, and leads on as the edges do; one point lists itself, none lists nothing.
 -- Document 01: "Corners are listed anticlockwise from the smallest y, then the smallest x. One point
--- lists itself." Assumes nothing.
+-- lists itself."
 use mathlib.Core.Path.{_≡_, sym, ap, subst, _∙_}
 use mathlib.Core.Logic.{_≢_, _↔_, ⊎-elim}
 use mathlib.Core.Bool.{Bool, not, cond}

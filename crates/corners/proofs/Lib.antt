@@ -2,7 +2,7 @@
 --     Corners        the listing is the rotated outline; the lowest corner is the only one
 --     CornerLoops    the loops that look for and list the corners
 --     Views          placing by one look at each edge
---     Placing        what each verdict on a query point means
+--     Placing        what each answer on a query point means
 pub mod Corners
 pub mod CornerLoops
 pub mod Views

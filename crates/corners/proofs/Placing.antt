@@ -1,10 +1,10 @@
--- What each verdict on a query point means, in the order of this page: the number of strictly visible
--- edges; the meaning of a verdict; that every verdict has it; that "inside" is given just where the
+-- What each answer on a query point means, in the order of this page: the number of strictly visible
+-- edges; the meaning of an answer; that every answer has it; that "inside" is given just where the
 -- point is strictly left of every edge, and never with two corners; that "outside" with three corners
 -- or more sees an edge, so that 0 is reported for two corners only.
 -- Document 01: ""none" with fewer than two points; else its corner; else the outline edge strictly
 -- between whose ends it lies, of two such edges the first in listing order; else "inside" if all
--- orientations are positive; else "outside" with the number of visible edges." Assumes nothing.
+-- orientations are positive; else "outside" with the number of visible edges."
 use mathlib.Core.Path.{_≡_, refl, sym, ap, subst, _∙_}
 use mathlib.Core.Logic.{_≢_, _↔_, ⊎-elim}
 use mathlib.Core.Bool.{Bool, not, cond}
@@ -50,7 +50,7 @@ between-opposite : (a b p : Point) → T (strictly-between a b p) → T (opposit
 unfolding strictly-between
 between-opposite a b p t = and-right (in-line a b p) (opposite a b p) t
 
--- ---- the meaning of a verdict
+-- ---- the meaning of an answer
 
 module _ (m : Map) (p : Point) where
   -- p is no corner; p lies strictly between the ends of no edge; p is strictly left of every edge
@@ -89,7 +89,7 @@ module _ (m : Map) (p : Point) where
   Means (Placed.Outside v) = LiesOutside v
   Means (Placed.Refused r) = ⊥
 
--- ---- every verdict has its meaning
+-- ---- every answer has its meaning
 
 module _ {m : Map} (s : Shaped m) (two : 2 ≤ m .count) (p : Point) where
   on : (a : ℕ) → T (elem a (corners m)) → T (elem a (outline m))

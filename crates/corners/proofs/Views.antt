@@ -1,7 +1,7 @@
 -- Placing a point by one look at each edge, in the order of this page: what the side of an edge says
--- of the tests; what is found in a list of corners; the verdict from it; the loop over the corners,
+-- of the tests; what is found in a list of corners; the answer from it; the loop over the corners,
 -- with the laws of its start, of a step, of an early answer and of the end.
--- What is found and what is still ahead make up the answer together. Assumes nothing.
+-- What is found and what is still ahead make up the answer together.
 use mathlib.Core.Path.{_≡_, refl, sym, ap, _∙_}
 use mathlib.Core.Bool.{Bool, true, false, cond, _&&_, _||_, and-true, and-false, or-true, or-false}
 use mathlib.Core.List.{List, [], _∷_}
@@ -145,30 +145,30 @@ module _ (m : Map) (p : Point) where
       ∙ visible-step v (side-from a) a (count-in (strictly-sees m p) s)
       ∙ ap (λ (b : Bool). v .visible + (one-if b + count-in (strictly-sees m p) s)) (sym (says a .visible))
 
-  -- ---- the verdict
+  -- ---- the answer
 
   abbrev nothing-found : View
   nothing-found = record { start = 0; found = false; inside = true; visible = 0 }
 
-  abbrev pub verdict : View → Placed
-  verdict v =
+  abbrev pub place-seen : View → Placed
+  place-seen v =
       cond (v .found) (Placed.Edge (v .start) (next-corner m (v .start)))
       (cond (v .inside) Placed.Inside (Placed.Outside (v .visible)))
 
   module _ (v : View) where
-    pub edge-verdict : v .found ≡ true → {b : ℕ} → b ≡ next-corner m (v .start) → Placed.Edge (v .start) b ≡ verdict v
-    edge-verdict e to = rw (e, to)
+    pub edge-seen : v .found ≡ true → {b : ℕ} → b ≡ next-corner m (v .start) → Placed.Edge (v .start) b ≡ place-seen v
+    edge-seen e to = rw (e, to)
 
-    pub inside-verdict : v .found ≡ false → v .inside ≡ true → Placed.Inside ≡ verdict v
-    inside-verdict e i = rw (e, i)
+    pub inside-seen : v .found ≡ false → v .inside ≡ true → Placed.Inside ≡ place-seen v
+    inside-seen e i = rw (e, i)
 
-    pub outside-verdict : v .found ≡ false → v .inside ≡ false → Placed.Outside (v .visible) ≡ verdict v
-    outside-verdict e i = rw (e, i)
+    pub outside-seen : v .found ≡ false → v .inside ≡ false → Placed.Outside (v .visible) ≡ place-seen v
+    outside-seen e i = rw (e, i)
 
-  verdict-is : any-in (is-at m p) (corners m) ≡ false →
-      verdict (view-of m p nothing-found (corners m)) ≡ place-among m p
+  place-seen-is : any-in (is-at m p) (corners m) ≡ false →
+      place-seen (view-of m p nothing-found (corners m)) ≡ place-among m p
   unfolding place-among strictly-visible
-  verdict-is none =
+  place-seen-is none =
       rw (
         none,
         view-found nothing-found (corners m),
@@ -199,14 +199,14 @@ module _ (m : Map) (p : Point) where
 
   module _ {list : CornerList} (lists : ListsCorners m list) {view : View} {i : ℕ} (u : Scanning m p view i)
       (more : i < list .count) {here : Bool}
-      (tests : here ≡ same-at (m .xs) (m .ys) (getD (list .places) i 0) p) where
+      (tests : here ≡ same-at (m .xs) (m .ys) (getD (list .points) i 0) p) where
     abbrev a : ℕ
-    a = getD (list .places) i 0
+    a = getD (list .points) i 0
 
     ahead : drop i (corners m) ≡ a ∷ drop (suc i) (corners m)
     ahead =
         let corner : getD (corners m) i 0 ≡ a =
-        ap (λ (s : List ℕ). getD s i 0) (sym (lists .members)) ∙ getD-take (list .count) (list .places) i 0 more in
+        ap (λ (s : List ℕ). getD s i 0) (sym (lists .members)) ∙ getD-take (list .count) (list .points) i 0 more in
         drop-cons (corners m) i 0 (omega (arith, lists .number))
         ∙ ap (λ (k : ℕ). k ∷ drop (suc i) (corners m)) corner
 
@@ -257,11 +257,11 @@ module _ (m : Map) (p : Point) where
         }
 
   pub at-end : {list : CornerList} → ListsCorners m list → {view : View} {i : ℕ} → Scanning m p view i → list .count ≤ i →
-      2 ≤ m .count → verdict m p view ≡ cond (ltb (m .count) 2) Placed.NoOutline (place-among m p)
+      2 ≤ m .count → place-seen m p view ≡ cond (ltb (m .count) 2) Placed.NoOutline (place-among m p)
   unfolding any-in view-of
   at-end {list} lists {view} {i} u h two =
       let none : drop i (corners m) ≡ [] = drop-of-length-le (corners m) {i = i} (omega (arith, lists .number)) in
       let view-is : view ≡ view-of m p (nothing-found m p) (corners m) =
       sym (ap (view-of m p view) none) ∙ u .rest in
       let no-corner : any-in (is-at m p) (corners m) ≡ false = sym (u .any-at) ∙ ap (any-in (is-at m p)) none in
-      rw (le-ltb (m .count) 2 two) (ap (verdict m p) view-is ∙ verdict-is m p no-corner)
+      rw (le-ltb (m .count) 2 two) (ap (place-seen m p) view-is ∙ place-seen-is m p no-corner)

@@ -1,7 +1,6 @@
 -- Listing the corners, in the order of this page: what a list of corners holds; that these are a
 -- map's; a lent list with room for them; the lower of two points.
 -- Document 01: "Corners are listed anticlockwise from the smallest y, then the smallest x."
--- Assumes nothing.
 use mathlib.Core.Path.{_≡_}
 use mathlib.Core.Bool.{cond}
 use mathlib.Core.List.{List}
@@ -17,18 +16,18 @@ use Rattle.corners.specs.declared.listing.CornerList.{CornerList}
 
 -- what the list holds
 abbrev pub listed : CornerList → List ℕ
-listed r = take (r .count) (r .places)
+listed r = take (r .count) (r .points)
 
 -- it holds the corners of the map
 pub record ListsCorners (m : Map) (r : CornerList) : Type 0 where
   pub members : listed r ≡ corners m
   pub number : r .count ≡ length (corners m)
-  pub whole : length (r .places) ≡ point-limit
+  pub whole : length (r .points) ≡ point-limit
   pub fits : r .count ≤ point-limit
 
 -- the list has its declared length, and the lent list has room for what it holds
 pub record HasRoom (r : CornerList) (lent : List ℕ) : Type 0 where
-  pub whole : length (r .places) ≡ point-limit
+  pub whole : length (r .points) ≡ point-limit
   pub fits : r .count ≤ point-limit
   pub room : r .count ≤ length lent
 

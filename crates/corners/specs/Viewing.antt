@@ -1,7 +1,6 @@
 -- Looking at the edges in turn for where a point lies, in the order of this page: whether a corner is
 -- the point; how the point lies to an edge; what is found with one edge more; and with a list of
 -- corners, each with the edge that leaves it.
--- Assumes nothing.
 use mathlib.Core.Bool.{Bool, true, false, cond}
 use mathlib.Core.List.{List, [], _∷_}
 use Prim.Native.Nat.{ℕ, _+_}

@@ -12,9 +12,9 @@ ghost use Rattle.model.specs.Outline.{lowest-corner};
 ghost use Rattle.model.specs.Sound.{Shaped};
 ghost use Rattle.corners.specs.Listing.{HasRoom, ListsCorners, listed, lower-at};
 
-// The corners of a map are the first `count` of `places`, in listing order.
+// The corners of a map are the first `count` of `points`, in listing order.
 pub struct CornerList {
-    pub places: [usize; POINT_LIMIT],
+    pub points: [usize; POINT_LIMIT],
     pub count: usize,
 }
 
@@ -23,16 +23,16 @@ pub fn corners_of(map: Map) -> CornerList
     requires { ⌜ Shaped map ⌝ }
     ensures { λ r. ⌜ ListsCorners map r ⌝ }
 {
-    let mut places = [0usize; POINT_LIMIT];
+    let mut points = [0usize; POINT_LIMIT];
     let count = map.count;
     if count < 2 {
-        return CornerList { places, count };
+        return CornerList { points, count };
     }
     let first = lowest_corner(map);
     let mut listed = 0;
     let mut a = first;
     for _ in 0..count {
-        places[listed] = a;
+        points[listed] = a;
         listed += 1;
         a = next_corner(&map.edge, a);
         if a == first {
@@ -40,7 +40,7 @@ pub fn corners_of(map: Map) -> CornerList
         }
     }
     CornerList {
-        places,
+        points,
         count: listed,
     }
 }
@@ -83,6 +83,6 @@ pub fn write_corners(list: CornerList, lent: &mut [usize])
 {
     let count = list.count;
     for i in 0..count {
-        lent[i] = list.places[i];
+        lent[i] = list.points[i];
     }
 }

@@ -17,7 +17,7 @@ ghost use Rattle.model.specs.Plane.{in-range};
 ghost use Rattle.model.specs.Maps.{point-limit};
 ghost use Rattle.model.specs.Sound.{Shaped};
 ghost use Rattle.model.specs.Placing.{place-among};
-ghost use Rattle.admission.specs.Ranges.{Ranged};
+ghost use Rattle.admission.specs.Ranges.{RangedQuery};
 ghost use Rattle.corners.specs.Viewing.{side-at, side-of, same-at, viewed};
 
 // How a point lies to an edge: strictly left of it, so that it is visible, in line and strictly
@@ -55,7 +55,7 @@ pub fn placed(map: Map, p: Point) -> Placed
         visible: 0,
     };
     for i in 0..count {
-        let a = list.places[i];
+        let a = list.points[i];
         if is_at(&map.xs, &map.ys, a, p) {
             return Placed::Corner(a);
         }
@@ -85,7 +85,7 @@ fn is_at<'a>(xs: &'a [i64], ys: &'a [i64], a: usize, p: Point) -> bool
 
 // How p lies to the edge from point a to point b.
 fn side_at<'a>(xs: &'a [i64], ys: &'a [i64], a: usize, b: usize, p: Point) -> Side
-    requires { ⌜ Ranged (now xs) (now ys) p ⌝ }
+    requires { ⌜ RangedQuery (now xs) (now ys) p ⌝ }
     ensures { λ r. ⌜ r ≡ side-at (now (xs .entry)) (now (ys .entry)) a b p ⌝ }
 {
     side_of(point_at(xs, ys, a), point_at(xs, ys, b), p)

@@ -1,7 +1,7 @@
 -- What an entry promises, from what it found, in the order of this page: an entry that looks at its rules
 -- first, by a function that answers an outcome; an entry that writes a result, after one rule and the room
 -- for it. Each law is over the call. Then what a caller has of a promise: a length that is answered lies
--- within the list. Assumes nothing.
+-- within the list.
 use mathlib.Core.Path.{_≡_, refl, sym, ap, subst, _∙_}
 use mathlib.Core.Bool.{true, false}
 use mathlib.Core.List.{List, [], _∷_}

@@ -1,5 +1,5 @@
 -- From what a check answered to the rule that it stands for, and to what an inner function requires, in
--- the order of this page: the soundness check; a map and a dart. Assumes nothing.
+-- the order of this page: the soundness check; a map and a dart.
 use mathlib.Core.Path.{_≡_, sym, ap, _∙_}
 use mathlib.Core.Bool.{Bool, false, not}
 use Prim.Native.Nat.{ℕ}

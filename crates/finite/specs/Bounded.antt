@@ -1,7 +1,6 @@
 -- Bounded tests over ℕ, in the order of this page: whether all or any of the numbers below a bound
 -- pass a test; a sum, the count of those that pass, and a table below a bound; then the laws that
 -- carry each test to a statement and back. The prover runs every one of them.
--- Assumes nothing.
 use mathlib.Core.Path.{_≡_, refl, sym, ap, subst, _∙_}
 use mathlib.Core.Logic.{_⊎_, inl, inr, ⊎-elim}
 use mathlib.Core.Bool.{Bool, true, false, not, _&&_, _||_}

@@ -1,7 +1,6 @@
 -- How many numbers below a bound pass a test, in the order of this page: a bound on the count;
 -- tests that agree, that differ at one number, or of which one implies the other; maps between
 -- two sets without repetition; the pigeonhole; the least number that passes.
--- Assumes nothing.
 use mathlib.Core.Path.{_≡_, refl, sym, ap, ap₂, subst}
 use mathlib.Core.Logic.{_⊎_, inl, inr, ⊎-elim, _≢_}
 use mathlib.Core.Bool.{Bool, true, false, not, _&&_}

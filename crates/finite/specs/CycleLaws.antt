@@ -1,6 +1,5 @@
 -- More laws of chains and cycles of numbers, in the order of this page: relations along a chain and
 -- round a cycle, and the place where a test changes; the ring of numbers that a cycle is.
--- Assumes nothing.
 use mathlib.Core.Path.{_≡_, sym, ap, subst}
 use mathlib.Core.Logic.{⊎-elim}
 use mathlib.Core.Bool.{Bool, not}

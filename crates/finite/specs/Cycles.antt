@@ -1,7 +1,6 @@
 -- Chains and cycles, in the order of this page: a relation that holds from each member of a list to
 -- the next; the same round a cycle, from the last member to the first too; the laws of cutting,
 -- joining and rotating them. An outline is such a cycle.
--- Assumes nothing.
 use mathlib.Core.Path.{sym, subst}
 use mathlib.Core.List.{List, [], _∷_, _++_, append-assoc, append-nil}
 

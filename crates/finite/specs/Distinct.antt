@@ -1,7 +1,7 @@
 -- Lists in which no member stands twice, and how many members a list has, in the order of this
 -- page: lists put together, in either order, without repetition; the number of the members; the
 -- list of all that pass a test below a bound has them all, and none twice; how many members of a
--- list pass a test. Assumes nothing.
+-- list pass a test.
 use mathlib.Core.Path.{_≡_, refl, sym, ap, subst, _∙_}
 use mathlib.Core.Logic.{_≢_, _⊎_, inl, inr, ⊎-elim}
 use mathlib.Core.Bool.{Bool, true, false, not}

@@ -1,6 +1,6 @@
 -- The first member that passes a test, in the order of this page: where one passes, the first is a
 -- member that passes; it is that one where only one does; it cuts the list in two, and all before
--- it fail; where no member passes. Assumes nothing.
+-- it fail; where no member passes.
 use mathlib.Core.Path.{_≡_, refl, ap}
 use mathlib.Core.Logic.{⊎-elim}
 use mathlib.Core.Bool.{Bool, not, _||_}

@@ -1,7 +1,7 @@
 -- The laws of membership and of tests over lists, in the order of this page: a member of a list; a
 -- test that passes at all members; membership in what is put together; a member that cuts its list
 -- in two; the members of a list place by place; the sum of what is put together. No number of
--- members is compared here: that is Distinct. Assumes nothing.
+-- members is compared here: that is Distinct.
 use mathlib.Core.Path.{_≡_, refl, sym, ap, subst, _∙_}
 use mathlib.Core.Logic.{_⊎_, inl, inr, ⊎-elim}
 use mathlib.Core.Bool.{Bool, not}

@@ -3,7 +3,7 @@
 -- ring of numbers; the union of two lists without repetition; lists in which no member stands
 -- twice, and the list of all that pass a test below a bound. The prover runs every one of them.
 -- This page has the definitions alone: their laws stand in ListLaws, Distinct, FirstPassing and
--- Rings. Assumes nothing.
+-- Rings.
 use mathlib.Core.Bool.{Bool, true, false, not, cond, _&&_, _||_}
 use mathlib.Core.List.{List, [], _∷_, _++_}
 use Prim.Native.Nat.{ℕ, zero, suc, _+_}

@@ -5,7 +5,7 @@
 -- from a place on, and every place of a list. A loop that answers true at the first number that passes,
 --     for k in 0..n { if here(k) { return true; } } false
 -- tests that none passes, and its answer is the negation. Then the same laws for loops that fill an
--- array, and for loops round the corners of a ring. Assumes nothing.
+-- array, and for loops round the corners of a ring.
 use mathlib.Core.Path.{_≡_, sym, ap, subst, _∙_}
 use mathlib.Core.Logic.{_≢_, ⊎-elim}
 use mathlib.Core.Bool.{Bool, true, false, not, cond, _&&_}

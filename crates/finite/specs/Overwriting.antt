@@ -2,7 +2,7 @@
 -- front of the list, and from a place on; its laws: store by store, the length, nothing, one thing
 -- after another, one element before and after; then the loop that copies a list element by element,
 -- with the laws of its start, of one element more and of its end. The elements are of any type.
--- Document 01, number 10: "a longer one keeps its tail". Assumes nothing.
+-- Document 01, number 10: "a longer one keeps its tail".
 use mathlib.Core.Path.{_≡_, refl, sym, ap, _∙_}
 use mathlib.Core.List.{List, [], _∷_, _++_, append-nil}
 use Prim.Native.Nat.{ℕ, suc, _+_, _≤_, _<_}

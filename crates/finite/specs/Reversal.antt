@@ -1,6 +1,6 @@
 -- Chains and cycles read backwards: where E holds from each member to the next, the converse of E holds
 -- from each member of the reversed list to the next. A reversed cycle keeps its first member, its members
--- are members of the cycle, and it has the same length. Assumes nothing.
+-- are members of the cycle, and it has the same length.
 use mathlib.Core.Path.{_≡_, refl, sym, subst}
 use mathlib.Core.Logic.{⊎-elim}
 use mathlib.Core.List.{List, [], _∷_, _++_, append-assoc}

@@ -1,6 +1,5 @@
 -- Rings read place by place, in the order of this page: a ring is its first member and the ring
 -- from the next one; it has no more members than it may have; the member after a place of a cycle.
--- Assumes nothing.
 use mathlib.Core.Path.{_≡_, sym, ap, subst, _∙_}
 use mathlib.Core.Logic.{_≢_, ⊎-elim}
 use mathlib.Core.Bool.{Bool, true, false, cond}

@@ -2,7 +2,6 @@
 -- laws that take `T (a && b)`, `T (a || b)` and `T (a ⇒ b)` apart and put them together; a choice
 -- between the same; then two numbers are the same or not.
 -- `T b` is the type that has an element just where the test b passes (lib.Dec).
--- Assumes nothing.
 use mathlib.Core.Path.{_≡_, refl, sym, subst}
 use mathlib.Core.Logic.{_≢_, _⊎_, inl, inr, ⊎-elim}
 use mathlib.Core.Bool.{Bool, true, false, not, cond, _&&_, _||_}

@@ -1,6 +1,6 @@
 -- From what the coordinates of a sound map say of a point to the offer, in the order of this page:
 -- a point that is refused; one that is accepted; the numbers that an outside arrival reports are
--- small. Assumes nothing.
+-- small.
 use mathlib.Core.Path.{_≡_, sym, ap}
 use mathlib.Core.Bool.{Bool, true, false, not, cond}
 use mathlib.Core.List.{[]}

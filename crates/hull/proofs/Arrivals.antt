@@ -2,7 +2,7 @@
 -- that sees no edge of it lies inside, and one that sees some is put between the left and the right
 -- corner, which are there and unique; plane/proofs has the geometry, maps/proofs the links.
 -- In the order of this page: the convex outline; inside; outside, with the split of visible edges; every
--- arrival; every offer. Assumes nothing.
+-- arrival; every offer.
 use mathlib.Core.Path.{_≡_, ap}
 use mathlib.Core.Logic.{_≢_}
 use mathlib.Core.List.{[], _∷_, _++_}

@@ -1,6 +1,6 @@
 -- What an arrival answers, in the order of this page: by the number of points; where there is an outline, by
 -- what is visible; the map after it, from the arrays that the code wrote. Each law reads from the answer
--- that the code makes to the definition. Assumes nothing.
+-- that the code makes to the definition.
 use mathlib.Core.Path.{_≡_}
 use mathlib.Core.Logic.{_≢_}
 use mathlib.Core.Bool.{Bool}

@@ -1,7 +1,7 @@
 -- "Nothing else changes": each arrival changes just what document 01 names, at every place of the map
 -- (model/specs/Changes), and no other sound map has these changes. In the order of this page: a link
 -- that is made by cases; a point inside; the first point; the second; a point outside; every offer
--- (`nothing-else-changes`); the changes fix the map (`grown-only`). Assumes nothing.
+-- (`nothing-else-changes`); the changes fix the map (`grown-only`).
 use mathlib.Core.Path.{_≡_, refl, sym, ap, subst, _∙_}
 use mathlib.Core.Logic.{_≢_, inl, inr, ⊎-elim}
 use mathlib.Core.Bool.{Bool, cond}

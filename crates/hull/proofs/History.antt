@@ -2,7 +2,7 @@
 -- (`always-balanced`). What every offer keeps is the record `Invariant`; from it follow the claims, by the
 -- laws of sound maps. In the order of this page: one induction over runs, for any property that every
 -- arrival keeps (`run-keeps`); the invariant; the start; one accepted offer; every list of offers; the
--- claims; a refused offer. Assumes nothing.
+-- claims; a refused offer.
 use mathlib.Core.Path.{_≡_, refl, sym, ap, subst, _∙_}
 use mathlib.Core.Logic.{_≢_, ⊎-elim}
 use mathlib.Core.Bool.{Bool, cond}

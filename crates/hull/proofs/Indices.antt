@@ -1,7 +1,6 @@
 -- What the code reads from a sound map and takes for an index lies within the arrays, in the order of
 -- this page: edge links, also where one of them was cut; the points, also past the last one; the left
 -- and the right corner.
--- Assumes nothing.
 use mathlib.Core.Path.{_≡_, sym, subst}
 use mathlib.Core.Logic.{_≢_, ⊎-elim}
 use mathlib.Core.Bool.{Bool, true, false, cond}
@@ -24,7 +23,7 @@ use Rattle.model.specs.Sound.{Shaped}
 use Rattle.model.specs.Arrival.{cut, left-corner, right-corner}
 use Rattle.model.proofs.Sound.{place-ranged, present-below}
 use Rattle.maps.proofs.Outline.{outline-circuit}
-use Rattle.admission.specs.Ranges.{Ranged}
+use Rattle.admission.specs.Ranges.{RangedQuery}
 use Rattle.hull.specs.Requires.{RoomFor, OutlineFor, Spliceable}
 
 -- ---- edge links
@@ -62,7 +61,7 @@ module _ {m : Map} (s : Shaped m) where
 -- ---- points
 
 -- the arrays of a map with an outline may be read at every place
-pub ranged : {m : Map} {p : Point} → OutlineFor m p → Ranged (m .xs) (m .ys) p
+pub ranged : {m : Map} {p : Point} → OutlineFor m p → RangedQuery (m .xs) (m .ys) p
 unfolding point
 ranged o = record { places = place-ranged (o .is-sound); offered = o .offered }
 

@@ -1,5 +1,5 @@
 -- What an offer comes to: a refusal, by the first rule that applies, which leaves the map as it was; or an
--- arrival, of which every condition of refusal is known to fail. Assumes nothing.
+-- arrival, of which every condition of refusal is known to fail.
 use mathlib.Core.Path.{_≡_, refl, sym, ap, subst, _∙_}
 use mathlib.Core.Logic.{_≢_, ⊎-elim}
 use mathlib.Core.Bool.{Bool, cond}

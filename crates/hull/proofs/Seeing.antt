@@ -2,7 +2,7 @@
 -- edges that it sees, in the order of this page: a corner that is sought; the corners still ahead; the
 -- invariant; the laws of its start, of a corner passed and of the end.
 -- What is found and what is still ahead make up the answer together. So nothing has to be said of the
--- corners that were passed. Assumes nothing.
+-- corners that were passed.
 use mathlib.Core.Path.{_≡_, refl, sym, ap, subst, _∙_}
 use mathlib.Core.Logic.{_≢_}
 use mathlib.Core.Bool.{Bool, true, false, not, cond, _&&_, and-comm}

@@ -2,7 +2,6 @@
 -- map sound; where an accepted point sees an edge there is one left corner and one right, and no point sees
 -- every edge; the outline is the hull. What an offer changes is in proofs/Changes: `nothing-else-changes`;
 -- demand 3 is in proofs/History: `always-balanced`.
--- Assumes nothing.
 use mathlib.Core.Path.{_≡_}
 use mathlib.Core.Logic.{_≢_, _↔_}
 use Prim.Native.Nat.{ℕ, _≤_}

@@ -1,4 +1,4 @@
--- What the inner functions of this crate ask and answer. Assumes nothing.
+-- What the inner functions of this crate ask and answer.
 use mathlib.Core.Path.{_≡_}
 use mathlib.Core.Bool.{Bool}
 use mathlib.Core.List.{List}

@@ -1,5 +1,4 @@
 -- Sight round an outline, in the order of this page: a corner that is sought; what is seen.
--- Assumes nothing.
 use mathlib.Core.Bool.{Bool, true, not, cond, _&&_}
 use mathlib.Core.List.{List}
 use Prim.Native.Nat.{ℕ}

@@ -10,7 +10,7 @@ ghost use mathlib.Core.Bool.{cond, not};
 ghost use Prim.Native.Nat.{_+_, _<_};
 ghost use Rattle.finite.specs.Bounded.{one-if};
 ghost use Rattle.model.specs.Maps.{point-limit};
-ghost use Rattle.admission.specs.Ranges.{Ranged};
+ghost use Rattle.admission.specs.Ranges.{RangedQuery};
 ghost use Rattle.hull.specs.Requires.{OutlineIn, visible-at};
 ghost use Rattle.hull.specs.Sight.{sought-at, seen};
 
@@ -79,7 +79,7 @@ pub fn seen_from<'a>(
 
 // Whether the edge from point a to point b is visible from p.
 fn is_visible<'a>(xs: &'a [i64], ys: &'a [i64], a: usize, b: usize, p: Point) -> bool
-    requires { ⌜ Ranged (now xs) (now ys) p ⌝ }
+    requires { ⌜ RangedQuery (now xs) (now ys) p ⌝ }
     ensures { λ r. ⌜ r ≡ visible-at (now (xs .entry)) (now (ys .entry)) a b p ⌝ }
 {
     sees_edge(point_at(xs, ys, a), point_at(xs, ys, b), p)

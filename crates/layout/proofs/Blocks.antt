@@ -2,7 +2,7 @@
 -- is read back, field by field, wherever it stands; the fields that are read give the same bytes; a
 -- list that is written over the front of another, piece after piece. Each law is over the number of
 -- fields, their width and the place.
--- Document 01, "Saved form". Assumes nothing.
+-- Document 01, "Saved form".
 use mathlib.Core.Path.{_≡_, sym, ap, ap₂, subst, _∙_}
 use mathlib.Core.Logic.{⊎-elim}
 use mathlib.Core.List.{List, [], _++_, flatten, append-assoc, append-nil}

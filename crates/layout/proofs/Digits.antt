@@ -1,7 +1,7 @@
 -- Numbers in bytes, in the order of this page: the digits of a number to the base 256; what is read
 -- at a place of lists put together; a number that is written is read back; bytes that are read give
 -- the same bytes; two's complement, both ways.
--- Document 01, "Saved form": "Big-endian", "two's complement". Assumes nothing.
+-- Document 01, "Saved form": "Big-endian", "two's complement".
 use mathlib.Core.Path.{_≡_, refl, sym, ap, ap₂, _∙_}
 use mathlib.Core.Logic.{⊎-elim}
 use mathlib.Core.Bool.{true, false}

@@ -1,6 +1,6 @@
 -- Files in form: what the test tells and what it wants; how the code finds its answer.
 -- Document 01, number 7: "file under 9 bytes, length not matching n and the bytes lent, n above
--- 512, version not 1, or helper byte above 1", for any version. Assumes nothing.
+-- 512, version not 1, or helper byte above 1", for any version.
 use mathlib.Core.Path.{_≡_, sym}
 use mathlib.Core.Bool.{false}
 use mathlib.Core.List.{List}

@@ -1,5 +1,5 @@
 -- The loops that read a number byte by byte, highest first, and write one, lowest first: each an
--- invariant with the laws of its start, of one byte more, and of its end. Assumes nothing.
+-- invariant with the laws of its start, of one byte more, and of its end.
 use mathlib.Core.Path.{_≡_, refl, sym, ap, subst, _∙_}
 use mathlib.Core.List.{List, flatten}
 use Prim.Native.Nat.{ℕ, suc, _+_, _-_, _*_, _/_, _%_, _^_, _≤_, _<_}

@@ -1,5 +1,4 @@
 -- The answer of a line as one number, in the order of this page: how large it is; it is read back.
--- Assumes nothing.
 use mathlib.Core.Path.{_≡_, refl}
 use Prim.Native.Nat.{ℕ, _+_, _-_, _*_, _/_, _%_, _≤_}
 use native.Mathlib.Omega.{arith}

@@ -1,6 +1,6 @@
 -- The printed lines of a report, in the order of this page: each by its position; how long one is
 -- at most; those from a position on, and one more; two pieces are one; all of them are the report.
--- Document 01, "The text program". Assumes nothing.
+-- Document 01, "The text program".
 use mathlib.Core.Path.{_≡_, refl, sym, ap, _∙_}
 use mathlib.Core.Logic.{_≢_}
 use mathlib.Core.Bool.{Bool, true, false, cond}
@@ -22,7 +22,7 @@ use Rattle.printing.proofs.Values.{spaced-length}
 use Rattle.printing.proofs.Printed.{line-length, refused-most, arrival-line-most}
 use Rattle.lines.specs.declared.positions.Ends.{Ends}
 use Rattle.lines.specs.Packing.{unpacked}
-use Rattle.lines.specs.Lines.{header, answer-at, answer-lines, counts-values, report-line}
+use Rattle.lines.specs.Lines.{title, answer-at, answer-lines, counts-values, report-line}
 use Rattle.lines.specs.Lines.{lines-from, line-count}
 use Rattle.finite.specs.Bounded.{flatten-more}
 
@@ -34,9 +34,9 @@ module _ (answers corners : List ℕ) (ends : Ends) where
   -- ---- by position
 
   module _ (j : ℕ) where
-    pub header-is : j ≡ 0 → header ≡ report-line answers corners ends j
+    pub title-is : j ≡ 0 → title ≡ report-line answers corners ends j
     unfolding report-line
-    header-is e = rw (eq-eqb j 0 e)
+    title-is e = rw (eq-eqb j 0 e)
 
     module _ (later : j ≢ 0) where
       pub long-is : ends .long ≡ true →
@@ -107,7 +107,7 @@ module _ (answers corners : List ℕ) (ends : Ends) where
       go (eqb j 0) (ends .long) (ltb (j - 1) (ends .lines)) (eqb (j - 1) (ends .lines))
     where
       go : (b₀ b₁ b₂ b₃ : Bool) →
-          length (cond b₀ header (cond b₁ (printed (refused Refusal.LongText))
+          length (cond b₀ title (cond b₁ (printed (refused Refusal.LongText))
           (cond b₂ (answer-at answers (j - 1)) (cond b₃ (answer-line (bytes "corners") corners)
           (answer-line (bytes "counts") (counts-values (ends .counts))))))) ≤ line-most
       go true b₁ b₂ b₃ = omega arith
@@ -175,20 +175,20 @@ module _ (answers corners : List ℕ) (ends : Ends) where
 
     -- the first line and the answers before line k
     lines-to : (k : ℕ) → k ≤ ends .lines →
-        lines-from answers corners ends 0 (suc k) ≡ header ++ answer-lines answers k
+        lines-from answers corners ends 0 (suc k) ≡ title ++ answer-lines answers k
     unfolding answer-lines flatten table table-onto
     lines-to zero h =
         lines-more 0 0 ∙ ap (λ (l : List ℕ). l ++ report-line answers corners ends 0) (lines-none 0)
-        ∙ sym (header-is 0 refl) ∙ sym (append-nil header)
+        ∙ sym (title-is 0 refl) ∙ sym (append-nil title)
     lines-to (suc k) h =
         lines-more 0 (suc k)
         ∙ (λ t. lines-to k (omega arith) t ++ sym (answer-next k (omega arith)) t)
-        ∙ append-assoc header (answer-lines answers k) (answer-at answers k)
-        ∙ ap (λ (l : List ℕ). header ++ l) (sym (flatten-more k (answer-at answers)))
+        ∙ append-assoc title (answer-lines answers k) (answer-at answers k)
+        ∙ ap (λ (l : List ℕ). title ++ l) (sym (flatten-more k (answer-at answers)))
 
     pub report-short :
         lines-from answers corners ends 0 (line-count ends)
-        ≡ header ++ (answer-lines answers (ends .lines) ++
+        ≡ title ++ (answer-lines answers (ends .lines) ++
         (answer-line (bytes "corners") corners
         ++ answer-line (bytes "counts") (counts-values (ends .counts))))
     report-short =
@@ -200,8 +200,8 @@ module _ (answers corners : List ℕ) (ends : Ends) where
         ++ sym (corners-is (0 + suc n) (λ z. omega arith) short (omega arith) (omega arith)) u)) t
         ++ sym (counts-is (0 + suc (suc n)) (λ z. omega arith) short (omega arith)
         (λ z. omega arith)) t)
-        ∙ append-assoc (header ++ answer-lines answers n) (answer-line (bytes "corners") corners) _
-        ∙ append-assoc header (answer-lines answers n) _
+        ∙ append-assoc (title ++ answer-lines answers n) (answer-line (bytes "corners") corners) _
+        ∙ append-assoc title (answer-lines answers n) _
 
   count-long : ends .long ≡ true → line-count ends ≡ 2
   unfolding line-count
@@ -209,11 +209,11 @@ module _ (answers corners : List ℕ) (ends : Ends) where
 
   pub report-long : ends .long ≡ true →
       lines-from answers corners ends 0 (line-count ends)
-      ≡ header ++ printed (refused Refusal.LongText)
+      ≡ title ++ printed (refused Refusal.LongText)
   report-long long =
       ap (lines-from answers corners ends 0) (count-long long)
       ∙ lines-more 0 1
       ∙ (λ t. (lines-more 0 0
       ∙ ap (λ (l : List ℕ). l ++ report-line answers corners ends 0) (lines-none 0)
-      ∙ sym (header-is 0 refl)) t
+      ∙ sym (title-is 0 refl)) t
       ++ sym (long-is (0 + 1) (λ z. omega arith) long) t)

@@ -1,6 +1,6 @@
 -- The loops over the printed lines of a report, in the order of this page: the loop that adds up
 -- their lengths; the loop that writes as many of them as a list holds. Each has its invariant, with
--- the laws of its start, of one line more and of its end. Assumes nothing.
+-- the laws of its start, of one line more and of its end.
 use mathlib.Core.Path.{_≡_, refl, sym, ap, _∙_}
 use mathlib.Core.Bool.{Bool, true, false, cond}
 use mathlib.Core.List.{List, _++_}
@@ -9,7 +9,7 @@ use native.Mathlib.Omega.{arith}
 use lib.ListN.{length, length-append}
 use Rattle.model.specs.Maps.{point-limit}
 use Rattle.model.specs.Report.{text-limit}
-use Rattle.printing.specs.Writing.{Room, Wrote}
+use Rattle.printing.specs.Writing.{Room, PutAt}
 use Rattle.printing.proofs.Overwriting.{wrote-none, wrote-as, wrote-then, wrote-length}
 use Rattle.lines.specs.declared.positions.Ends.{Ends}
 use Rattle.lines.specs.Lines.{report-line, lines-from, line-count}
@@ -81,7 +81,7 @@ totalled-all {answers} {corners} {ends} {j = j} t c h =
 
 pub record Putting (answers corners : List ℕ) (ends : Ends) (from : ℕ) (lent now : List ℕ)
     (next end : ℕ) : Type 0 where
-  pub wrote : Wrote lent 0 (lines-from answers corners ends from (next - from)) now end
+  pub wrote : PutAt lent 0 (lines-from answers corners ends from (next - from)) now end
   pub further : from ≤ next
   pub inside : end ≤ length lent
   pub long : length now ≡ length lent
@@ -149,7 +149,7 @@ module _ (answers corners : List ℕ) (ends : Ends) (from : ℕ) (lent : List �
             }
 
         pub put-next : {after : List ℕ} {end′ : ℕ} → next < line-count ends →
-            Wrote now end (report-line answers corners ends next) after end′ →
+            PutAt now end (report-line answers corners ends next) after end′ →
             Putting answers corners ends from lent after (next + 1) end′
         put-next h w =
             let both = wrote-then (p .wrote) room-both w in

@@ -2,7 +2,7 @@
 -- answers; one printed line, of the answers that were decided, the corners and the ends; how many
 -- there are; those from a position on. Document 01, "The text program". Position 0 is
 -- the first line; a text that is too long has one line more, and any other its arrivals, the
--- corners and the counts. Assumes nothing.
+-- corners and the counts.
 use mathlib.Core.Bool.{cond}
 use mathlib.Core.List.{List, [], _∷_, flatten}
 use Prim.Native.Nat.{ℕ, _+_, _-_}
@@ -29,14 +29,14 @@ answer-lines answers n = flatten (table n (answer-at answers))
 abbrev pub counts-values : Counts → List ℕ
 counts-values c = c .darts ∷ c .vertices ∷ c .edges ∷ c .faces ∷ c .parts ∷ []
 
-abbrev pub header : List ℕ
-header = bytes "OUTLINE 1\n"
+abbrev pub title : List ℕ
+title = bytes "OUTLINE 1\n"
 
 module _ (answers corners : List ℕ) (ends : Ends) where
   -- the printed line at position j
   unfoldable pub report-line : ℕ → List ℕ
   report-line j =
-      cond (eqb j 0) header
+      cond (eqb j 0) title
       (cond (ends .long) (printed (refused Refusal.LongText))
       (cond (ltb (j - 1) (ends .lines)) (answer-at answers (j - 1))
       (cond (eqb (j - 1) (ends .lines)) (answer-line (bytes "corners") corners)

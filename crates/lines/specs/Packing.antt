@@ -1,7 +1,7 @@
 -- The answer of a line as one number, in the order of this page: what a line is refused for; the
 -- answers that have a number; the number; the answer of a number. A refusal has its own number of
 -- document 01, and all that a line can get are below 11, where the arrivals begin; an outside
--- arrival's number holds left corner, right corner and visible edges. Assumes nothing.
+-- arrival's number holds left corner, right corner and visible edges.
 use mathlib.Core.Bool.{cond}
 use Prim.Native.Nat.{ℕ, _+_, _-_, _*_, _/_, _%_, _≤_, _<_}
 use lib.Dec.{ltb, eqb}

@@ -15,7 +15,7 @@ ghost use mathlib.Core.Path.{_≡_};
 ghost use Prim.Native.Nat.{_≤_};
 ghost use lib.ListN.{getD, length};
 ghost use Rattle.model.specs.Maps.{point-limit};
-ghost use Rattle.printing.specs.Writing.{Room, Wrote};
+ghost use Rattle.printing.specs.Writing.{Room, PutAt};
 ghost use Rattle.lines.specs.Lines.{line-count, lines-from, report-line};
 ghost use Rattle.lines.specs.Printing.{Printable, PutLines};
 
@@ -80,7 +80,7 @@ pub fn put_line<'a>(
     j: usize,
 ) -> usize
     requires { ⌜ Room (now lent) at (report-line (now answers) (now corners) ends j) ⌝ }
-    ensures { λ r. ⌜ Wrote (now (lent .entry)) at
+    ensures { λ r. ⌜ PutAt (now (lent .entry)) at
         (report-line (now (answers .entry)) (now (corners .entry)) ends j) (now (lent .exit)) r ⌝ }
 {
     if j == 0 {

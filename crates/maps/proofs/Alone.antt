@@ -1,7 +1,6 @@
 -- The map after the first point and after an inside point: one dart more, which both links fix.
 -- Links and helpers are the old ones, so the outline is the old one, and the map is sound where the
 -- new point is in range, differs from the others and lies strictly left of each outline edge.
--- Assumes nothing.
 use mathlib.Core.Path.{_≡_, refl, sym, ap, subst, _∙_}
 use mathlib.Core.Logic.{_≢_, _⊎_, inl, inr, ⊎-elim}
 use Prim.Native.Nat.{ℕ, _≤_, _<_}

@@ -3,7 +3,6 @@
 -- corners from its first member, so the outline, are the circuit; its darts are just what is reached
 -- from any of them, and no link fixes one.
 -- The links undo themselves and keep the present darts (`Linked`); the map need not be sound.
--- Assumes nothing.
 use mathlib.Core.Path.{_≡_, sym, ap, subst, _∙_}
 use mathlib.Core.Logic.{_≢_, _↔_}
 use mathlib.Core.List.{List, [], _∷_, _++_, append-nil}

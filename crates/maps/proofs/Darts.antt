@@ -1,6 +1,6 @@
 -- Darts and points, in the order of this page: the point of an own dart and of a helper; a dart is one
 -- or the other; the other dart of a point; which darts are present; the point link, and that it undoes
--- itself and keeps the present darts, in every map. Assumes nothing.
+-- itself and keeps the present darts, in every map.
 use mathlib.Core.Path.{_≡_, refl, sym, subst}
 use mathlib.Core.Logic.{_≢_, _⊎_, inl, inr, ⊎-elim}
 use mathlib.Core.Bool.{not, _||_}

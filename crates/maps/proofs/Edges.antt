@@ -1,6 +1,5 @@
 -- Lists of edge links: what `cut` and `join` of model change. `link-of e d` is where the list e leads
 -- from d.
--- Assumes nothing.
 use mathlib.Core.Path.{_≡_, _∙_}
 use mathlib.Core.Logic.{_≢_, ⊎-elim}
 use mathlib.Core.List.{List}

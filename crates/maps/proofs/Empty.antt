@@ -1,6 +1,6 @@
 -- "The empty map, which is the sound map without points", in the order of this page: it is sound, since
 -- it passes the test, which the prover computes; two sound maps without points agree at every place; so no
--- other map is sound and has no points. Assumes nothing.
+-- other map is sound and has no points.
 use mathlib.Core.Path.{_≡_, refl, sym, _∙_}
 use mathlib.Core.Bool.{false}
 use Prim.Native.Nat.{ℕ}

@@ -1,7 +1,6 @@
 -- The two links, in the order of this page: maps whose edge link undoes itself and keeps the present
 -- darts, as every sound map's does; there both links are involutions of the present darts, so the
 -- counts balance; in a sound map, where an edge that moves a dart leads.
--- Assumes nothing.
 use mathlib.Core.Path.{_≡_, subst}
 use mathlib.Core.Logic.{_≢_, ⊎-elim}
 use mathlib.Core.List.{List}

@@ -3,7 +3,7 @@
 -- is an edge orbit of one; the orbits of one kind part the present darts: each dart lies in its own orbit,
 -- and two orbits are the same or have no dart in common. Then what the code reads: lists that hold the
 -- links give the same orbits.
--- Document 01, "Reading a map". Assumes nothing.
+-- Document 01, "Reading a map".
 use mathlib.Core.Path.{_≡_, sym, subst, _∙_}
 use mathlib.Core.Logic.{_↔_, _⊎_, inl, inr, ⊎-elim}
 use mathlib.Core.List.{List}

@@ -1,8 +1,6 @@
 -- The outline of a sound map with two points or more: it begins with the reference's point, is a
 -- circuit of two corners or more, its darts are just what is reached from the reference, and every
 -- present dart whose part is closed is among them.
--- Assumes nothing.
---
 -- No link fixes a dart of the reference's part. So from an own dart of it the edge link leads to a
 -- helper, and the point link on to the own dart of the next corner: `next-corner` leads from the points whose
 -- own darts are reached to such points, no two to the same. So it comes back, and `ring` runs

@@ -1,6 +1,6 @@
 -- The map after the second point: with one point every dart is fixed, and the new point comes between
 -- point 0 and point 0. The outline is 1, 0; all four darts lie on it, and no third point is there to
--- lie left of an edge. Assumes nothing.
+-- lie left of an edge.
 use mathlib.Core.Path.{_≡_, refl, sym, ap, subst, _∙_}
 use mathlib.Core.Logic.{_≢_, ⊎-elim}
 use mathlib.Core.Bool.{true, false}

@@ -1,6 +1,5 @@
 -- A map with one point more: the points of the new map are the old ones and the new one, so they are
 -- sound where the new one is in range and no old one. Helpers, links and reference are any.
--- Assumes nothing.
 use mathlib.Core.Path.{_≡_, _∙_}
 use mathlib.Core.Logic.{_≢_, ⊎-elim}
 use mathlib.Core.Bool.{Bool}

@@ -1,5 +1,5 @@
 -- Two sound maps that agree at every place are the same map: arrays of the declared length are fixed by
--- what stands at each place. Assumes nothing.
+-- what stands at each place.
 use mathlib.Core.Path.{_≡_, sym, ap, _∙_}
 use mathlib.Core.Bool.{false}
 use mathlib.Core.List.{List}

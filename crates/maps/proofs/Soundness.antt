@@ -1,7 +1,6 @@
 -- How a sound map is put together from its points, its links and a circuit: a map with a circuit that
 -- begins with the reference's point, on which every closed part lies, and whose edges have all other
 -- points strictly left, is sound; so is one with fewer than two points, no helper and no reference.
--- Assumes nothing.
 use mathlib.Core.Path.{_≡_}
 use mathlib.Core.List.{List}
 use Prim.Native.Nat.{ℕ, _≤_, _<_}

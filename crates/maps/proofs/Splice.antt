@@ -1,7 +1,7 @@
 -- A new point k between a left corner l and a right corner r, in the order of this page: how the new
 -- edge link differs from the old one (`Splices`); the new links are sound; the edges that stay; k and
 -- the corners from r to l are a circuit; with the old outline cut, no other part is closed.
--- Both the second point (l and r are point 0) and an outside point come between so. Assumes nothing.
+-- Both the second point (l and r are point 0) and an outside point come between so.
 use mathlib.Core.Path.{_≡_, refl, sym, ap, subst, _∙_}
 use mathlib.Core.Logic.{_≢_, _⊎_, inl, inr, ⊎-elim}
 use mathlib.Core.List.{List, [], _∷_, _++_, append-assoc}

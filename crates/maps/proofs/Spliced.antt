@@ -2,7 +2,6 @@
 -- (`spliced-splices`, with every edge link in terms of the old ones). Where the old outline runs from the
 -- right corner r to the left corner l and on over the corners that are lost, the new outline is the new
 -- point and r .. l, and the map is sound if all points lie left of that outline.
--- Assumes nothing.
 use mathlib.Core.Path.{_≡_, refl, sym, ap, _∙_}
 use mathlib.Core.Logic.{_≢_, _⊎_, inl, inr, ⊎-elim}
 use mathlib.Core.Bool.{true, false}

@@ -1,7 +1,7 @@
 -- The links and the presence of a map's darts as lists for all darts, which the code hands to the
 -- functions of `orbits`: a list that is filled with the point links holds the point link, also past
 -- its end; so with the present darts; and where the edge links undo themselves, both links permute
--- the present darts. Then a part as a set, and whether it is closed. Assumes nothing.
+-- the present darts. Then a part as a set, and whether it is closed.
 use mathlib.Core.Path.{_≡_, sym, subst, _∙_}
 use mathlib.Core.Logic.{⊎-elim}
 use mathlib.Core.Bool.{Bool, false, not, _&&_}

@@ -3,8 +3,7 @@
 -- twice as many moves as there are corners; from every other dart it ends loose.
 -- Document 01: "It ends home when a point step reaches its start, or loose when an edge step is due at a
 -- dart with a fixed edge link. It gives the last dart, the ending and the moves made, never more than
--- there are darts." Assumes nothing.
---
+-- there are darts."
 -- From an own dart the edge link leads to the helper of the next corner and the point link to its own
 -- dart: a walk goes round the outline. From a helper it goes round the other way.
 use mathlib.Core.Path.{_≡_, refl, sym, ap, subst, _∙_}

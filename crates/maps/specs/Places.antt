@@ -1,5 +1,5 @@
 -- Points by their places in a map's arrays, in the order of this page: that the arrays have places for
--- so many; whether a point is new among them; whether a point lies beside an edge. Assumes nothing.
+-- so many; whether a point is new among them; whether a point lies beside an edge.
 use mathlib.Core.Bool.{Bool, not, _&&_}
 use mathlib.Core.List.{List}
 use Prim.Native.Nat.{ℕ, _≤_}

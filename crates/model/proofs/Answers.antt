@@ -1,7 +1,6 @@
 -- The laws of calls, in the order of this page: the largest number; the first rule that applies decides;
 -- rules that are checked by a function that answers an outcome; what is made of an answer is made of each
 -- refusal and of the value, so an entry whose answer is that of the call means what it promises to mean.
--- Assumes nothing.
 use mathlib.Core.Path.{_≡_, refl, ap, subst, _∙_}
 use mathlib.Core.Bool.{Bool, true, false, cond}
 use mathlib.Core.List.{List, [], _∷_}

@@ -1,5 +1,5 @@
 -- What an entry promises that is lent a list, from the equation of its answer: where it is refused,
--- and where the result is written. Assumes nothing.
+-- and where the result is written.
 use mathlib.Core.Path.{_≡_, refl, ap, _∙_}
 use mathlib.Core.List.{List}
 use Prim.Native.Nat.{ℕ}

@@ -1,6 +1,5 @@
 -- The tests of a sound map and its statements agree: `sound-holds` and `sound-by`.
 -- Each test is a bounded one, and the laws of `finite` carry it to its statement and back.
--- Assumes nothing.
 use mathlib.Core.Path.{_≡_, sym, ap, subst, _∙_}
 use mathlib.Core.Logic.{_≢_, ⊎-elim}
 use mathlib.Core.Bool.{Bool, false, not, _&&_, _||_}

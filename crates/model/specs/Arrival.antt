@@ -1,6 +1,6 @@
 -- The arrival of a point, in the order of this page: how links are cut and made; the left and the
 -- right corner; the map after each arrival; the refusals of a sound map. Offers to any map are specs/Offers.
--- Document 01, "Orientation and arrival". Assumes nothing.
+-- Document 01, "Orientation and arrival".
 use mathlib.Core.Bool.{Bool, true, not, cond, _&&_}
 use mathlib.Core.List.{List, [], _∷_}
 use Prim.Native.Nat.{ℕ, suc}

@@ -2,7 +2,7 @@
 -- joined, and one with darts parted; a map that has one point more, with every field named at every
 -- place; the changes of each arrival and of a refusal. Document 01, "Orientation and arrival":
 -- that "Nothing else changes" is `Changes m p (offer m p .arrival) (offer m p .map)` for every map m and
--- point p. Assumes nothing.
+-- point p.
 use mathlib.Core.Path.{_≡_}
 use mathlib.Core.Logic.{_≢_}
 use mathlib.Core.Bool.{Bool, false, cond, _||_}

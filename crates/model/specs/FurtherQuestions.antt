@@ -2,7 +2,6 @@
 -- document 01's sentences give, and one check over it. They pin what no starred question looks at,
 -- in the order of this page: every case of every answer; every limit; what is unsound; the
 -- session's two sums, its orbits and walkers; where a point lies; lent lists; files; lines of text.
--- Assumes nothing.
 use mathlib.Core.Bool.{Bool, true}
 use mathlib.Core.List.{List, [], _∷_, _++_, map, flatMap, flatten}
 use Prim.Native.Nat.{ℕ, _+_, _*_}
@@ -15,7 +14,7 @@ use Rattle.finite.specs.Lists.{elem, all-in, all-places, any-in, count-in, firs
 use Rattle.finite.specs.Lists.{total, ring, insert, union}
 use Rattle.orbits.specs.declared.Ending.{Ending}
 use Rattle.orbits.specs.declared.Walk.{Walk}
-use Rattle.orbits.specs.Reach.{grow, reached, reaches}
+use Rattle.orbits.specs.Reach.{spread, reached, reaches}
 use Rattle.orbits.specs.Classes.{is-least, classes, is-fixed, is-closed, closed-walks}
 use Rattle.orbits.specs.Walks.{walker-at}
 use Rattle.orbits.specs.Sets.{dart-limit, bits, set-of}
@@ -379,7 +378,7 @@ further-questions =
 -- one check over the list
 pub further-answers-are-right : T (all-in (λ q. same-list (q .said) (q .right)) further-questions)
 unfolding table-onto all any sum count one-if table elem all-in all-places any-in count-in first-in
-    before beyond total ring insert union flatMap flatten grow reached reaches is-least classes
+    before beyond total ring insert union flatMap flatten spread reached reaches is-least classes
     is-fixed is-closed closed-walks bits set-of bytes decimal spelt number unless oriented-answer
     arrival-answer outcome-answer orbit-answer counted-answer walked-answer moved-answer
     placed-answer written-answer line-answer coordinate-in-range in-range same-point orientation

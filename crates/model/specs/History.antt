@@ -1,7 +1,6 @@
 -- A list of offers from the empty map, in the order of this page: the history and the run; what
 -- its arrivals add up to; every claim of demand 3 about a run, as one record.
 -- Document 01, "The oral part, word by word". `(ps : List Point) → Balanced (run ps)` is demand 3.
--- Assumes nothing.
 use mathlib.Core.Path.{_≡_}
 use mathlib.Core.Logic.{_↔_, _≢_}
 use mathlib.Core.Bool.{Bool, true, false, cond}

@@ -2,7 +2,7 @@
 -- the call, with the rules that come before it; what the list then holds; what an entry promises of
 -- both.
 -- Document 01, number 10: "lent list shorter than the result; a longer one keeps its tail". A
--- refused call leaves the list as it was. Assumes nothing.
+-- refused call leaves the list as it was.
 use mathlib.Core.Path.{_≡_}
 use mathlib.Core.Bool.{Bool}
 use mathlib.Core.List.{List, [], _∷_, _++_}

@@ -3,7 +3,7 @@
 -- the helpers, the present darts and the two links of a map; the empty map; a map by its arrays, of
 -- which code is lent all or some.
 -- Document 01, "What the engine holds" and "A sound map". A dart that the document calls own is 2k
--- and a helper 2k + 1, for the point k that owns them. Assumes nothing.
+-- and a helper 2k + 1, for the point k that owns them.
 use mathlib.Core.Bool.{Bool, false, cond, _&&_, _||_}
 use mathlib.Core.List.{List}
 use Prim.Native.Nat.{ℕ, _+_, _*_, _/_, _%_}

@@ -1,5 +1,5 @@
 -- Offering a point to any map: number 1, and then what a sound map does with it (specs/Arrival).
--- Document 01, "Orientation and arrival" and its table of numbers. Assumes nothing.
+-- Document 01, "Orientation and arrival" and its table of numbers.
 use mathlib.Core.List.{List, _∷_}
 use Rattle.model.specs.declared.Point.{Point}
 use Rattle.model.specs.declared.Map.{Map}

@@ -1,6 +1,5 @@
 -- The order in which each call looks at its rules, as the numbers of document 01's table: one computed
 -- test for each list of rules. "The lowest number that applies is given; loading looks at 7 before 1."
--- Assumes nothing.
 use mathlib.Core.Path.{_≡_, refl}
 use mathlib.Core.List.{List, [], _∷_, map}
 use Prim.Native.Nat.{ℕ}

@@ -3,7 +3,7 @@
 -- Document 01: "Its edge from corner a to corner b links a's own dart with b's helper"; "Corners
 -- are listed anticlockwise from the smallest y, then the smallest x. One point lists itself." An
 -- outline (the field's hull boundary) is a list of point numbers, each with the edge that leaves
--- it. Assumes nothing.
+-- it.
 use mathlib.Core.Bool.{Bool, not, cond}
 use mathlib.Core.List.{List, []}
 use Prim.Native.Nat.{ℕ}

@@ -1,9 +1,8 @@
 -- Placing a query point, in the order of this page: what is asked of one corner and the edge that
--- leaves it; the number of edges that are strictly visible; the verdict; the call.
+-- leaves it; the number of edges that are strictly visible; the answer; the call.
 -- Document 01: "Placing a point: "none" with fewer than two points; else its corner; else the
 -- outline edge strictly between whose ends it lies, of two such edges the first in listing order;
 -- else "inside" if all orientations are positive; else "outside" with the number of visible edges."
--- Assumes nothing.
 use mathlib.Core.Bool.{Bool, not, cond}
 use mathlib.Core.List.{[], _∷_}
 use Prim.Native.Nat.{ℕ}

@@ -2,7 +2,7 @@
 -- points; orientation, its three cases, what lies beside an edge and what an arrival sees,
 -- and the answer of the call; strictly between two points; lower than a point.
 -- Document 01, "Orientation and arrival" and the coordinates of "What the engine holds". The
--- numbers are whole numbers without a bound: a `Point` of antt holds two of ℤ. Assumes nothing.
+-- numbers are whole numbers without a bound: a `Point` of antt holds two of ℤ.
 use mathlib.Core.Bool.{Bool, not, _&&_, _||_}
 use mathlib.Core.List.{[], _∷_}
 use Prim.Native.Nat.{ℕ, _*_}

@@ -1,5 +1,5 @@
 -- The starred questions of document 01, "Oral questions", as one list with their expected answers,
--- and the one check over it, which the prover computes from the definitions. Assumes nothing.
+-- and the one check over it, which the prover computes from the definitions.
 use mathlib.Core.Bool.{Bool, true, false, _&&_}
 use mathlib.Core.List.{List, [], _∷_, map, flatMap, flatten}
 use Prim.Native.Nat.{ℕ, _+_, _^_}
@@ -8,7 +8,7 @@ use lib.IntN.{ℤ, pos, negℤ}
 use lib.ListN.{take, replicate}
 use Rattle.finite.specs.Bounded.{all, any, sum, count, one-if, table-onto, table}
 use Rattle.finite.specs.Lists.{elem, all-in, all-places, any-in, count-in, first-in, before, beyond, ring, insert, union}
-use Rattle.orbits.specs.Reach.{grow, reached, reaches}
+use Rattle.orbits.specs.Reach.{spread, reached, reaches}
 use Rattle.orbits.specs.Classes.{is-least, classes, is-fixed, is-closed, closed-walks}
 use Rattle.orbits.specs.Walks.{edge-step, point-step, walk}
 use Rattle.orbits.specs.Sets.{bits, set-of}
@@ -102,7 +102,7 @@ questions =
 -- one check over the list
 pub answers-are-right : T (all-in (λ q. same-list (q .said) (q .right)) questions)
 unfolding table-onto all any sum count one-if table elem all-in all-places any-in count-in
-    first-in before beyond ring insert union flatMap flatten grow reached reaches is-least
+    first-in before beyond ring insert union flatMap flatten spread reached reaches is-least
     classes is-fixed is-closed closed-walks edge-step point-step walk bits set-of bytes decimal
     spelt number unless coordinate-in-range in-range same-point orientation left-of visible-from
     in-line beside sees-edge strictly-between lower other-dart point has-helper is-present

@@ -1,6 +1,6 @@
 -- Reading a map, in the order of this page: the links that lead to each kind of orbit; the counts;
 -- the orbit of a dart; the walk from a dart; a walker. Each call with its rules and its value.
--- Document 01, "Reading a map". Parts are the field's connected components. Assumes nothing.
+-- Document 01, "Reading a map". Parts are the field's connected components.
 use mathlib.Core.Bool.{not}
 use mathlib.Core.List.{List, [], _∷_}
 use Prim.Native.Nat.{ℕ}

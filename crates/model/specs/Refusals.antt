@@ -1,7 +1,7 @@
 -- Refusals, in the order of this page: the number of each; a rule, which is a refusal and when it
 -- applies; the answer by the first rule that applies; the same as statements: which refusal is the first
 -- that applies, and that none does.
--- Document 01, "The number on the returned sheet". Assumes nothing.
+-- Document 01, "The number on the returned sheet".
 use mathlib.Core.Path.{_≡_}
 use mathlib.Core.Bool.{Bool, cond}
 use mathlib.Core.List.{List, [], _∷_}

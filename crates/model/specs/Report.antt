@@ -2,7 +2,7 @@
 -- printed line; the arrivals; the last two lines; the report; when a call for it is refused.
 -- Document 01, "The text program": "Fields: line number from 0, arrival, point numbers of the left
 -- and right corner, visible edges. A refused line prints `N refused R`. Counts are darts, vertices,
--- edges, faces, parts. Each printed line ends in a line feed." Assumes nothing.
+-- edges, faces, parts. Each printed line ends in a line feed."
 use mathlib.Core.Bool.{cond}
 use mathlib.Core.List.{List, [], _∷_, _++_, map}
 use Prim.Native.Nat.{ℕ, suc}

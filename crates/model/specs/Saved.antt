@@ -4,7 +4,6 @@
 -- Document 01, "Saved form": "Big-endian: 4 bytes, the length of all that follows; version byte 1;
 -- 2 bytes, the number of points n; 2 bytes reference; n pairs x, y in 4 bytes each, two's
 -- complement; n helper bytes, 0 or 1; 2n edge links of 2 bytes. The whole is 9 + 13 × n bytes."
--- Assumes nothing.
 use mathlib.Core.Bool.{Bool, false, not, cond, _&&_}
 use mathlib.Core.List.{List, [], _∷_, _++_, flatten}
 use Prim.Native.Nat.{ℕ, zero, suc, _+_, _-_, _*_, _/_, _%_, _^_, _<_}

@@ -5,7 +5,7 @@
 -- are arbitrary, and inner points may be in line.
 -- Two sentences hold by construction and have no test: the point link is made from the helpers, so it
 -- joins 2k and 2k + 1 where the helper is present, fixes 2k else, and taken twice comes back; and dart 2k
--- is present for every point k by the definition of present darts. Assumes nothing.
+-- is present for every point k by the definition of present darts.
 use mathlib.Core.Path.{_≡_}
 use mathlib.Core.Logic.{_≢_}
 use mathlib.Core.Bool.{Bool, not, _&&_, _||_}

@@ -1,6 +1,5 @@
 -- How words and numbers are spelt in bytes, in the order of this page: the bytes of a text that is
 -- written out; a whole number in decimal, as document 01, "The text program", has it.
--- Assumes nothing.
 use mathlib.Core.Bool.{cond}
 use mathlib.Core.List.{List, [], _∷_, _++_}
 use Prim.Native.Nat.{ℕ, zero, suc, _+_, _/_, _%_}

@@ -1,7 +1,7 @@
 -- Survey texts, in the order of this page: a number; what the bytes of a line name, which stand
 -- without its line feed; the lines of a text; a line that is lent by itself.
 -- Document 01, "The text program": "A line is two numbers with one space between and a line feed;
--- the last feed may be missing, and nothing follows it." Assumes nothing.
+-- the last feed may be missing, and nothing follows it."
 use mathlib.Core.Bool.{Bool, not, cond, _&&_, _||_}
 use mathlib.Core.List.{List, [], _∷_}
 use Prim.Native.Nat.{ℕ, _+_, _-_, _*_}

@@ -1,7 +1,5 @@
 -- Every two involutions balance: with g for the points' link and f for the edges' link,
 -- vertices + edges + faces = darts + 2 × parts, where faces are the orbits of f and then g.
--- Assumes nothing.
---
 -- Build f from an involution that moves no dart by transpositions, each of a dart x that is not moved
 -- yet with a dart y (Building). If x and y lie in one part, they lie in one face, for the face of x is
 -- its whole part (`part-is-face`): the face goes along the part to its other end and back.

@@ -1,8 +1,6 @@
 -- Every permutation of the darts is built from one that moves no dart, by transpositions of a dart that
 -- is not moved yet with another: an induction over permutations, and over any kind of them that
 -- stays such when a moved dart is released (involutions).
--- Assumes nothing.
---
 -- If f moves a, then f after a transposition of f a and a leaves f a where it is, and else moves only
 -- what f moves; and f is that after the same transposition.
 use mathlib.Core.Path.{_≡_, sym, _∙_, ap, subst}

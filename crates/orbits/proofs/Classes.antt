@@ -2,7 +2,6 @@
 -- least dart of its class; links that reach the same give the same number; the number is the length
 -- of every list with one dart of each class; joining two classes lowers it by one, for just one
 -- least dart is lost; what a closed part is.
--- Assumes nothing.
 use mathlib.Core.Path.{_≡_, refl, sym, subst}
 use mathlib.Core.Logic.{_⊎_, inl, inr, ⊎-elim, _≢_, _↔_}
 use mathlib.Core.Bool.{Bool, not, _&&_}

@@ -1,7 +1,6 @@
 -- One closed walk, in the order of this page: a part in which both links move every dart, as a
 -- relation; there is just one such part where one dart's is closed and every dart whose part is
 -- closed is reached from it; the number of closed walks is 1 just there.
--- Assumes nothing.
 use mathlib.Core.Path.{_≡_, sym, _∙_}
 use mathlib.Core.Logic.{_≢_}
 use mathlib.Core.Bool.{Bool, _&&_}

@@ -1,7 +1,6 @@
 -- The count of parts, in the order of this page: what holds when the darts below a have been passed; at the
 -- start; past a dart that is absent or in the queue; past a dart from which a visit was made, which is
 -- the least of its part; at the end.
--- Assumes nothing.
 use mathlib.Core.Path.{_≡_, refl, sym, _∙_, ap, subst}
 use mathlib.Core.Logic.{⊎-elim}
 use mathlib.Core.Bool.{Bool, true, false, not, _&&_}
@@ -26,7 +25,7 @@ use Rattle.orbits.specs.declared.PartCounts.{PartCounts}
 use Rattle.orbits.proofs.Reach.{Symmetric, reach-trans, reach-sym, double-to-single, single-to-double}
 use Rattle.orbits.proofs.Permutations.{orbit-keeps, part-keeps, part-symmetric}
 use Rattle.orbits.proofs.Classes.{least-iff-first, same-classes, both-move, closed-iff}
-use Rattle.orbits.proofs.Queue.{queue-small, grown-seen, grown-cases}
+use Rattle.orbits.proofs.Queue.{queue-small, lengthened-seen, lengthened-cases}
 use Rattle.orbits.proofs.Parts.{none-seen, queue-none, closed-none, closed-reach, part-within}
 
 -- a is the first dart of its part, and of a closed part
@@ -185,18 +184,18 @@ module _ {f g : List ℕ} {n : ℕ} {present : ℕ → Bool} (p : Permuted n pre
             record {
               first-whole = p .first .whole;
               second-whole = p .second .whole;
-              room = queue-small (v .grown .queue);
-              below = λ i h m. part-within p a-dart .below (getD order₁ i 0) (v .grown .added i h m);
+              room = queue-small (v .lengthened .queue);
+              below = λ i h m. part-within p a-dart .below (getD order₁ i 0) (v .lengthened .added i h m);
             }
 
         -- what is reached from a is new
         reached-new : (e : ℕ) → Reach (by-two (link-of f) (link-of g)) a e →
             (i : ℕ) × (end ≤ i) × (i < end₁) × (getD order₁ i 0 ≡ e)
         reached-new e r =
-            let at = v .grown .queue .place e (closed-reach seen₁ (v .closed) r (v .start)) in
+            let at = v .lengthened .queue .place e (closed-reach seen₁ (v .closed) r (v .start)) in
             ⊎-elim
             (λ (h : at .0 < end).
-            let same = sym (v .grown .same (at .0) h) ∙ at .2 in
+            let same = sym (v .lengthened .same (at .0) h) ∙ at .2 in
             let b = c .from e (subst (λ (x : ℕ). T (test-of seen x)) same (c .queue .held (at .0) h)) in
             let back = reach-trans (b .3) (reach-sym symmetric a-dart r) in
             absurd (not-seen (closed-reach seen (c .links) back (c .passed (b .0) (b .1) (b .2)))))
@@ -218,7 +217,7 @@ module _ {f g : List ℕ} {n : ℕ} {present : ℕ → Bool} (p : Permuted n pre
             (λ t. moves .whole
             (λ i h m.
             both-move (link-of f) (link-of g) (getD order₁ i 0) .1
-            (closed-iff (symmetric .keeps) a-dart .0 t (getD order₁ i 0) (v .grown .added i h m))))
+            (closed-iff (symmetric .keeps) a-dart .0 t (getD order₁ i 0) (v .lengthened .added i h m))))
             (λ t. closed-iff (symmetric .keeps) a-dart .1
             (λ e s.
             let at = reached-new e s in
@@ -231,16 +230,16 @@ module _ {f g : List ℕ} {n : ℕ} {present : ℕ → Bool} (p : Permuted n pre
             Counting f g n present order₁ seen₁ end₁ (parts + 1) (closed + boolByte r) (a + 1)
         counting-part r moves =
             record {
-              queue = v .grown .queue;
+              queue = v .lengthened .queue;
               links = v .closed;
               from = λ e t.
                   ⊎-elim
                   (λ (o : T (test-of seen e)). let b = c .from e o in (b .0, omega (arith, b .1), b .2, b .3))
                   (λ (s : Reach (by-two (link-of f) (link-of g)) a e). (a, omega arith, a-dart, s))
-                  (grown-cases (v .grown) (c .queue) e t);
+                  (lengthened-cases (v .lengthened) (c .queue) e t);
               passed = λ b h d.
                   ⊎-elim
-                  (λ (m : b < a). grown-seen (v .grown) (c .queue) b (c .passed b m d))
+                  (λ (m : b < a). lengthened-seen (v .lengthened) (c .queue) b (c .passed b m d))
                   (λ (m : a ≤ b). let e : b ≡ a = omega arith in rw e (v .start))
                   (lt-or-ge b a);
               within = omega arith;

@@ -2,8 +2,6 @@
 -- edges, faces and parts for the classes of g, of f, of f and then g, and of both; what a transposition
 -- of two darts of two edges does to each; and the theorem:
 -- vertices + edges + faces + 2 × genus = darts + 2 × parts. For request #113.
--- Assumes nothing.
---
 -- A transposition joins two edges. If the two darts lie in two parts, it joins these and their faces,
 -- and the genus stays. If they lie in one face, it cuts that in two, and the parts and the genus
 -- stay. If they lie in two faces of one part, it joins these, and the genus rises by one. Where f

@@ -1,6 +1,5 @@
 -- The laws of lists that hold links, in the order of this page: reading a link; a list that is filled
 -- with the links "f, then g", which permutes what both permute.
--- Assumes nothing.
 use mathlib.Core.Path.{_≡_, sym, _∙_, ap, subst⁻¹, fun-ext}
 use mathlib.Core.Logic.{⊎-elim}
 use mathlib.Core.Bool.{Bool}

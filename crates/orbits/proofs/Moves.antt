@@ -1,7 +1,7 @@
 -- The moves of a walk, in the order of this page: what one step comes to, with the moves left and made
 -- as the code counts them; a walk round a ring of edges comes home after twice as many moves as the
 -- ring has edges.
--- Document 01: "A walk from a dart is read edge, point, edge in turn." Assumes nothing.
+-- Document 01: "A walk from a dart is read edge, point, edge in turn."
 use mathlib.Core.Path.{_≡_, refl, sym, ap, _∙_}
 use mathlib.Core.Logic.{_≢_}
 use mathlib.Core.List.{List, [], _∷_, _++_}

@@ -1,7 +1,6 @@
 -- What a visit finds, in the order of this page: the queue of no dart; a visit that begins with it finds
 -- just what is reached, as a set; the same for one link; how callers show that links lead to darts
 -- alone, and take the set at the bound of their darts.
--- Assumes nothing.
 use mathlib.Core.Path.{_≡_, sym}
 use mathlib.Core.Logic.{⊎-elim}
 use mathlib.Core.Bool.{Bool, false}
@@ -67,12 +66,12 @@ visited-set {f} {g} {d} {order-after = order} {seen-after = seen} {end = end} w 
     to e t =
         let at = any-at end (λ i. eqb e (getD order i 0)) t in
         stays-complete (w .below)
-        (rw (eqb→eq e (getD order (at .0) 0) (at .2)) (v .grown .added (at .0) zero-le (at .1)))
+        (rw (eqb→eq e (getD order (at .0) 0) (at .2)) (v .lengthened .added (at .0) zero-le (at .1)))
 
     from : (e : ℕ) → T (reaches (by-two (link-of f) (link-of g)) dart-limit d e) → T (queued order end e)
     from e t =
         let reached = reaches-sound (by-two (link-of f) (link-of g)) dart-limit d e t in
-        let at = v .grown .queue .place e (closed-reach seen (v .closed) reached (v .start)) in
+        let at = v .lengthened .queue .place e (closed-reach seen (v .closed) reached (v .start)) in
         any-by end (λ i. eqb e (getD order i 0)) (at .0) (at .1) (equal-by e (getD order (at .0) 0) (sym (at .2)))
 
 -- ---- one link

@@ -1,8 +1,7 @@
 -- Permutations of the present darts (specs/Links), in the order of this page: transpositions of two
 -- darts; involutions, compositions and transpositions permute; paths of one link; iterates; every dart
 -- comes back within as many steps as there are darts, by the pigeonhole; so links that are
--- permutations lead back, and orbits and connected parts are the classes of an equivalence. Assumes
--- nothing.
+-- permutations lead back, and orbits and connected parts are the classes of an equivalence.
 use mathlib.Core.Path.{_≡_, refl, sym, _∙_, ap, subst, fun-ext}
 use mathlib.Core.Logic.{_⊎_, inl, inr, ⊎-elim, _≢_}
 use mathlib.Core.Bool.{Bool, cond}

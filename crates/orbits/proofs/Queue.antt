@@ -1,6 +1,5 @@
 -- The laws of the queue, in the order of this page: there is room for a dart that was not seen; a dart
 -- put at the end; what stays seen; growing twice; a visit from its start, step by step, to its end.
--- Assumes nothing.
 use mathlib.Core.Path.{_≡_, refl, sym, _∙_, ap, subst}
 use mathlib.Core.Logic.{_⊎_, inl, inr, ⊎-elim, _≢_}
 use mathlib.Core.Bool.{Bool, true, false, not}
@@ -18,7 +17,7 @@ use Rattle.finite.specs.Counting.{count-small, count-less, count-one-more}
 use Rattle.orbits.specs.Reach.{Reach, here, by-two}
 use Rattle.orbits.specs.Sets.{dart-limit, set-of, no-darts, with-dart}
 use Rattle.orbits.specs.Links.{link-of, test-of, Followable}
-use Rattle.orbits.specs.Queue.{Queue, Grown, LinksSeen, Ready, Visited, Put, queued}
+use Rattle.orbits.specs.Queue.{Queue, Lengthened, LinksSeen, Ready, Visited, Put, queued}
 use Rattle.orbits.proofs.Links.{link-read}
 use Rattle.orbits.proofs.Sets.{no-darts-set, with-set-of}
 use Rattle.orbits.proofs.Reach.{reach-trans, by-first-link, by-second-link}
@@ -91,7 +90,7 @@ module _ {order : List ℕ} {seen : List Bool} {end : ℕ} (q : Queue order seen
   pub put-new : Put d order end (set order end d) (set seen d true) (end + 1)
   put-new =
       record {
-        grown = record {
+        lengthened = record {
           queue = put-queue;
           longer = omega arith;
           same = order-before;
@@ -105,7 +104,7 @@ pub put-old : {order : List ℕ} {seen : List Bool} {end : ℕ} {d : ℕ} → Qu
     Put d order end order seen end
 put-old {seen = seen} {d = d} q old =
     record {
-      grown =
+      lengthened =
           record { queue = q; longer = le-refl _; same = λ i l. refl; added = λ i l m. absurd (omega arith) };
       start = of-true (test-of seen d) old;
     }
@@ -113,18 +112,18 @@ put-old {seen = seen} {d = d} q old =
 -- ---- growing
 
 module _ {Q : ℕ → Type 0} {order : List ℕ} {end : ℕ} {order-after : List ℕ} {seen-after : List Bool} {end-after : ℕ}
-    (r : Grown Q order end order-after seen-after end-after) where
+    (r : Lengthened Q order end order-after seen-after end-after) where
   -- what was seen is seen
-  pub grown-seen : {seen : List Bool} → Queue order seen end → (d : ℕ) → T (test-of seen d) → T (test-of seen-after d)
-  grown-seen q d t =
+  pub lengthened-seen : {seen : List Bool} → Queue order seen end → (d : ℕ) → T (test-of seen d) → T (test-of seen-after d)
+  lengthened-seen q d t =
       let at = q .place d t in
       subst (λ (e : ℕ). T (test-of seen-after e)) (r .same (at .0) (at .1) ∙ at .2)
       (r .queue .held (at .0) (omega (arith, r .longer)))
 
   -- what is seen was seen, or is new
-  pub grown-cases : {seen : List Bool} → Queue order seen end → (d : ℕ) → T (test-of seen-after d) →
+  pub lengthened-cases : {seen : List Bool} → Queue order seen end → (d : ℕ) → T (test-of seen-after d) →
       T (test-of seen d) ⊎ Q d
-  grown-cases {seen} q d t =
+  lengthened-cases {seen} q d t =
       let at = r .queue .place d t in
       ⊎-elim
       (λ (l : at .0 < end).
@@ -133,8 +132,8 @@ module _ {Q : ℕ → Type 0} {order : List ℕ} {end : ℕ} {order-after : List
       (lt-or-ge (at .0) end)
 
   -- what holds of the new darts
-  pub grown-map : {P : ℕ → Type 0} → ((d : ℕ) → Q d → P d) → Grown P order end order-after seen-after end-after
-  grown-map to =
+  pub lengthened-map : {P : ℕ → Type 0} → ((d : ℕ) → Q d → P d) → Lengthened P order end order-after seen-after end-after
+  lengthened-map to =
       record {
         queue = r .queue;
         longer = r .longer;
@@ -143,9 +142,9 @@ module _ {Q : ℕ → Type 0} {order : List ℕ} {end : ℕ} {order-after : List
       }
 
   -- growing once more
-  pub grown-on : {order-last : List ℕ} {seen-last : List Bool} {end-last : ℕ} →
-      Grown Q order-after end-after order-last seen-last end-last → Grown Q order end order-last seen-last end-last
-  grown-on s =
+  pub lengthened-on : {order-last : List ℕ} {seen-last : List Bool} {end-last : ℕ} →
+      Lengthened Q order-after end-after order-last seen-last end-last → Lengthened Q order end order-last seen-last end-last
+  lengthened-on s =
       record {
         queue = s .queue;
         longer = omega (arith, r .longer, s .longer);
@@ -163,7 +162,7 @@ module _ {Q : ℕ → Type 0} {order : List ℕ} {end : ℕ} {order-after : List
 -- `head` has its links in the queue.
 pub record Visiting (f g : List ℕ) (d : ℕ) (order₀ : List ℕ) (end₀ : ℕ) (order : List ℕ) (seen : List Bool)
     (end head : ℕ) : Type 0 where
-  pub grown : Grown (Reach (by-two (link-of f) (link-of g)) d) order₀ end₀ order seen end
+  pub lengthened : Lengthened (Reach (by-two (link-of f) (link-of g)) d) order₀ end₀ order seen end
   pub start : T (test-of seen d)
   pub begun : end₀ ≤ head
   pub within : head ≤ end
@@ -175,15 +174,15 @@ pub visit-begins : {f g : List ℕ} {d : ℕ} {order₀ : List ℕ} {seen₀ : L
     Visiting f g d order₀ end₀ order seen end end₀
 visit-begins {f} {g} {d} {order₀} {seen = seen} ready put =
     record {
-      grown = grown-map (put .grown) (λ e i. rw i here);
+      lengthened = lengthened-map (put .lengthened) (λ e i. rw i here);
       start = put .start;
       begun = le-refl _;
-      within = put .grown .longer;
+      within = put .lengthened .longer;
       done = λ i l.
           let old = ready .closed (getD order₀ i 0) (ready .queue .held i l) in
-          rw (put .grown .same i l) (
-            grown-seen (put .grown) (ready .queue) (link-of f (getD order₀ i 0)) (old .0),
-            grown-seen (put .grown) (ready .queue) (link-of g (getD order₀ i 0)) (old .1),
+          rw (put .lengthened .same i l) (
+            lengthened-seen (put .lengthened) (ready .queue) (link-of f (getD order₀ i 0)) (old .0),
+            lengthened-seen (put .lengthened) (ready .queue) (link-of g (getD order₀ i 0)) (old .1),
           );
     }
 
@@ -193,10 +192,10 @@ pub visit-ends : {f g : List ℕ} {d : ℕ} {order₀ : List ℕ} {end₀ : ℕ}
     Visited f g d order₀ end₀ order seen end
 visit-ends {f} {g} {seen = seen} v h =
     record {
-      grown = v .grown;
+      lengthened = v .lengthened;
       start = v .start;
       closed = λ e t.
-          let at = v .grown .queue .place e t in
+          let at = v .lengthened .queue .place e t in
           subst (LinksSeen (link-of f) (link-of g) seen) (at .2) (v .done (at .0) (omega arith));
     }
 
@@ -204,7 +203,7 @@ visit-ends {f} {g} {seen = seen} v h =
 module _ {f g : List ℕ} {d : ℕ} {order₀ : List ℕ} {end₀ : ℕ} {order : List ℕ} {seen : List Bool} {end head : ℕ}
     (w : Followable f g d) (v : Visiting f g d order₀ end₀ order seen end head) (h : head < end) where
   head-reached : Reach (by-two (link-of f) (link-of g)) d (getD order head 0)
-  head-reached = v .grown .added head (v .begun) h
+  head-reached = v .lengthened .added head (v .begun) h
 
   first-reached : Reach (by-two (link-of f) (link-of g)) d (link-of f (getD order head 0))
   first-reached = reach-trans head-reached (by-first-link (link-of f) (link-of g) (getD order head 0))
@@ -234,14 +233,14 @@ module _ {f g : List ℕ} {d : ℕ} {order₀ : List ℕ} {end₀ : ℕ} {order 
       Visiting f g d order₀ end₀ order₂ seen₂ end₂ (head + 1)
   visit-step {order₂ = order₂} {seen₂ = seen₂} p q =
       record {
-        grown =
-            grown-on (v .grown)
-            (grown-on
-            (grown-map (p .grown) (λ e i. rw (i ∙ first-read) first-reached))
-            (grown-map (q .grown) (λ e i. rw (i ∙ second-read) second-reached)));
+        lengthened =
+            lengthened-on (v .lengthened)
+            (lengthened-on
+            (lengthened-map (p .lengthened) (λ e i. rw (i ∙ first-read) first-reached))
+            (lengthened-map (q .lengthened) (λ e i. rw (i ∙ second-read) second-reached)));
         start = later d (v .start);
         begun = omega (arith, v .begun);
-        within = omega (arith, p .grown .longer, q .grown .longer);
+        within = omega (arith, p .lengthened .longer, q .lengthened .longer);
         done = λ i l.
             ⊎-elim
             (λ (m : i < head).
@@ -251,16 +250,16 @@ module _ {f g : List ℕ} {d : ℕ} {order₀ : List ℕ} {end₀ : ℕ} {order 
             (λ (m : head ≤ i).
             let e : i ≡ head = omega arith in
             rw (ap (λ (k : ℕ). getD order₂ k 0) e ∙ same head h) (rw (← first-read, ← second-read)
-            (grown-seen (q .grown) (p .grown .queue) (getD f (getD order head 0) 0) (p .start), q .start)))
+            (lengthened-seen (q .lengthened) (p .lengthened .queue) (getD f (getD order head 0) 0) (p .start), q .start)))
             (lt-or-ge i head);
       }
     where
       same : (i : ℕ) → i < end → getD order₂ i 0 ≡ getD order i 0
-      same i l = q .grown .same i (omega (arith, p .grown .longer)) ∙ p .grown .same i l
+      same i l = q .lengthened .same i (omega (arith, p .lengthened .longer)) ∙ p .lengthened .same i l
 
       later : (e : ℕ) → T (test-of seen e) → T (test-of seen₂ e)
       later e t =
-          grown-seen (q .grown) (p .grown .queue) e (grown-seen (p .grown) (v .grown .queue) e t)
+          lengthened-seen (q .lengthened) (p .lengthened .queue) e (lengthened-seen (p .lengthened) (v .lengthened .queue) e t)
 
 -- ---- the darts of the queue as a set
 

@@ -1,8 +1,7 @@
 -- The laws of reaching, in the order of this page: paths put together and carried from one set of
 -- links to another; links that keep the present darts; the test `reaches` agrees with the relation
--- `Reach` where all that is reached lies below the bound, since each round of `grow` adds a dart until
+-- `Reach` where all that is reached lies below the bound, since each round of `spread` adds a dart until
 -- the list is closed under the links; links that lead back make reaching an equivalence.
--- Assumes nothing.
 use mathlib.Core.Path.{_≡_}
 use mathlib.Core.Logic.{_⊎_, inl, inr, ⊎-elim, _↔_}
 use mathlib.Core.Bool.{Bool, not}
@@ -18,7 +17,7 @@ use Rattle.finite.specs.Lists.{elem, union, all-in}
 use Rattle.finite.specs.ListLaws.{elem-one, elem-head, elem-tail, elem-cases, all-elem, some-fails}
 use Rattle.finite.specs.ListLaws.{elem-union, elem-union-left, elem-union-right, elem-flatMap}
 use Rattle.finite.specs.ListLaws.{elem-flatMap-by}
-use Rattle.orbits.specs.Reach.{Reach, here, there, by-one, by-two, grow, reached, reaches, StaysBelow}
+use Rattle.orbits.specs.Reach.{Reach, here, there, by-one, by-two, spread, reached, reaches, StaysBelow}
 pub use Rattle.orbits.specs.Links.{Dart, Keeps}
 
 -- ---- paths
@@ -80,12 +79,12 @@ reach-holds Q k d step (there {b = b} {c = c} r e) q =
 
 -- ---- the test
 
-grow-sound : (next : ℕ → List ℕ) (a k : ℕ) (s : List ℕ) → ((x : ℕ) → T (elem x s) → Reach next a x) →
-    (x : ℕ) → T (elem x (grow next k s)) → Reach next a x
-unfolding grow
-grow-sound next a zero s f x h = f x h
-grow-sound next a (suc k) s f x h =
-    grow-sound next a k (union (flatMap next s) s)
+spread-sound : (next : ℕ → List ℕ) (a k : ℕ) (s : List ℕ) → ((x : ℕ) → T (elem x s) → Reach next a x) →
+    (x : ℕ) → T (elem x (spread next k s)) → Reach next a x
+unfolding spread
+spread-sound next a zero s f x h = f x h
+spread-sound next a (suc k) s f x h =
+    spread-sound next a k (union (flatMap next s) s)
     (λ y m.
     ⊎-elim
     (λ (l : T (elem y (flatMap next s))).
@@ -97,7 +96,7 @@ grow-sound next a (suc k) s f x h =
 pub reaches-sound : (next : ℕ → List ℕ) (n a b : ℕ) → T (reaches next n a b) → Reach next a b
 unfolding reaches reached
 reaches-sound next n a b t =
-    grow-sound next a n (a ∷ []) (λ x h. rw (elem-one x a h) here) b t
+    spread-sound next a n (a ∷ []) (λ x h. rw (elem-one x a h) here) b t
 
 -- the members of s with all that lies one link from them
 widened : (ℕ → List ℕ) → List ℕ → List ℕ
@@ -118,20 +117,20 @@ widened-closed next s closed x c m e =
     linked : T (elem x (flatMap next s)) → T (elem x s)
     linked l = let i = elem-flatMap x next s l in closed (i .0) x (i .1) (i .2)
 
-grow-closed : (next : ℕ → List ℕ) (k : ℕ) (s : List ℕ) → Closed next s → Closed next (grow next k s)
-unfolding grow widened
-grow-closed next zero s closed = closed
-grow-closed next (suc k) s closed = grow-closed next k (widened next s) (widened-closed next s closed)
+spread-closed : (next : ℕ → List ℕ) (k : ℕ) (s : List ℕ) → Closed next s → Closed next (spread next k s)
+unfolding spread widened
+spread-closed next zero s closed = closed
+spread-closed next (suc k) s closed = spread-closed next k (widened next s) (widened-closed next s closed)
 
-grow-holds : (next : ℕ → List ℕ) (k : ℕ) (s : List ℕ) (x : ℕ) → T (elem x s) → T (elem x (grow next k s))
-unfolding grow widened
-grow-holds next zero s x m = m
-grow-holds next (suc k) s x m = grow-holds next k (widened next s) x (elem-union-right x (flatMap next s) s m)
+spread-holds : (next : ℕ → List ℕ) (k : ℕ) (s : List ℕ) (x : ℕ) → T (elem x s) → T (elem x (spread next k s))
+unfolding spread widened
+spread-holds next zero s x m = m
+spread-holds next (suc k) s x m = spread-holds next k (widened next s) x (elem-union-right x (flatMap next s) s m)
 
 widened-sound : (next : ℕ → List ℕ) (a : ℕ) (s : List ℕ) → ((x : ℕ) → T (elem x s) → Reach next a x) →
     (x : ℕ) → T (elem x (widened next s)) → Reach next a x
-unfolding widened grow
-widened-sound next a s f = grow-sound next a 1 s f
+unfolding widened spread
+widened-sound next a s f = spread-sound next a 1 s f
 
 module _ {n : ℕ} {next : ℕ → List ℕ} {a : ℕ} (stays : StaysBelow n next a) where
   -- widening adds a member, or there was none to add
@@ -150,17 +149,17 @@ module _ {n : ℕ} {next : ℕ → List ℕ} {a : ℕ} (stays : StaysBelow n nex
       (stays (new .0) (widened-sound next a s f (new .0) m)) (new .2) m))
       (decide (all-in (λ x. elem x s) (flatMap next s)))
 
-  grow-ends : (k : ℕ) (s : List ℕ) → ((x : ℕ) → T (elem x s) → Reach next a x) →
-      Closed next (grow next k s) ⊎ (k + size n s ≤ size n (grow next k s))
-  unfolding grow widened
-  grow-ends zero s f = inr (omega arith)
-  grow-ends (suc k) s f =
+  spread-ends : (k : ℕ) (s : List ℕ) → ((x : ℕ) → T (elem x s) → Reach next a x) →
+      Closed next (spread next k s) ⊎ (k + size n s ≤ size n (spread next k s))
+  unfolding spread widened
+  spread-ends zero s f = inr (omega arith)
+  spread-ends (suc k) s f =
       ⊎-elim
-      (λ (closed : Closed next s). inl (grow-closed next (suc k) s closed))
+      (λ (closed : Closed next s). inl (spread-closed next (suc k) s closed))
       (λ (l : size n s < size n (widened next s)).
       ⊎-elim (λ closed. inl closed)
-      (λ (h : k + size n (widened next s) ≤ size n (grow next k (widened next s))). inr (omega arith))
-      (grow-ends k (widened next s) (widened-sound next a s f)))
+      (λ (h : k + size n (widened next s) ≤ size n (spread next k (widened next s))). inr (omega arith))
+      (spread-ends k (widened next s) (widened-sound next a s f)))
       (widened-grows s f)
 
   reached-closed : Closed next (reached next n a)
@@ -168,17 +167,17 @@ module _ {n : ℕ} {next : ℕ → List ℕ} {a : ℕ} (stays : StaysBelow n nex
   reached-closed =
       ⊎-elim
       (λ closed. closed)
-      (λ (h : n + size n (a ∷ []) ≤ size n (grow next n (a ∷ []))).
+      (λ (h : n + size n (a ∷ []) ≤ size n (spread next n (a ∷ []))).
       absurd (omega (
         arith,
-        count-small n (λ x. elem x (grow next n (a ∷ []))),
+        count-small n (λ x. elem x (spread next n (a ∷ []))),
         count-some n a (λ x. elem x (a ∷ [])) (stays a here) (elem-head a []),
       )))
-      (grow-ends n (a ∷ []) (λ x m. rw (elem-one x a m) here))
+      (spread-ends n (a ∷ []) (λ x m. rw (elem-one x a m) here))
 
   pub stays-complete : {b : ℕ} → Reach next a b → T (reaches next n a b)
   unfolding reaches reached
-  stays-complete here = grow-holds next n (a ∷ []) a (elem-head a [])
+  stays-complete here = spread-holds next n (a ∷ []) a (elem-head a [])
   stays-complete (there {b = b} {c = c} r e) = reached-closed b c (stays-complete r) e
 
 -- where all that is reached lies below two bounds, the test does not go by the bound; nor by the

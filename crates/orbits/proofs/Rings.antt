@@ -1,7 +1,7 @@
 -- The orbit of a dart as a list: from the dart, each member's link is the next, and the last member's
 -- the dart itself; no member stands twice. `ring` of finite runs through it.
 -- Take the least number of links that leads back. Two darts on the way that were the same would
--- lead back by fewer. Assumes nothing.
+-- lead back by fewer.
 use mathlib.Core.Path.{_≡_, refl, sym, ap, subst, _∙_}
 use mathlib.Core.Logic.{_≢_, ⊎-elim}
 use mathlib.Core.Bool.{Bool}

@@ -1,7 +1,6 @@
 -- The laws of dart sets, in the order of this page: bits of a number, by division and by masks; what
 -- `has` and `with-dart` say; the set of the darts that pass a test has just those, and with one dart
 -- more it is the set of the wider test; tests that agree on the darts have one set.
--- Assumes nothing.
 use mathlib.Core.Path.{_≡_, refl, sym, _∙_, ap, ap₂}
 use mathlib.Core.Logic.{⊎-elim, _≢_}
 use mathlib.Core.Bool.{Bool, true, false, not, cond, _||_, or-false, or-true}

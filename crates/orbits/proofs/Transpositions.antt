@@ -1,7 +1,5 @@
 -- A permutation after a transposition of two darts (the field's composition with a transposition):
 -- it joins their orbits where they lie in two, and cuts their orbit in two where they lie in one.
--- Assumes nothing.
---
 -- Write g for f after a transposition of x and y: g x = f y, g y = f x, and else g d = f d.
 -- If x is not in the orbit of y, then from f y on g goes through the orbit of y as f does, to y. So
 -- g reaches y from x, and the orbits of g are those of f with these two joined.

@@ -1,8 +1,6 @@
 -- Walks end, in the order of this page: what must hold of g; what one step does; the darts that a walk has seen; a walk
 -- comes home just where its part is closed, and else ends loose at a dart that f fixes; it makes no
 -- more moves than there are darts, so that more moves left change nothing.
--- Assumes nothing.
---
 -- When an edge step is due at d, the darts seen are the pairs that edge steps went along before.
 -- They are closed under f, and under g but for the start and for what leads to d; and d is not one
 -- of them. If f moves d, then d and f d are two more. The point step from f d leads to none of these

@@ -3,7 +3,6 @@
 -- away (specs/Reach), n is the bound of the darts and `present` tells which of them are there.
 -- Document 01: "A fixed dart is an edge orbit of one"; "Only present darts and their orbits are
 -- counted"; "A closed walk is a connected part in which neither link fixes a dart".
--- Assumes nothing.
 use mathlib.Core.Bool.{Bool, not, _&&_}
 use mathlib.Core.List.{List}
 use Prim.Native.Nat.{ℕ}

@@ -2,7 +2,6 @@
 -- whose links lead from a dart to darts alone; darts, which are below a bound and present; links that
 -- keep the darts, permute them, or undo themselves on them; lists that hold permutations; the numbers
 -- of parts that two links have.
--- Assumes nothing.
 use mathlib.Core.Path.{_≡_}
 use mathlib.Core.Bool.{Bool, false}
 use mathlib.Core.List.{List}

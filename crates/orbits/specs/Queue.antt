@@ -3,7 +3,6 @@
 -- both links move the darts of some places.
 -- The first `end` places of `order` are the queue, and `seen` marks the darts that stand in it. So no
 -- dart is put twice, and what is reached from a dart is found in as many steps as it has darts.
--- Assumes nothing.
 use mathlib.Core.Path.{_≡_}
 use mathlib.Core.Bool.{Bool, not, _&&_}
 use mathlib.Core.List.{List}
@@ -25,7 +24,7 @@ pub record Queue (order : List ℕ) (seen : List Bool) (end : ℕ) : Type 0 wher
   pub size : end ≡ count dart-limit (test-of seen)
 
 -- a queue, and the queue that a call leaves: the same darts, and behind them some of which Q holds
-pub record Grown (Q : ℕ → Type 0) (order : List ℕ) (end : ℕ) (order-after : List ℕ)
+pub record Lengthened (Q : ℕ → Type 0) (order : List ℕ) (end : ℕ) (order-after : List ℕ)
     (seen-after : List Bool) (end-after : ℕ) : Type 0 where
   pub queue : Queue order-after seen-after end-after
   pub longer : end ≤ end-after
@@ -48,14 +47,14 @@ pub record Ready (f g : List ℕ) (d : ℕ) (order : List ℕ) (seen : List Bool
 -- it is in the queue, and nothing else is new
 pub record Visited (f g : List ℕ) (d : ℕ) (order : List ℕ) (end : ℕ) (order-after : List ℕ)
     (seen-after : List Bool) (end-after : ℕ) : Type 0 where
-  pub grown : Grown (Reach (by-two (link-of f) (link-of g)) d) order end order-after seen-after end-after
+  pub lengthened : Lengthened (Reach (by-two (link-of f) (link-of g)) d) order end order-after seen-after end-after
   pub start : T (test-of seen-after d)
   pub closed : Closed (link-of f) (link-of g) seen-after
 
 -- d alone is in the queue, and nothing else is new
 pub record Put (d : ℕ) (order : List ℕ) (end : ℕ) (order-after : List ℕ) (seen-after : List Bool)
     (end-after : ℕ) : Type 0 where
-  pub grown : Grown (λ e. e ≡ d) order end order-after seen-after end-after
+  pub lengthened : Lengthened (λ e. e ≡ d) order end order-after seen-after end-after
   pub start : T (test-of seen-after d)
 
 -- d stands in the queue

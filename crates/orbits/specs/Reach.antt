@@ -3,7 +3,6 @@
 -- which the prover runs.
 -- Document 01, "Reading a map": orbits are what one link reaches, connected parts (the field's
 -- components) what two links reach. Darts are numbers below a bound n, and no map is known here.
--- Assumes nothing.
 use mathlib.Core.Bool.{Bool}
 use mathlib.Core.List.{List, [], _∷_, flatMap}
 use Prim.Native.Nat.{ℕ, zero, suc, _<_}
@@ -27,15 +26,15 @@ abbrev pub StaysBelow : ℕ → (ℕ → List ℕ) → ℕ → Type 0
 StaysBelow n next d = (b : ℕ) → Reach next d b → b < n
 
 -- the members of s and what lies at most k links from one of them
-unfoldable pub grow : (ℕ → List ℕ) → ℕ → List ℕ → List ℕ
+unfoldable pub spread : (ℕ → List ℕ) → ℕ → List ℕ → List ℕ
 unfolding union flatMap
-grow next zero s = s
-grow next (suc k) s = grow next k (union (flatMap next s) s)
+spread next zero s = s
+spread next (suc k) s = spread next k (union (flatMap next s) s)
 
 -- all that is reached from a among n darts: n links are enough
 unfoldable pub reached : (ℕ → List ℕ) → ℕ → ℕ → List ℕ
-unfolding grow
-reached next n a = grow next n (a ∷ [])
+unfolding spread
+reached next n a = spread next n (a ∷ [])
 
 -- b is reached from a among n darts, as a test
 unfoldable pub reaches : (ℕ → List ℕ) → ℕ → ℕ → ℕ → Bool

@@ -1,7 +1,7 @@
 -- A set of darts as sixteen words with its size, in the order of this page: the set of the darts
 -- that pass a test; the set of none; membership; a set with one dart more.
 -- Document 01: "An orbit is given as sixteen 64-bit words, bit j of word w standing for dart
--- 64 × w + j, with the number of its darts." Assumes nothing.
+-- 64 × w + j, with the number of its darts."
 use mathlib.Core.Bool.{Bool, not, cond, _&&_}
 use Prim.Native.Nat.{ℕ, zero, suc, _+_, _*_, _/_, _%_, _^_}
 use lib.Dec.{eqb, ltb}

@@ -3,7 +3,7 @@
 -- step reaches its start, or loose when an edge step is due at a dart with a fixed edge link. It
 -- gives the last dart, the ending and the moves made, never more than there are darts. A walker can
 -- be moved by one link and shows the dart it has reached."
--- Here f is the edge link and g the point link. Assumes nothing.
+-- Here f is the edge link and g the point link.
 use mathlib.Core.Bool.{cond}
 use Prim.Native.Nat.{ℕ, zero, suc}
 use lib.Dec.{eqb}

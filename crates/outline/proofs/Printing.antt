@@ -1,5 +1,5 @@
 -- The loop that prints pieces, in the order of this page: where it begins; a piece that has bytes is
--- not the last, and one that has none is; the report on a text. Assumes nothing.
+-- not the last, and one that has none is; the report on a text.
 use mathlib.Core.Path.{_≡_, _∙_}
 use mathlib.Core.Logic.{_≢_}
 use mathlib.Core.Bool.{true, false}
@@ -7,7 +7,7 @@ use mathlib.Core.List.{List, []}
 use Prim.Native.Nat.{ℕ, _≤_, _<_}
 use native.Mathlib.Omega.{arith}
 use lib.ListN.{length}
-use Rattle.reports.specs.declared.Decided.{Decided}
+use Rattle.reports.specs.declared.Summary.{Summary}
 use Rattle.lines.specs.declared.positions.Piece.{Piece}
 use Rattle.lines.specs.Lines.{line-count}
 use Rattle.reports.specs.Deciding.{Decides}
@@ -22,18 +22,18 @@ abbrev pub buffer-length : ℕ
 buffer-length = 65_536
 
 -- before each piece: the pieces so far, and a whole buffer
-pub record Printing (answers : List ℕ) (d : Decided) (buffer : List ℕ) (from : ℕ) : Type 0 where
+pub record Printing (answers : List ℕ) (d : Summary) (buffer : List ℕ) (from : ℕ) : Type 0 where
   pub bytes : List ℕ
   pub pieces : Pieces answers d from bytes
   pub inside : from ≤ line-count (d .ends)
   pub long : length buffer ≡ buffer-length
 
-pub none-printed : (answers : List ℕ) (d : Decided) {buffer : List ℕ} →
+pub none-printed : (answers : List ℕ) (d : Summary) {buffer : List ℕ} →
     buffer-length ≡ length buffer → Printing answers d buffer 0
 none-printed answers d e =
     record { bytes = []; pieces = begun; inside = omega arith; long = omega arith }
 
-module _ {answers : List ℕ} {d : Decided} {buffer after : List ℕ} {from : ℕ} {r : Piece}
+module _ {answers : List ℕ} {d : Summary} {buffer after : List ℕ} {from : ℕ} {r : Piece}
     (p : Printing answers d buffer from)
     (w : WroteLines answers d from buffer after r) where
   pub buffer-whole : length after ≡ buffer-length
@@ -62,7 +62,7 @@ module _ {answers : List ℕ} {d : Decided} {buffer after : List ℕ} {from : �
       }
 
 -- a piece that cannot be written is not counted
-pub print-failed : {answers : List ℕ} {d : Decided} {buffer : List ℕ} {from : ℕ} →
+pub print-failed : {answers : List ℕ} {d : Summary} {buffer : List ℕ} {from : ℕ} →
     Printing answers d buffer from →
     PrintsLines answers d (record { next = from; failed = true })
 print-failed p =
@@ -73,7 +73,7 @@ print-failed p =
     }
 
 -- pieces to the end are the report
-pub report-printed : {text answers : List ℕ} {d : Decided} {r : Printed} →
+pub report-printed : {text answers : List ℕ} {d : Summary} {r : Printed} →
     Decides text answers d → PrintsLines answers d r → PrintsReport text r
 report-printed {text} {answers} {d} decides p =
     record {

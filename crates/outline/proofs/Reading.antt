@@ -1,5 +1,5 @@
 -- Reading, in the order of this page: one read into the rest of a list; the loop: where it begins,
--- one read more, where a read ends it, where the list is full. Assumes nothing.
+-- one read more, where a read ends it, where the list is full.
 use mathlib.Core.Path.{_≡_, refl, _∙_}
 use mathlib.Core.Bool.{true, false}
 use mathlib.Core.List.{List}

@@ -1,18 +1,18 @@
 -- What is handed to standard output, in the order of this page: pieces of what was decided; the
--- report on a text. Assumes nothing.
+-- report on a text.
 use mathlib.Core.Path.{_≡_}
 use mathlib.Core.Bool.{false}
 use mathlib.Core.List.{List}
 use Prim.Native.Nat.{ℕ}
 use Rattle.model.specs.Report.{report}
-use Rattle.reports.specs.declared.Decided.{Decided}
+use Rattle.reports.specs.declared.Summary.{Summary}
 use Rattle.lines.specs.Lines.{line-count}
 use Rattle.reports.specs.Pieces.{Pieces}
 use Rattle.outline.specs.declared.Printed.{Printed}
 
 -- the bytes that were handed over without a failure are those of pieces up to a position, and where
 -- nothing failed that is the end
-pub record PrintsLines (answers : List ℕ) (d : Decided) (r : Printed) : Type 0 where
+pub record PrintsLines (answers : List ℕ) (d : Summary) (r : Printed) : Type 0 where
   pub bytes : List ℕ
   pub pieces : Pieces answers d (r .next) bytes
   pub whole : r .failed ≡ false → r .next ≡ line-count (d .ends)
@@ -20,6 +20,6 @@ pub record PrintsLines (answers : List ℕ) (d : Decided) (r : Printed) : Type 0
 -- so where nothing failed they are the report on the text
 pub record PrintsReport (text : List ℕ) (r : Printed) : Type 0 where
   pub answers : List ℕ
-  pub decided : Decided
+  pub decided : Summary
   pub prints : PrintsLines answers decided r
   pub is-report : r .failed ≡ false → prints .bytes ≡ report text

@@ -1,6 +1,5 @@
 -- What was read of standard input, in the order of this page: one read; reads, one after another;
--- all of them. Of the bytes that a read puts into the list the system promises nothing. Assumes
--- nothing.
+-- all of them. Of the bytes that a read puts into the list the system promises nothing.
 use mathlib.Core.Path.{_≡_}
 use mathlib.Core.Bool.{false}
 use mathlib.Core.List.{List}

@@ -13,7 +13,7 @@
 use libc::STDERR_FILENO;
 use libc::STDIN_FILENO;
 use libc::STDOUT_FILENO;
-use reports::Decided;
+use reports::Summary;
 use reports::decide;
 use reports::deciding::TEXT_LIMIT;
 use reports::no_answers;
@@ -118,7 +118,7 @@ fn print_report(text: &[u8]) -> Printed
 }
 
 // Prints what was decided piece by piece, each of whole lines.
-fn print_lines(answers: &[u32], decided: Decided) -> Printed
+fn print_lines(answers: &[u32], decided: Summary) -> Printed
     requires { ⌜ Fits decided ⌝ }
     ensures { λ r. ⌜ PrintsLines (now (answers .entry)) decided r ⌝ }
 {

@@ -4,7 +4,6 @@
 -- Of a triangle a b p, let u, v, w be the dot products at p, b, a. Then u + v, v + w, w + u are the
 -- squares of its sides, and u v + v w + w u is the square of its orientation. So where that is 0 and
 -- the points differ, not all three of u, v, w are 0 or more.
--- Assumes nothing.
 use mathlib.Core.Path.{_≡_, sym, subst, ap, _∙_}
 use mathlib.Core.Logic.{_≢_, _⊎_, inl, inr, ⊎-elim}
 use mathlib.Core.List.{List}
@@ -26,13 +25,13 @@ use Rattle.finite.specs.Tests.{and-both}
 use Rattle.finite.specs.Lists.{elem}
 use Rattle.model.specs.declared.Point.{Point}
 use Rattle.model.specs.Plane.{at, orientation, left-of, visible-from, in-line, strictly-between}
-use Rattle.plane.specs.OrientedAnswer.{Near}
+use Rattle.plane.specs.OrientedAnswer.{RangedCoordinates}
 use Rattle.plane.specs.Between.{dot, opposite}
 use Rattle.plane.proofs.Orientation.{orientation-expr, orientation-twice, left-positive, positive-left, negative-visible, zero-in-line}
 use Rattle.plane.proofs.Bounds.{span, read-back, read-point}
 use Rattle.plane.proofs.Convex.{Convex, next-member, prev-member, prev-next, next-prev, next-below, next-differs, next-not-prev, entering-left}
 
-module _ (a b p : Point) (near : Near (a .x) (a .y) (b .x) (b .y) (p .x) (p .y)) where
+module _ (a b p : Point) (near : RangedCoordinates (a .x) (a .y) (b .x) (b .y) (p .x) (p .y)) where
   dot-bounded : Bounded (span * span + span * span) (dot a b p)
   dot-bounded =
       +ℤ-bounded

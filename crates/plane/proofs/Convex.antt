@@ -3,7 +3,6 @@
 -- each edge; the list may begin at any corner, and is the ring that `next` makes; `next` and `prev`
 -- lead from corner to corner and back; a point that is general of the numbered ones, and the edges it
 -- sees, which are not all.
--- Assumes nothing.
 use mathlib.Core.Path.{_≡_, sym, ap, subst, _∙_}
 use mathlib.Core.Logic.{_≢_, ⊎-elim}
 use mathlib.Core.Bool.{Bool, not}

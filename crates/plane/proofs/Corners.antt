@@ -3,7 +3,7 @@
 -- both; the lines from q through the two have every other numbered point on one side (tangents); so
 -- each is the only one.
 -- Document 01: "The left corner is the one whose entering edge is not visible and whose leaving
--- edge is; the right corner the reverse." Assumes nothing.
+-- edge is; the right corner the reverse."
 use mathlib.Core.Path.{_≡_, sym, subst}
 use mathlib.Core.Logic.{_≢_, ⊎-elim}
 use mathlib.Core.Bool.{Bool, not, _&&_}

@@ -2,7 +2,6 @@
 -- its edges a to b, does not depend on q: between two bases an edge's terms differ by g b - g a, and
 -- round the list that comes to nothing. Half of the sum is the area that the list goes round.
 -- Then the sum's sign, from the signs of its terms.
--- Assumes nothing.
 use mathlib.Core.Path.{_≡_, refl, ap₂, _∙_}
 use mathlib.Core.List.{List, [], _∷_, _++_}
 use native.Mathlib.Omega.{arith}

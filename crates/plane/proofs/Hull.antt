@@ -1,6 +1,5 @@
 -- The outline is the hull: a to b is an edge of a convex outline if and only if a and b are two of the
 -- numbered points and all others lie strictly left of it. So the points alone decide the edges.
--- Assumes nothing.
 use mathlib.Core.Path.{_≡_, sym, ap, subst, _∙_}
 use mathlib.Core.Logic.{_≢_, ⊎-elim, _↔_}
 use mathlib.Core.Bool.{not}

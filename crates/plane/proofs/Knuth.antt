@@ -2,7 +2,6 @@
 -- `left-of`, in his order and letters: cyclic symmetry, antisymmetry, nondegeneracy, interiority,
 -- transitivity; then the dual of the fifth. Three points may be in line here, so the third has one
 -- case more. Then a point within an angle: what both arms of the angle have on one side, it has.
--- Assumes nothing.
 use mathlib.Core.Path.{_≡_, sym, ap, _∙_}
 use mathlib.Core.Logic.{_⊎_, inl, inr, ⊎-elim}
 use native.Mathlib.Omega.{arith}

@@ -2,7 +2,6 @@
 -- right corner and rotated, so that the hidden edges come first and the visible ones follow from the
 -- left corner on; its lengths, members and count; that there is such a cut where just one corner is
 -- left and just one right, and so where a point that is general sees an edge.
--- Assumes nothing.
 use mathlib.Core.Path.{_≡_, sym, ap, subst, _∙_}
 use mathlib.Core.Logic.{⊎-elim}
 use mathlib.Core.Bool.{Bool, not}

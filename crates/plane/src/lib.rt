@@ -10,7 +10,7 @@ ghost use mathlib.Core.Path.{_≡_};
 ghost use mathlib.Core.Bool.{_&&_};
 ghost use lib.Dec.{T};
 ghost use Rattle.model.specs.Plane.{at, beside, coordinate-in-range, in-line, in-range, left-of, orientation, same-point, sees-edge, visible-from};
-ghost use Rattle.plane.specs.OrientedAnswer.{Near, OrientedAnswer};
+ghost use Rattle.plane.specs.OrientedAnswer.{RangedCoordinates, OrientedAnswer};
 
 // Coordinates run from -COORDINATE_LIMIT to COORDINATE_LIMIT.
 pub const COORDINATE_LIMIT: i64 = 1000000;
@@ -107,7 +107,7 @@ pub fn orientation_in_range(a: Point, b: Point, c: Point) -> i64
 
 // The orientation of three points by their coordinates, which are in range.
 pub fn determinant(ax: i64, ay: i64, bx: i64, by: i64, cx: i64, cy: i64) -> i64
-    requires { ⌜ Near ax ay bx by cx cy ⌝ }
+    requires { ⌜ RangedCoordinates ax ay bx by cx cy ⌝ }
     ensures { λ r. ⌜ r ≡ orientation (at ax ay) (at bx by) (at cx cy) ⌝ }
 {
     (bx - ax) * (cy - ay) - (by - ay) * (cx - ax)

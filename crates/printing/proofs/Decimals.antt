@@ -1,6 +1,6 @@
 -- Numbers in decimal, in the order of this page: one digit; one digit more, where there are digits
 -- enough; how many digits there are at most; the same of a number that is spelt; writing it from
--- the last digit to the first. Assumes nothing.
+-- the last digit to the first.
 use mathlib.Core.Path.{_≡_, refl, sym, ap, subst, _∙_}
 use mathlib.Core.Logic.{⊎-elim}
 use mathlib.Core.Bool.{true, false, true≢false}
@@ -14,7 +14,7 @@ use lib.ListN.{length, set, length-append}
 use lib.Seq.{append-snoc}
 use Rattle.finite.specs.Bounded.{lt-or-ge}
 use Rattle.model.specs.Spelling.{decimal, digit-zero, minus, spelt}
-use Rattle.printing.specs.Writing.{Room, Wrote}
+use Rattle.printing.specs.Writing.{Room, PutAt}
 use Rattle.printing.proofs.Overwriting.{wrote-before, wrote-length, wrote-none}
 
 module _ (k n : ℕ) where
@@ -128,7 +128,7 @@ pub record Backwards (lent : List ℕ) (at n end : ℕ) (now : List ℕ) (rest p
   pub back : List ℕ
   pub splits : spelt (pos n) ≡ spelt (pos rest) ++ back
   pub begins : place + 1 ≡ at + length (spelt (pos rest))
-  pub wrote : Wrote lent (place + 1) back now end
+  pub wrote : PutAt lent (place + 1) back now end
   pub less : rest ≤ n
 
 module _ {lent : List ℕ} {at n : ℕ} (room : Room lent at (spelt (pos n))) (fits : n < 2 ^ 64) where
@@ -189,12 +189,12 @@ module _ {lent : List ℕ} {at n : ℕ} (room : Room lent at (spelt (pos n))) (f
 
     -- the first digit
     pub backwards-all : {b : ℕ} → rest < 10 → b ≡ digit-zero + rest →
-        Wrote lent at (spelt (pos n)) (set now place b) end
+        PutAt lent at (spelt (pos n)) (set now place b) end
     backwards-all {b} h e =
         let one : spelt (pos rest) ≡ b ∷ [] = rw e (spelt-one rest h) in
         let first : place ≡ at = omega (arith, w .begins, ap length one) in
         let whole : spelt (pos n) ≡ b ∷ w .back =
         w .splits ∙ ap (λ (s : List ℕ). s ++ w .back) one in
         rw whole
-        (subst (λ (k : ℕ). Wrote lent k (b ∷ w .back) (set now place b) end) first
+        (subst (λ (k : ℕ). PutAt lent k (b ∷ w .back) (set now place b) end) first
         (wrote-before b (room-before b) (w .wrote)))

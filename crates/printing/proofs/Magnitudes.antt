@@ -1,5 +1,5 @@
 -- The magnitude of a signed number as the machine computes it: -1 - z is not negative where z is,
--- and one less than the magnitude, so that the least number is served too. Assumes nothing.
+-- and one less than the magnitude, so that the least number is served too.
 use mathlib.Core.Path.{_≡_, sym, ap, subst, _∙_}
 use mathlib.Core.Bool.{Bool, true, false, true≢false}
 use mathlib.Core.List.{_∷_}

@@ -1,5 +1,5 @@
 -- The printed lines of answers, in the order of this page: what the line of each answer is; how
--- many bytes it takes at most; the line of an arrival in the report. Assumes nothing.
+-- many bytes it takes at most; the line of an arrival in the report.
 use mathlib.Core.Path.{_≡_, refl, ap, _∙_}
 use mathlib.Core.List.{List, [], _∷_, _++_}
 use Prim.Native.Nat.{ℕ, _+_, _*_, _≤_}

@@ -1,7 +1,6 @@
 -- The report by places, in the order of this page: its lines from a place of the survey text on
 -- are the line of one arrival and the lines from the next place on, or the last two; what those
 -- two are. For a loop that writes the report.
--- Assumes nothing.
 use mathlib.Core.Path.{_≡_, refl, ap}
 use mathlib.Core.Bool.{true, false}
 use mathlib.Core.List.{List, [], _∷_, _++_}

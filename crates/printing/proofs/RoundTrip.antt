@@ -1,7 +1,7 @@
 -- Numbers are read as they are written, and written as they are read, in the order of this page:
 -- the value of digits with one digit more; what decimal digits are, and how few; digits that are
 -- read are the decimal digits of their value; then with the sign, for every number below
--- 10^digit-limit. For request #101. Assumes nothing.
+-- 10^digit-limit. For request #101.
 use mathlib.Core.Path.{_≡_, refl, sym, ap, subst, _∙_}
 use mathlib.Core.Logic.{⊎-elim, _≢_}
 use mathlib.Core.Bool.{Bool, true, false, not, _&&_, false≢true}

@@ -1,5 +1,5 @@
 -- Values printed one after another, each after a space, in the order of this page: of lists put
--- together; of the values before a place and one more; how many bytes they take. Assumes nothing.
+-- together; of the values before a place and one more; how many bytes they take.
 use mathlib.Core.Path.{_≡_, refl, sym, ap, _∙_}
 use mathlib.Core.List.{List, [], _∷_, _++_, append-assoc, append-nil}
 use Prim.Native.Nat.{ℕ, _+_, _*_, _≤_, _<_}
@@ -11,7 +11,7 @@ use lib.Seq.{take-suc, take-length}
 use Rattle.model.specs.Spelling.{space, spelt}
 use Rattle.model.specs.Report.{spaced}
 use Rattle.printing.specs.Printing.{values-spaced}
-use Rattle.printing.specs.Writing.{Room, Wrote}
+use Rattle.printing.specs.Writing.{Room, PutAt}
 use Rattle.printing.proofs.Decimals.{spelt-length}
 use Rattle.printing.proofs.Overwriting.{room-first, room-second, wrote-then, room-as, wrote-as, wrote-none, wrote-length}
 
@@ -68,7 +68,7 @@ spaced-length (v ∷ values) =
 
 -- the values before place i are written
 pub record Printed (lent : List ℕ) (at : ℕ) (values now : List ℕ) (end i : ℕ) : Type 0 where
-  pub so-far : Wrote lent at (printed-to values i) now end
+  pub so-far : PutAt lent at (printed-to values i) now end
   pub inside : i ≤ length values
 
 module _ {lent : List ℕ} {at : ℕ} (values : List ℕ) (r : Room lent at (values-spaced values)) where
@@ -98,7 +98,7 @@ module _ {lent : List ℕ} {at : ℕ} (values : List ℕ) (r : Room lent at (val
       value-room = room-second (p .so-far) _ room-here
 
       pub printed-next : {after : List ℕ} {end′ : ℕ} →
-          Wrote now end (space ∷ spelt (pos (getD values i 0))) after end′ →
+          PutAt now end (space ∷ spelt (pos (getD values i 0))) after end′ →
           Printed lent at values after end′ (i + 1)
       printed-next w =
           record {
@@ -106,5 +106,5 @@ module _ {lent : List ℕ} {at : ℕ} (values : List ℕ) (r : Room lent at (val
             inside = omega arith;
           }
 
-    pub printed-whole : length values ≤ i → Wrote lent at (values-spaced values) now end
+    pub printed-whole : length values ≤ i → PutAt lent at (values-spaced values) now end
     printed-whole h = wrote-as (sym (printed-all values i h (p .inside))) (p .so-far)

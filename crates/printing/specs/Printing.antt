@@ -1,7 +1,6 @@
 -- The printed lines of a report, in the order of this page: a word with its values; the line of an
 -- arrival. Document 01, "The text program": "Fields: line number from 0, arrival, point numbers of
--- the left and right corner, visible edges. Each printed line ends in a line feed." Assumes
--- nothing.
+-- the left and right corner, visible edges. Each printed line ends in a line feed."
 use mathlib.Core.List.{List, [], _∷_, _++_, map}
 use Prim.Native.Nat.{ℕ}
 use lib.IntN.{pos}

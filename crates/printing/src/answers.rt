@@ -16,13 +16,13 @@ ghost use Rattle.model.specs.Spelling.{space, spelt};
 ghost use Rattle.model.specs.Maps.{point-limit};
 ghost use Rattle.model.specs.Answers.{arrival-answer, refused};
 ghost use Rattle.model.specs.Report.{printed};
-ghost use Rattle.printing.specs.Writing.{Room, Wrote};
+ghost use Rattle.printing.specs.Writing.{Room, PutAt};
 ghost use Rattle.printing.specs.Printing.{answer-line, arrival-line, values-spaced};
 
 // Writes the line of an arrival, after the number of the survey's line.
 pub fn put_arrival(lent: &mut [u8], at: usize, line: usize, arrival: Arrival) -> usize
     requires { ⌜ Room (now lent) at (arrival-line line arrival) ⌝ }
-    ensures { λ r. ⌜ Wrote (now (lent .entry)) at (arrival-line line arrival)
+    ensures { λ r. ⌜ PutAt (now (lent .entry)) at (arrival-line line arrival)
         (now (lent .exit)) r ⌝ }
 {
     let after_number = put_natural(lent, at, line as u64);
@@ -40,7 +40,7 @@ pub fn arrival_length(line: usize, arrival: Arrival) -> usize
 // Writes the word of an arrival, its values and a line feed.
 fn put_arrival_answer(lent: &mut [u8], at: usize, arrival: Arrival) -> usize
     requires { ⌜ Room (now lent) at (printed (arrival-answer arrival)) ⌝ }
-    ensures { λ r. ⌜ Wrote (now (lent .entry)) at (printed (arrival-answer arrival))
+    ensures { λ r. ⌜ PutAt (now (lent .entry)) at (printed (arrival-answer arrival))
         (now (lent .exit)) r ⌝ }
 {
     match arrival {
@@ -81,7 +81,7 @@ fn arrival_answer_length(arrival: Arrival) -> usize
 // Writes the line of a refusal.
 pub fn put_refused(lent: &mut [u8], at: usize, refusal: Refusal) -> usize
     requires { ⌜ Room (now lent) at (printed (refused refusal)) ⌝ }
-    ensures { λ r. ⌜ Wrote (now (lent .entry)) at (printed (refused refusal))
+    ensures { λ r. ⌜ PutAt (now (lent .entry)) at (printed (refused refusal))
         (now (lent .exit)) r ⌝ }
 {
     let values = [refusal_number(refusal)];
@@ -99,7 +99,7 @@ pub fn refused_length(refusal: Refusal) -> usize
 // Writes a value after a space.
 fn put_value(lent: &mut [u8], at: usize, value: usize) -> usize
     requires { ⌜ Room (now lent) at (space ∷ spelt (pos value)) ⌝ }
-    ensures { λ r. ⌜ Wrote (now (lent .entry)) at (space ∷ spelt (pos value))
+    ensures { λ r. ⌜ PutAt (now (lent .entry)) at (space ∷ spelt (pos value))
         (now (lent .exit)) r ⌝ }
 {
     let digits = put_byte(lent, at, b' ');
@@ -109,7 +109,7 @@ fn put_value(lent: &mut [u8], at: usize, value: usize) -> usize
 // Writes values, each after a space.
 pub fn put_values(lent: &mut [u8], at: usize, values: &[usize]) -> usize
     requires { ⌜ Room (now lent) at (values-spaced (now values)) ⌝ }
-    ensures { λ r. ⌜ Wrote (now (lent .entry)) at (values-spaced (now (values .entry)))
+    ensures { λ r. ⌜ PutAt (now (lent .entry)) at (values-spaced (now (values .entry)))
         (now (lent .exit)) r ⌝ }
 {
     let mut end = at;
@@ -134,7 +134,7 @@ pub fn values_length(values: &[usize]) -> usize
 // Writes a line of a word and its values.
 pub fn put_answer(lent: &mut [u8], at: usize, word: &[u8], values: &[usize]) -> usize
     requires { ⌜ Room (now lent) at (answer-line (now word) (now values)) ⌝ }
-    ensures { λ r. ⌜ Wrote (now (lent .entry)) at
+    ensures { λ r. ⌜ PutAt (now (lent .entry)) at
         (answer-line (now (word .entry)) (now (values .entry))) (now (lent .exit)) r ⌝ }
 {
     let after_word = put_word(lent, at, word);
@@ -145,7 +145,7 @@ pub fn put_answer(lent: &mut [u8], at: usize, word: &[u8], values: &[usize]) -> 
 // Writes a line of a word alone.
 pub fn put_line(lent: &mut [u8], at: usize, word: &[u8]) -> usize
     requires { ⌜ Room (now lent) at (answer-line (now word) []) ⌝ }
-    ensures { λ r. ⌜ Wrote (now (lent .entry)) at (answer-line (now (word .entry)) [])
+    ensures { λ r. ⌜ PutAt (now (lent .entry)) at (answer-line (now (word .entry)) [])
         (now (lent .exit)) r ⌝ }
 {
     let after_word = put_word(lent, at, word);

@@ -7,12 +7,12 @@ ghost use Prim.Native.Nat.{_+_, _<_};
 ghost use lib.IntN.{pos, natAbs};
 ghost use lib.ListN.{length};
 ghost use Rattle.model.specs.Spelling.{digit-zero, spelt};
-ghost use Rattle.printing.specs.Writing.{Room, Wrote};
+ghost use Rattle.printing.specs.Writing.{Room, PutAt};
 
 // Writes one byte.
 pub fn put_byte(lent: &mut [u8], at: usize, b: u8) -> usize
     requires { ⌜ Room (now lent) at (b ∷ []) ⌝ }
-    ensures { λ r. ⌜ Wrote (now (lent .entry)) at (b ∷ []) (now (lent .exit)) r ⌝ }
+    ensures { λ r. ⌜ PutAt (now (lent .entry)) at (b ∷ []) (now (lent .exit)) r ⌝ }
 {
     lent[at] = b;
     at + 1
@@ -21,7 +21,7 @@ pub fn put_byte(lent: &mut [u8], at: usize, b: u8) -> usize
 // Writes a list of bytes.
 pub fn put_word(lent: &mut [u8], at: usize, word: &[u8]) -> usize
     requires { ⌜ Room (now lent) at (now word) ⌝ }
-    ensures { λ r. ⌜ Wrote (now (lent .entry)) at (now (word .entry)) (now (lent .exit)) r ⌝ }
+    ensures { λ r. ⌜ PutAt (now (lent .entry)) at (now (word .entry)) (now (lent .exit)) r ⌝ }
 {
     for i in 0..word.len() {
         lent[at + i] = word[i];
@@ -32,7 +32,7 @@ pub fn put_word(lent: &mut [u8], at: usize, word: &[u8]) -> usize
 // Writes a number in decimal, with a minus where it is negative.
 pub fn put_number(lent: &mut [u8], at: usize, z: i64) -> usize
     requires { ⌜ Room (now lent) at (spelt z) ⌝ }
-    ensures { λ r. ⌜ Wrote (now (lent .entry)) at (spelt z) (now (lent .exit)) r ⌝ }
+    ensures { λ r. ⌜ PutAt (now (lent .entry)) at (spelt z) (now (lent .exit)) r ⌝ }
 {
     if z < 0 {
         let digits = put_byte(lent, at, b'-');
@@ -56,7 +56,7 @@ pub fn number_length(z: i64) -> usize
 // Writes a number without a sign in decimal, from its last digit to its first.
 pub fn put_natural(lent: &mut [u8], at: usize, n: u64) -> usize
     requires { ⌜ Room (now lent) at (spelt (pos n)) ⌝ }
-    ensures { λ r. ⌜ Wrote (now (lent .entry)) at (spelt (pos n)) (now (lent .exit)) r ⌝ }
+    ensures { λ r. ⌜ PutAt (now (lent .entry)) at (spelt (pos n)) (now (lent .exit)) r ⌝ }
 {
     let end = at + natural_length(n);
     let mut rest = n;

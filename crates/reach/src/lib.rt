@@ -50,7 +50,7 @@ ghost use Rattle.model.specs.Report.{report, report-rules};
 ghost use Rattle.replies.specs.Served.{Served, ServedBoth, number-by, only};
 ghost use Rattle.replies.specs.Opened.{of-file};
 ghost use Rattle.replies.specs.Replies.{Offering, counts-reply, from-file, length-told};
-ghost use Rattle.replies.specs.Replies.{orbit-reply, place-reply, reply, signed};
+ghost use Rattle.replies.specs.Replies.{orbit-reply, place-reply, reply, values-of};
 ghost use Rattle.replies.specs.Replies.{walk-reply, walker-reply};
 
 // The orientation of three points: numbers 3 and 10.
@@ -64,7 +64,7 @@ pub extern "C" fn reach_orientation(
     cy: i64,
     out: &mut [i64],
 ) -> u32
-    ensures { λ r. ⌜ Served (reply signed (orientation-call (at ax ay) (at bx by) (at cx cy)))
+    ensures { λ r. ⌜ Served (reply values-of (orientation-call (at ax ay) (at bx by) (at cx cy)))
         (now (out .entry)) (now (out .exit)) r ⌝ }
 {
     write_orientation(point(ax, ay), point(bx, by), point(cx, cy), out)
@@ -72,7 +72,7 @@ pub extern "C" fn reach_orientation(
 
 // The orientation of three points.
 fn write_orientation(a: Point, b: Point, c: Point, out: &mut [i64]) -> u32
-    ensures { λ r. ⌜ Served (reply signed (orientation-call a b c))
+    ensures { λ r. ⌜ Served (reply values-of (orientation-call a b c))
         (now (out .entry)) (now (out .exit)) r ⌝ }
 {
     let oriented = orientation_of(a, b, c);
@@ -313,7 +313,7 @@ pub extern "C" fn reach_corners(map: &[u8], out: &mut [usize], count: &mut [usiz
 // The point that a text line names, with its one line feed or without it: numbers 8 and 10.
 #[no_mangle]
 pub extern "C" fn reach_line(line: &[u8], out: &mut [i64]) -> u32
-    ensures { λ r. ⌜ Served (reply signed (line-call (now (line .entry))))
+    ensures { λ r. ⌜ Served (reply values-of (line-call (now (line .entry))))
         (now (out .entry)) (now (out .exit)) r ⌝ }
 {
     let read = read_line(line);

@@ -1,6 +1,6 @@
 -- A point offered to a sound map, in the order of this page: the refusal of an arrival, by the case
 -- that the code tests; an arrival is served; the outcome is that of the rules; the map after it is
--- sound. Assumes nothing.
+-- sound.
 use mathlib.Core.Path.{_≡_, refl, sym, ap, subst}
 use mathlib.Core.Bool.{Bool, true, false, not, cond}
 use mathlib.Core.List.{[], _∷_}

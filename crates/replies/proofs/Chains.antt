@@ -1,7 +1,7 @@
 -- Demand 3 at the boundary, in the order of this page: what a call of `reach_offer` leaves, by the
 -- number that it returns; the file that an offer leaves of a sound map's file is that of the map
 -- after the offer; so a chain of calls from the empty map's file holds the map of the run
--- (`file-run`), of which demand 3 is proved. Assumes nothing.
+-- (`file-run`), of which demand 3 is proved.
 use mathlib.Core.Path.{_≡_, refl, sym, ap, _∙_}
 use mathlib.Core.Logic.{_≢_}
 use mathlib.Core.Bool.{Bool, true, false, not, cond, _||_}

@@ -1,6 +1,5 @@
 -- The laws of the map of a file after its checks, in the order of this page: what loading
 -- answers; a check more; what a served file gives; what the exported functions promise from it.
--- Assumes nothing.
 use mathlib.Core.Path.{_≡_, refl, sym, ap, subst, _∙_}
 use mathlib.Core.Bool.{Bool, true, false, not}
 use mathlib.Core.List.{List, [], _∷_, _++_}

@@ -1,6 +1,5 @@
 -- A result that is written into one lent list, and its length into another, in the order of this
 -- page: no room for the length; a result that is refused; a result that is written.
--- Assumes nothing.
 use mathlib.Core.Path.{_≡_, refl, sym, ap, _∙_}
 use mathlib.Core.Bool.{Bool, true, cond, _||_, or-true, or-false}
 use mathlib.Core.List.{List, [], _∷_}

@@ -1,6 +1,6 @@
 -- The laws of what the exported functions promise, in the order of this page: rules that stand in
 -- two parts; values without a rule, written or not; rules that are checked before; two lists; equal
--- arguments, and the point of two coordinates; an answer that is an enum. Assumes nothing.
+-- arguments, and the point of two coordinates; an answer that is an enum.
 use mathlib.Core.Path.{_≡_, refl, sym, ap, ap₂, subst, _∙_}
 use mathlib.Core.Bool.{Bool, true, false, cond, _||_, or-true}
 use mathlib.Core.List.{List, [], _∷_, _++_, append-assoc}

@@ -1,6 +1,6 @@
 -- Answers told by numbers, in the order of this page: the numbers of an orbit, and how many an
 -- arrival has; the answer that numbers tell, which is the one that they were made of. So different
--- answers have different numbers, and nothing is lost at the boundary. Assumes nothing.
+-- answers have different numbers, and nothing is lost at the boundary.
 use mathlib.Core.Path.{_≡_, refl, ap}
 use mathlib.Core.Bool.{cond}
 use mathlib.Core.List.{List, [], _∷_, _++_, map}

@@ -2,7 +2,6 @@
 -- in the order of this page: the file that one offer leaves; the file that a list of offers leaves.
 -- Document 01: "A refused offer, whatever its number, leaves the map as it was for the next one."
 -- That the chain from the empty map's file holds the map of the run is `file-run` of proofs/Chains.
--- Assumes nothing.
 use mathlib.Core.List.{List, [], _∷_}
 use Prim.Native.Nat.{ℕ}
 use Rattle.model.specs.declared.Point.{Point}

@@ -1,5 +1,5 @@
 -- The map of a file after checks: the outcome is that of the rules, and where none applies the
--- map is the file's. Document 01: "loading looks at 7 before 1". Assumes nothing.
+-- map is the file's. Document 01: "loading looks at 7 before 1".
 use mathlib.Core.Path.{_≡_}
 use mathlib.Core.Bool.{not}
 use mathlib.Core.List.{List, _∷_}

@@ -1,7 +1,7 @@
 -- The order in which each exported function looks at its rules, as the numbers of document 01's
 -- table: one computed test for each function, as model/specs/Orders has them for the engine's
 -- calls. Number 7 comes first where a map comes as a file, and number 10 last where a list is lent:
--- "The lowest number that applies is given; loading looks at 7 before 1." Assumes nothing.
+-- "The lowest number that applies is given; loading looks at 7 before 1."
 use mathlib.Core.Path.{_≡_, refl}
 use mathlib.Core.Bool.{Bool}
 use mathlib.Core.List.{List, [], _∷_}
@@ -21,7 +21,7 @@ use Rattle.model.specs.Report.{report-rules}
 use Rattle.model.specs.Lent.{and-short}
 use Rattle.replies.specs.Served.{Reply, only}
 use Rattle.replies.specs.Opened.{of-file}
-use Rattle.replies.specs.Replies.{signed, reply, from-file, counts-reply, orbit-reply}
+use Rattle.replies.specs.Replies.{values-of, reply, from-file, counts-reply, orbit-reply}
 use Rattle.replies.specs.Replies.{walk-reply, walker-reply, place-reply}
 
 -- the numbers of rules with number 10 after them, whether a lent list is short or not
@@ -33,7 +33,7 @@ module _ (short : Bool) where
   replied q = with-10 (q .rules)
 
   module _ (s : List ℕ) (p q r : Point) (kind : Kind) (link : Link) (d : ℕ) where
-    pub reach-orientation-order : replied (reply signed (orientation-call p q r)) ≡ 3 ∷ 10 ∷ []
+    pub reach-orientation-order : replied (reply values-of (orientation-call p q r)) ≡ 3 ∷ 10 ∷ []
     unfolding number
     reach-orientation-order = refl
 
@@ -76,7 +76,7 @@ module _ (short : Bool) where
     unfolding number
     reach-corners-order = refl
 
-    pub reach-line-order : replied (reply signed (line-call s)) ≡ 8 ∷ 10 ∷ []
+    pub reach-line-order : replied (reply values-of (line-call s)) ≡ 8 ∷ 10 ∷ []
     unfolding number
     reach-line-order = refl
 

@@ -1,7 +1,7 @@
 -- The rules and the values of each exported function, in the order of this page: numbers for an
 -- answer; an answer's word by a number; a call by its rules and its answer; a map that comes as a
 -- file; each function. Rules and answers are those of the engine's calls (model/specs), and what is
--- written is made of the answer as model/specs/Answers has it, for every case. Assumes nothing.
+-- written is made of the answer as model/specs/Answers has it, for every case.
 use mathlib.Core.Bool.{cond}
 use mathlib.Core.List.{List, [], _∷_, _++_, map}
 use Prim.Native.Nat.{ℕ, suc}
@@ -24,8 +24,8 @@ use Rattle.replies.specs.Served.{Reply, ServedBoth}
 use Rattle.replies.specs.Opened.{of-file}
 
 -- the values of an answer: as they stand, and where none is negative
-abbrev pub signed : Answer → List ℤ
-signed a = a .values
+abbrev pub values-of : Answer → List ℤ
+values-of a = a .values
 
 abbrev pub naturals : Answer → List ℕ
 naturals a = map natAbs (a .values)

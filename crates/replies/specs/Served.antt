@@ -2,7 +2,7 @@
 -- page: the rules of a call and the values that it writes; one lent list; two lent lists.
 -- Document 01: the number is that of the first rule that applies, 0 where the call is served.
 -- Number 10 comes last: "lent list shorter than the result; a longer one keeps its tail", and a
--- refused call leaves every lent list as it was. Assumes nothing.
+-- refused call leaves every lent list as it was.
 use mathlib.Core.Path.{_≡_}
 use mathlib.Core.Bool.{_||_}
 use mathlib.Core.List.{List, []}

@@ -1,6 +1,6 @@
 -- One line after another, what is decided and what is ahead make up the report, in the order of
 -- this page: the lines of the answers, and one more; nothing decided yet; a line that is refused; a
--- line whose point is accepted; the end of the text. Assumes nothing.
+-- line whose point is accepted; the end of the text.
 use mathlib.Core.Path.{_≡_, refl, sym, ap, _∙_}
 use mathlib.Core.Bool.{true, false}
 use mathlib.Core.List.{List, _++_, flatten, append-assoc}
@@ -130,7 +130,7 @@ module _ {text answers : List ℕ} {m : Map} {n at : ℕ} (r : Reports text m an
         rw (v-is, ap (λ (q : Read). q .next) here) (reports-refused x (ruled is found here))
 
     pub reports-accepted : (p : Point) →
-        Verdict.Accepted p ≡ verdict-by (m .xs) (m .ys) (m .count) (line-at text at) →
+        Verdict.Taken p ≡ verdict-by (m .xs) (m .ys) (m .count) (line-at text at) →
         Reports text (arrive m p .map) (set answers n (packed (arrive m p .arrival))) (n + 1)
         (next-line text at)
     reports-accepted p e =
@@ -149,7 +149,7 @@ module _ {text answers : List ℕ} {m : Map} {n at : ℕ} (r : Reports text m an
 
   module _ {from : ℕ} (further : from ≤ at) where
     pub stops-before : {p : Point} {found : Verdict} {read : Read} → at-end text at ≡ false →
-        found ≡ Verdict.Accepted p →
+        found ≡ Verdict.Taken p →
         found ≡ verdict-by (m .xs) (m .ys) (m .count) (read .line) → read ≡ read-at text at →
         Stopped text m answers from
         (record { at = at; next = read .next; line = n; ended = false; p = p })

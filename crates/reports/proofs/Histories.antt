@@ -1,6 +1,6 @@
 -- The report's map is that of the list of offers that its lines make, and its arrivals are those of
 -- the history, in the order of this page: one line more; all lines; the report. So demand 3 speaks
--- of every report. Assumes nothing.
+-- of every report.
 use mathlib.Core.Path.{_≡_, refl, sym, ap, _∙_}
 use mathlib.Core.Bool.{Bool, true, false, cond}
 use mathlib.Core.List.{List, [], _∷_, _++_, map, append-assoc, append-nil, map-append}
@@ -20,8 +20,8 @@ use Rattle.model.specs.Text.{line-read, lines}
 use Rattle.model.specs.Report.{text-limit, printed, offer-line, closing, arrivals, report}
 use Rattle.hull.proofs.History.{always-balanced}
 use Rattle.printing.specs.Printing.{arrival-line}
-use Rattle.lines.specs.Lines.{header}
-use Rattle.reports.specs.Histories.{named, points-named, answers-on, map-after, numbered, accepted-in, arrivals-of, ReportsHistory}
+use Rattle.lines.specs.Lines.{title}
+use Rattle.reports.specs.Histories.{with-named, points-named, answers-on, map-after, numbered, accepted-in, arrivals-of, ReportsHistory}
 
 -- a list of offers that came to the map m, with these answers more
 record Follows (r : Run) (m : Map) (answers : List Arrival) (after : Run) : Type 0 where
@@ -65,7 +65,7 @@ follows r (l ∷ ls) = go (line-read l) (λ q. follows q ls)
         (run-from q (points-named ls))) →
         Follows r (map-after (offer-line (r .map) line .map) ls)
         (offer-line (r .map) line .arrival ∷ answers-on (offer-line (r .map) line .map) ls)
-        (run-from r (named line (points-named ls)))
+        (run-from r (with-named line (points-named ls)))
     go (Line.Named p) rest =
         let f = rest (extended r p) in
         record {
@@ -101,10 +101,10 @@ reports-history text =
     let f = from-start (lines text) in
     record {
       is-report = λ short.
-          ap (λ (b : Bool). header
+          ap (λ (b : Bool). title
           ++ cond b (printed (refused Refusal.LongText)) (arrivals empty-map 0 (lines text)))
           (le-ltb text-limit (length text) short)
-          ∙ ap (λ (s : List ℕ). header ++ s)
+          ∙ ap (λ (s : List ℕ). title ++ s)
           (arrivals-numbered empty-map 0 (lines text)
           ∙ ap (λ (m : Map). numbered 0 (answers-on empty-map (lines text)) ++ closing m)
           (sym (f .same-map)));

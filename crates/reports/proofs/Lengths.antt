@@ -2,7 +2,7 @@
 -- line of an answer; the corners and the counts; the lines of a text; the report: never more than
 -- 16 bytes for each byte of the text and 4,096 more. A blank line, which is one byte, prints a
 -- number of five digits, `refused 8` and two bytes more: 16; any other line is two bytes, and prints
--- 26 at most. Assumes nothing.
+-- 26 at most.
 use mathlib.Core.Path.{_≡_, refl, ap}
 use mathlib.Core.Logic.{_≢_, ⊎-elim}
 use mathlib.Core.Bool.{Bool, true, false, cond}
@@ -136,7 +136,7 @@ offered-small {m} s line = go (verdict-by (m .xs) (m .ys) (m .count) line) refl
   where
     go : (v : Verdict) → v ≡ verdict-by (m .xs) (m .ys) (m .count) line →
         (length (printed (arrival-answer (offer-line m line .arrival))) ≤ 20) × Shaped (offer-line m line .map)
-    go (Verdict.Accepted q) e =
+    go (Verdict.Taken q) e =
         let a = line-accepted s line q e in
         rw (a .0) (answer-most (arrive-packable (a .1)), arrive-sound (a .1))
     go (Verdict.Refused r) e = rw (line-refused s line r e) (refused-answer-most r, s)

@@ -1,6 +1,6 @@
 -- What becomes of a line, as a sound map's coordinates have it, is what the definitions offer, in
 -- the order of this page: a refused line, and which refusals a line can get; an accepted one, and
--- what its arrival reports; the code's way to it. Assumes nothing.
+-- what its arrival reports; the code's way to it.
 use mathlib.Core.Path.{_≡_, sym, ap, subst, _∙_}
 use mathlib.Core.List.{List}
 use Prim.Native.Nat.{ℕ, _≤_}
@@ -39,7 +39,7 @@ unfolding verdict-on
 outcome-refused p r Outcome.Served e = absurd (let z : _≡_ {A = ℕ} 0 1 = cc in omega arith)
 outcome-refused p r (Outcome.Refused q) e = cc
 
-outcome-served : (p q : Point) (o : Outcome) → Verdict.Accepted q ≡ verdict-on p o →
+outcome-served : (p q : Point) (o : Outcome) → Verdict.Taken q ≡ verdict-on p o →
     (p ≡ q) × (Outcome.Served ≡ o)
 unfolding verdict-on
 outcome-served p q Outcome.Served e = (cc, cc)
@@ -54,7 +54,7 @@ module _ {m : Map} (s : Shaped m) where
   line-refused (Line.Refused q) r e = cc
 
   pub line-accepted : (line : Line) (q : Point) →
-      Verdict.Accepted q ≡ verdict-by (m .xs) (m .ys) (m .count) line →
+      Verdict.Taken q ≡ verdict-by (m .xs) (m .ys) (m .count) line →
       (offer-line m line ≡ arrive m q) × Accepted m q
   unfolding verdict-by offer-line
   line-accepted (Line.Named p) q e =
@@ -129,7 +129,7 @@ arrive-packable {m} {p} a = packable-by a (arrive m p) (arrive-arrives m p)
 module _ (xs ys : List ℤ) (count : ℕ) (line : Line) where
   module _ {p : Point} {o : Outcome} (named : line ≡ Line.Named p)
       (ruled : o ≡ admission-by xs ys count p) where
-    pub found-accepted : o ≡ Outcome.Served → Verdict.Accepted p ≡ verdict-by xs ys count line
+    pub found-accepted : o ≡ Outcome.Served → Verdict.Taken p ≡ verdict-by xs ys count line
     unfolding verdict-by verdict-on
     found-accepted e = rw (named, ← ruled, e)
 

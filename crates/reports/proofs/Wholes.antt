@@ -1,7 +1,6 @@
 -- What is decided is the report, in the order of this page: of a text that is too long; of any
 -- other; a list with room for the report gets all of it; a piece goes further until the last;
 -- pieces put together, from position 0 to the end, are the report. Document 01, "The text program".
--- Assumes nothing.
 use mathlib.Core.Path.{_≡_, refl, sym, ap, _∙_}
 use mathlib.Core.Logic.{_≢_, ⊎-elim}
 use mathlib.Core.Bool.{Bool, true, false, cond}
@@ -25,11 +24,11 @@ use Rattle.corners.specs.declared.listing.CornerList.{CornerList}
 use Rattle.corners.specs.Listing.{ListsCorners}
 use Rattle.printing.proofs.Overwriting.{wrote-length}
 use Rattle.printing.proofs.Reports.{closing-lines}
-use Rattle.reports.specs.declared.Decided.{Decided}
+use Rattle.reports.specs.declared.Summary.{Summary}
 use Rattle.reports.specs.declared.deciding.Surveyed.{Surveyed}
 use Rattle.lines.specs.declared.positions.Ends.{Ends}
 use Rattle.lines.specs.declared.positions.Piece.{Piece}
-use Rattle.lines.specs.Lines.{header, report-line, lines-from, line-count}
+use Rattle.lines.specs.Lines.{title, report-line, lines-from, line-count}
 use Rattle.reports.specs.Summaries.{corners-in, report-of, Fits}
 use Rattle.lines.specs.Printing.{Printable, PutLines}
 use Rattle.reports.specs.Pieces.{WroteLines, line-limit, Pieces, begun, continued}
@@ -38,7 +37,7 @@ use Rattle.lines.proofs.ReportLines.{report-line-most, lines-more, lines-none, 
 
 -- ---- a text that is too long
 
-pub decides-long : {text answers : List ℕ} {d : Decided} → ltb text-limit (length text) ≡ true →
+pub decides-long : {text answers : List ℕ} {d : Summary} → ltb text-limit (length text) ≡ true →
     d .ends .long ≡ true → length answers ≡ text-limit → Fits d → Decides text answers d
 unfolding report report-of
 decides-long {text} {answers} {d} h long whole fits =
@@ -47,7 +46,7 @@ decides-long {text} {answers} {d} h long whole fits =
       fits = fits;
       is-report =
           report-long answers (corners-in d) (d .ends) long
-          ∙ ap (λ (b : Bool). header
+          ∙ ap (λ (b : Bool). title
           ++ cond b (printed (refused Refusal.LongText)) (arrivals empty-map 0 (lines text)))
           (sym h);
     }
@@ -58,7 +57,7 @@ module _ {text answers : List ℕ} {s : Surveyed} {list : CornerList} {c : Count
     (surveys : Surveys text answers s) (lists : ListsCorners (s .map) list)
     (numbers : c ≡ counts (s .map))
     (short : ltb text-limit (length text) ≡ false) where
-  abbrev decided : Decided
+  abbrev decided : Summary
   decided =
       record {
         corners = list .places;
@@ -79,9 +78,9 @@ module _ {text answers : List ℕ} {s : Surveyed} {list : CornerList} {c : Count
             };
         is-report =
             report-short answers (take (list .count) (list .places)) (decided .ends) refl
-            ∙ ap (λ (l : List ℕ). header ++ l)
+            ∙ ap (λ (l : List ℕ). title ++ l)
             (rw (lists .members, numbers, ← closing-lines (s .map)) (surveys .together))
-            ∙ ap (λ (b : Bool). header
+            ∙ ap (λ (b : Bool). title
             ++ cond b (printed (refused Refusal.LongText)) (arrivals empty-map 0 (lines text)))
             (sym short);
       }
@@ -126,7 +125,7 @@ module _ {answers corners : List ℕ} {ends : Ends} {lent after : List ℕ} {r :
 
 -- ---- what was decided, lent as lists
 
-module _ {d : Decided} (f : Fits d) where
+module _ {d : Summary} (f : Fits d) where
   pub listed-length : d .listed ≡ length (corners-in d)
   listed-length =
       omega (arith, length-take (d .listed) (d .corners), f .corners-whole, f .corners-fit)
@@ -139,7 +138,7 @@ module _ {d : Decided} (f : Fits d) where
 
 -- ---- piece by piece
 
-module _ (answers : List ℕ) (d : Decided) {from : ℕ} {lent after : List ℕ} {r : Piece}
+module _ (answers : List ℕ) (d : Summary) {from : ℕ} {lent after : List ℕ} {r : Piece}
     (p : WroteLines answers d from lent after r) where
   abbrev piece : ℕ → List ℕ
   piece k = lines-from answers (corners-in d) (d .ends) from k
@@ -195,7 +194,7 @@ module _ (answers : List ℕ) (d : Decided) {from : ℕ} {lent after : List ℕ}
       ap (take (r .length)) (p .wrote .holds)
       ∙ take-at (piece (r .next - from)) _ (r .length) (sym e)
 
-pub pieces-are : {answers : List ℕ} {d : Decided} {j : ℕ} {s : List ℕ} → Pieces answers d j s →
+pub pieces-are : {answers : List ℕ} {d : Summary} {j : ℕ} {s : List ℕ} → Pieces answers d j s →
     s ≡ lines-from answers (corners-in d) (d .ends) 0 j
 pieces-are {answers} {d} begun = sym (lines-none answers (corners-in d) (d .ends) 0)
 pieces-are {answers} {d} (continued {from = from} {r = r} before p) =
@@ -208,7 +207,7 @@ pieces-are {answers} {d} (continued {from = from} {r = r} before p) =
     ∙ ap (lines-from answers (corners-in d) (d .ends) 0) e
 
 -- the pieces from position 0 to the end are the report on the text
-pub pieces-are-the-report : {text answers : List ℕ} {d : Decided} {s : List ℕ} →
+pub pieces-are-the-report : {text answers : List ℕ} {d : Summary} {s : List ℕ} →
     Decides text answers d → Pieces answers d (line-count (d .ends)) s → s ≡ report text
 unfolding report-of
 pieces-are-the-report decides pieces = pieces-are pieces ∙ decides .is-report

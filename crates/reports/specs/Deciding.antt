@@ -1,6 +1,6 @@
 -- How far a report is decided, in the order of this page: the answers before a line and the lines
 -- ahead make up the report; where the refusals stop; both by the coordinates of a map; all lines; what
--- was decided. Assumes nothing.
+-- was decided.
 use mathlib.Core.Path.{_≡_}
 use mathlib.Core.Bool.{true, false}
 use mathlib.Core.List.{List, _++_}
@@ -16,7 +16,7 @@ use Rattle.survey.specs.Places.{at-end, line-at, next-line}
 use Rattle.reports.specs.declared.deciding.Verdict.{Verdict}
 use Rattle.reports.specs.declared.deciding.Stop.{Stop}
 use Rattle.reports.specs.declared.deciding.Surveyed.{Surveyed}
-use Rattle.reports.specs.declared.Decided.{Decided}
+use Rattle.reports.specs.declared.Summary.{Summary}
 use Rattle.reports.specs.Verdicts.{verdict-by}
 use Rattle.lines.specs.Lines.{answer-lines}
 use Rattle.reports.specs.Summaries.{report-of}
@@ -41,7 +41,7 @@ pub record Stopped (text : List ℕ) (m : Map) (answers : List ℕ) (at : ℕ) (
   pub goes-on : s .ended ≡ false → at-end text (s .at) ≡ false
   pub next-read : s .ended ≡ false → s .next ≡ next-line text (s .at)
   pub accepted : s .ended ≡ false →
-      Verdict.Accepted (s .p) ≡ verdict-by (m .xs) (m .ys) (m .count) (line-at text (s .at))
+      Verdict.Taken (s .p) ≡ verdict-by (m .xs) (m .ys) (m .count) (line-at text (s .at))
 
 -- the same for code that is lent the coordinates of a map alone: of some map with them ..
 pub record ReportsSome (text : List ℕ) (xs ys : List ℤ) (count : ℕ) (answers : List ℕ) (n at : ℕ)
@@ -69,7 +69,7 @@ pub record Surveys (text answers : List ℕ) (s : Surveyed) : Type 0 where
       ≡ arrivals empty-map 0 (lines text)
 
 -- what is decided is the report on the text
-pub record Decides (text answers : List ℕ) (d : Decided) : Type 0 where
+pub record Decides (text answers : List ℕ) (d : Summary) : Type 0 where
   pub whole : length answers ≡ text-limit
   pub fits : Fits d
   pub is-report : report-of answers d ≡ report text

@@ -1,7 +1,7 @@
 -- A report and the history of its points, in the order of this page: the points that lines name;
 -- the answers of lines offered to a map, and the map after them; the lines that print answers; the
 -- accepted answers; what a report is in these words, so that demand 3 speaks of it. Document 01,
--- "The text program" and "The oral part, word by word". Assumes nothing.
+-- "The text program" and "The oral part, word by word".
 use mathlib.Core.Path.{_≡_}
 use mathlib.Core.Bool.{cond}
 use mathlib.Core.List.{List, [], _∷_, _++_, map}
@@ -16,16 +16,16 @@ use Rattle.model.specs.History.{Entry, Run, is-accepted, run, Balanced}
 use Rattle.model.specs.Text.{line-read, lines}
 use Rattle.model.specs.Report.{text-limit, offer-line, closing, report}
 use Rattle.printing.specs.Printing.{arrival-line}
-use Rattle.lines.specs.Lines.{header}
+use Rattle.lines.specs.Lines.{title}
 
-abbrev pub named : Line → List Point → List Point
-named (Line.Named p) ps = p ∷ ps
-named (Line.Refused r) ps = ps
+abbrev pub with-named : Line → List Point → List Point
+with-named (Line.Named p) ps = p ∷ ps
+with-named (Line.Refused r) ps = ps
 
 -- the points that the lines name, in order
 unfoldable pub points-named : List (List ℕ) → List Point
 points-named [] = []
-points-named (l ∷ ls) = named (line-read l) (points-named ls)
+points-named (l ∷ ls) = with-named (line-read l) (points-named ls)
 
 -- the answers of the lines, offered to a map one after another, and the map after them
 unfoldable pub answers-on : Map → List (List ℕ) → List Arrival
@@ -60,6 +60,6 @@ offers-in text = run (points-named (lines text))
 -- accepted answers are the arrivals of the history; and demand 3 holds of it.
 pub record ReportsHistory (text : List ℕ) : Type 0 where
   pub is-report : length text ≤ text-limit →
-      report text ≡ header ++ (numbered 0 (answers-in text) ++ closing (offers-in text .map))
+      report text ≡ title ++ (numbered 0 (answers-in text) ++ closing (offers-in text .map))
   pub same-arrivals : accepted-in (answers-in text) ≡ arrivals-of (offers-in text .history)
   pub balanced : Balanced (offers-in text)

@@ -7,17 +7,17 @@ use lib.ListN.{length, take}
 use Rattle.model.specs.Maps.{point-limit}
 use Rattle.model.specs.Report.{text-limit}
 use Rattle.lines.specs.Lines.{lines-from, line-count}
-use Rattle.reports.specs.declared.Decided.{Decided}
+use Rattle.reports.specs.declared.Summary.{Summary}
 
 -- the corners that were decided
-abbrev pub corners-in : Decided → List ℕ
+abbrev pub corners-in : Summary → List ℕ
 corners-in d = take (d .listed) (d .corners)
 
-unfoldable pub report-of : List ℕ → Decided → List ℕ
+unfoldable pub report-of : List ℕ → Summary → List ℕ
 report-of answers d = lines-from answers (corners-in d) (d .ends) 0 (line-count (d .ends))
 
 -- the corners and the number of lines within their limits
-pub record Fits (d : Decided) : Type 0 where
+pub record Fits (d : Summary) : Type 0 where
   pub corners-whole : length (d .corners) ≡ point-limit
   pub corners-fit : d .listed ≤ point-limit
   pub lines-fit : d .ends .lines ≤ text-limit

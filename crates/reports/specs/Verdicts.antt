@@ -1,5 +1,5 @@
 -- What becomes of a line, by the coordinates of a sound map, in the order of this page: of a point,
--- by what the rules came to; of a line. Assumes nothing.
+-- by what the rules came to; of a line.
 use mathlib.Core.List.{List}
 use Prim.Native.Nat.{ℕ}
 use lib.IntN.{ℤ}
@@ -10,7 +10,7 @@ use Rattle.admission.specs.Admission.{admission-by}
 use Rattle.reports.specs.declared.deciding.Verdict.{Verdict}
 
 unfoldable pub verdict-on : Point → Outcome → Verdict
-verdict-on p Outcome.Served = Verdict.Accepted p
+verdict-on p Outcome.Served = Verdict.Taken p
 verdict-on p (Outcome.Refused r) = Verdict.Refused r
 
 unfoldable pub verdict-by : List ℤ → List ℤ → ℕ → Line → Verdict

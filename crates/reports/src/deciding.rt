@@ -23,7 +23,7 @@ pub const TEXT_LIMIT: usize = 65536;
 
 // What becomes of a line: the point that it names and that is accepted, or why it is refused.
 pub enum Verdict {
-    Accepted(Point),
+    Taken(Point),
     Refused(Refusal),
 }
 
@@ -52,7 +52,7 @@ pub(crate) fn verdict_on<'a>(xs: &'a [i64], ys: &'a [i64], count: usize, line: L
         Line::Named(p) => {
             let outcome = admission(xs, ys, count, p);
             match outcome {
-                Outcome::Served => Verdict::Accepted(p),
+                Outcome::Served => Verdict::Taken(p),
                 Outcome::Refused(refusal) => Verdict::Refused(refusal),
             }
         }
@@ -83,7 +83,7 @@ pub(crate) fn refuse_lines<'a>(
         let next = read.next;
         let found = verdict_on(xs, ys, count, named);
         match found {
-            Verdict::Accepted(p) => {
+            Verdict::Taken(p) => {
                 return Stop {
                     at: place,
                     next,

@@ -26,7 +26,7 @@ ghost use Rattle.reports.specs.Pieces.{WroteLines};
 
 // What is decided of a text beside the answers of its lines: the corners, which are the first so
 // many of a list, and the ends.
-pub struct Decided {
+pub struct Summary {
     pub corners: [usize; POINT_LIMIT],
     pub listed: usize,
     pub ends: Ends,
@@ -48,7 +48,7 @@ pub fn no_answers() -> [u32; TEXT_LIMIT]
 
 // Decides a text, whatever its bytes are, and leaves the answers of its lines in a lent array. One
 // that is too long is decided without being read.
-pub fn decide(text: &[u8], answers: &mut [u32; TEXT_LIMIT]) -> Decided
+pub fn decide(text: &[u8], answers: &mut [u32; TEXT_LIMIT]) -> Summary
     requires { ⌜ length (now answers) ≡ text-limit ⌝ }
     ensures { λ r. ⌜ Decides (now (text .entry)) (now (answers .exit)) r ⌝ }
 {
@@ -66,7 +66,7 @@ pub fn decide(text: &[u8], answers: &mut [u32; TEXT_LIMIT]) -> Decided
             counts,
         };
         let corners = [0usize; POINT_LIMIT];
-        return Decided {
+        return Summary {
             corners,
             listed: 0,
             ends,
@@ -75,14 +75,14 @@ pub fn decide(text: &[u8], answers: &mut [u32; TEXT_LIMIT]) -> Decided
     let surveyed = decide_lines(text, answers);
     let map = surveyed.map;
     let list = corners_of(map);
-    let corners = list.places;
+    let corners = list.points;
     let counts = counts_of(map);
     let ends = Ends {
         lines: surveyed.lines,
         long: false,
         counts,
     };
-    Decided {
+    Summary {
         corners,
         listed: list.count,
         ends,
@@ -90,7 +90,7 @@ pub fn decide(text: &[u8], answers: &mut [u32; TEXT_LIMIT]) -> Decided
 }
 
 // How many bytes the report takes.
-pub fn length_of(answers: &[u32], decided: Decided) -> usize
+pub fn length_of(answers: &[u32], decided: Summary) -> usize
     requires { ⌜ Fits decided ⌝ }
     ensures { λ r. ⌜ r ≡ length (report-of (now (answers .entry)) decided) ⌝ }
 {
@@ -101,7 +101,7 @@ pub fn length_of(answers: &[u32], decided: Decided) -> usize
 }
 
 // Writes the report into a lent list that has room for it; the rest of it stays as it is.
-pub fn write_report(answers: &[u32], decided: Decided, lent: &mut [u8])
+pub fn write_report(answers: &[u32], decided: Summary, lent: &mut [u8])
     requires { ⌜ Fits decided ⌝ }
     requires { ⌜ length (report-of (now answers) decided) ≤ length (now lent) ⌝ }
     ensures { λ _. ⌜ now (lent .exit) ≡
@@ -115,7 +115,7 @@ pub fn write_report(answers: &[u32], decided: Decided, lent: &mut [u8])
 
 // Writes the printed lines from a position on, as many whole ones as the lent list holds, and says
 // where to go on. Position 0 is the report's first line.
-pub fn write_lines(answers: &[u32], decided: Decided, from: usize, lent: &mut [u8]) -> Piece
+pub fn write_lines(answers: &[u32], decided: Summary, from: usize, lent: &mut [u8]) -> Piece
     requires { ⌜ Fits decided ⌝ }
     ensures { λ r. ⌜ WroteLines (now (answers .entry)) decided from
         (now (lent .entry)) (now (lent .exit)) r ⌝ }

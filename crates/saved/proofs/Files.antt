@@ -2,7 +2,7 @@
 -- is read in the file of a sound map; that file is in form and its map is the map; the bytes of the
 -- map of a file in form are the file; then the three theorems about saving and loading.
 -- Document 01, demand 2: "a saved map reads back as itself, and an accepted file is the only file
--- that its map writes". Assumes nothing.
+-- that its map writes".
 use mathlib.Core.Path.{_≡_, refl, sym, ap, ap₂, _∙_}
 use mathlib.Core.Logic.{_≢_, ⊎-elim}
 use mathlib.Core.Bool.{Bool, true, false, not, cond}

@@ -1,6 +1,6 @@
 -- What is read in the file of a map: the length, the version, the number of points, the reference
 -- and each field of each block are the map's, where they fit their bytes, in any version.
--- Document 01, "Saved form". Assumes nothing.
+-- Document 01, "Saved form".
 use mathlib.Core.Path.{_≡_, refl, subst, _∙_}
 use mathlib.Core.List.{List, [], _++_, append-assoc, append-nil}
 use Prim.Native.Nat.{ℕ, _*_, _^_, _≤_, _<_}

@@ -1,5 +1,5 @@
 -- Tables of one rule before a number and another from it on: what stands in them, and which lists
--- they are. Assumes nothing.
+-- they are.
 use mathlib.Core.Path.{_≡_, sym, _∙_}
 use mathlib.Core.Logic.{⊎-elim}
 use mathlib.Core.List.{List}

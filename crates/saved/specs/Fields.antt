@@ -1,5 +1,5 @@
 -- What is written for the coordinates and the helpers of a map, read from the map's arrays; at the
--- arrays of a map each is what model/specs/Saved writes, by computation. Assumes nothing.
+-- arrays of a map each is what model/specs/Saved writes, by computation.
 use mathlib.Core.Bool.{Bool, false, cond}
 use mathlib.Core.List.{List}
 use Prim.Native.Nat.{ℕ, _/_, _%_}

@@ -1,5 +1,4 @@
 -- Lengths, in the order of this page: of a number that is spelt, with its minus; of the first part of a list.
--- Assumes nothing.
 use mathlib.Core.Path.{_≡_, refl, ap}
 use mathlib.Core.List.{List}
 use Prim.Native.Nat.{ℕ, _≤_}

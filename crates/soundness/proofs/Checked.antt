@@ -1,6 +1,5 @@
 -- The soundness check: a sound map passes three groups of tests, and where the points have passed
 -- theirs every place lies in range, for a place without a point holds 0, 0.
--- Assumes nothing.
 use mathlib.Core.Path.{_≡_}
 use mathlib.Core.Logic.{⊎-elim}
 use mathlib.Core.Bool.{_&&_, and-assoc, and-true}

@@ -2,7 +2,6 @@
 -- arrays of a map; then the tests of a sound map in three groups, as the code makes them: of the points,
 -- of the links where the points are at most 512, and of the outline where the links are sound too. That
 -- `sound` is their conjunction, for arrays of the declared lengths, is `sound-grouped` of proofs/Checked.
--- Assumes nothing.
 use mathlib.Core.Bool.{Bool, not, _&&_}
 use mathlib.Core.List.{List}
 use Prim.Native.Nat.{ℕ}

@@ -1,7 +1,7 @@
 -- Digits read one after another, in the order of this page: what a digit is; values of k digits are
 -- below 10^k, for any limit of k; the digits at the front of a list; what the loop that adds up
 -- their value knows at a place; what the test of a magnitude says; what is read when the loop is
--- over. Assumes nothing.
+-- over.
 use mathlib.Core.Path.{_≡_, refl, sym, ap, _∙_}
 use mathlib.Core.Logic.{_≢_, _⊎_, inl, inr, ⊎-elim}
 use mathlib.Core.Bool.{Bool, true, false, not, _&&_, _||_, false≢true}

@@ -1,6 +1,6 @@
 -- The number at the front of a list, in the order of this page: the front is a part of the list; it
 -- ends where a number ends that something else follows; what is read of the front, for the list
--- itself and for what stands before its first space; a line by its front. Assumes nothing.
+-- itself and for what stands before its first space; a line by its front.
 use mathlib.Core.Path.{_≡_, refl, sym, ap, ap₂, _∙_}
 use mathlib.Core.Logic.{_≢_, ⊎-elim}
 use mathlib.Core.Bool.{true, false, not, cond, _&&_}

@@ -2,7 +2,7 @@
 -- stands from a place on is the front of the line there; the first number, with a space after it
 -- and without one; the second number, with the end of the text or the line feed after it, or
 -- something else. Document 01, "The text program": "two numbers with one space between and a line
--- feed; the last feed may be missing". Assumes nothing.
+-- feed; the last feed may be missing".
 use mathlib.Core.Path.{_≡_, sym, ap, _∙_}
 use mathlib.Core.Logic.{_≢_}
 use mathlib.Core.List.{List}

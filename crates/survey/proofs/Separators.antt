@@ -1,7 +1,6 @@
 -- What stands before and after the first of a byte in a list, in the order of this page: both as
 -- parts of the list, from a place within on, and where the first ends; what a search from place to
 -- place finds; a line as two numbers.
--- Assumes nothing.
 use mathlib.Core.Path.{_≡_, refl, sym, ap, _∙_}
 use mathlib.Core.Logic.{_≢_, ⊎-elim}
 use mathlib.Core.Bool.{Bool, true, false}

@@ -1,6 +1,6 @@
 -- A number is a sign and a magnitude, in the order of this page: what a magnitude that is read
 -- says, and that it is below 10^digit-limit; what stands after the optional minus; the number at
--- the front of a list in each case of sign and magnitude. Assumes nothing.
+-- the front of a list in each case of sign and magnitude.
 use mathlib.Core.Path.{_≡_, refl, sym, ap, _∙_}
 use mathlib.Core.Logic.{_≢_, ⊎-elim}
 use mathlib.Core.Bool.{true, false, not, _&&_, false≢true}

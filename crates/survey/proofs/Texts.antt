@@ -2,7 +2,7 @@
 -- on; why a line is refused; the lines of a text, first and rest; the lines from a place on are the
 -- line there and the lines from the next place on, and there are none at the end of the text only;
 -- a line that is lent by itself.
--- Document 01, "The text program". Assumes nothing.
+-- Document 01, "The text program".
 use mathlib.Core.Path.{_≡_, refl, sym, ap, _∙_}
 use mathlib.Core.Logic.{_≢_, _⊎_, inl, inr, ⊎-elim}
 use mathlib.Core.Bool.{true, false}

@@ -1,7 +1,6 @@
 -- What a spelling stands for, in the order of this page: digits without a sign; a number at the
 -- front of a list; a number that is a whole list; two numbers. Document 01, "The text program": "A
--- number is an optional minus and 1 to 7 digits, no leading zero save 0 itself, no -0." Assumes
--- nothing.
+-- number is an optional minus and 1 to 7 digits, no leading zero save 0 itself, no -0."
 use mathlib.Core.Bool.{Bool, not, cond, _&&_, _||_}
 use mathlib.Core.List.{List, [], _∷_}
 use Prim.Native.Nat.{ℕ}

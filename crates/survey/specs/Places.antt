@@ -1,7 +1,7 @@
 -- Lines by their places in a text, in the order of this page: the bytes of the line from a place
 -- on; where it ends; where the next line begins; whether a text is at its end there; what is read
 -- there. Document 01, "The text program": "a line feed; the last feed may be missing, and nothing
--- follows it". Every place is served, also one past the end. Assumes nothing.
+-- follows it". Every place is served, also one past the end.
 use mathlib.Core.Bool.{Bool, cond}
 use mathlib.Core.List.{List}
 use Prim.Native.Nat.{ℕ, _+_}

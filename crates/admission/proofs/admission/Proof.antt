@@ -1,4 +1,4 @@
--- `hull::admission::admission` meets its contract, one rule after another. Assumes nothing.
+-- `admission::admission` meets its contract, one rule after another.
 use borrow.Author.Needs.{needs}
 use mathlib.Core.Path.{_≡_, sym, ap, _∙_}
 use mathlib.Core.Bool.{false, not}

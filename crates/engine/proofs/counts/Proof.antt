@@ -1,4 +1,4 @@
--- `engine::counts` meets its contract: the soundness check, and then the counts. Assumes nothing.
+-- `engine::counts` meets its contract: the soundness check, and then the counts.
 use borrow.Author.Needs.{needs}
 use mathlib.Core.Path.{refl, ap, _∙_}
 use Rattle.model.specs.declared.Counted.{Counted}

@@ -1,5 +1,5 @@
 -- `engine::list_corners` meets its contract: the map is checked, then the room, and then the corners are
--- written. Assumes nothing.
+-- written.
 use borrow.Author.Needs.{needs}
 use mathlib.Core.Path.{ap, _∙_}
 use mathlib.Core.List.{List}

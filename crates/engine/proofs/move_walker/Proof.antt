@@ -1,5 +1,4 @@
 -- `engine::move_walker` meets its contract: the map and the dart are checked, and then the walker is moved.
--- Assumes nothing.
 use borrow.Author.Needs.{needs}
 use mathlib.Core.Path.{refl, ap}
 use Rattle.model.specs.declared.Moved.{Moved}

@@ -1,4 +1,4 @@
--- `engine::offer` meets its contract: the soundness check, and then what a sound map does. Assumes nothing.
+-- `engine::offer` meets its contract: the soundness check, and then what a sound map does.
 use borrow.Author.Needs.{needs}
 use mathlib.Core.Path.{refl}
 use Rattle.model.specs.Answers.{arrival-answer}

@@ -1,5 +1,4 @@
 -- `engine::orbit` meets its contract: the map and the dart are checked, and then its orbit is read.
--- Assumes nothing.
 use borrow.Author.Needs.{needs}
 use mathlib.Core.Path.{refl, sym, ap, _∙_}
 use Rattle.orbits.specs.declared.DartSet.{DartSet}
@@ -11,9 +10,9 @@ use Rattle.engine.proofs.Entries.{refused-first, served-first}
 use Rattle.engine.proofs.orbit.Statement.{statement}
 use Rattle.engine.proofs.orbit.Tie as tie
 
--- an outcome with a set beside it
-abbrev beside : Outcome → DartSet → Orbit
-beside outcome darts = record { outcome = outcome; darts = darts }
+-- an outcome with a set with-set it
+abbrev with-set : Outcome → DartSet → Orbit
+with-set outcome darts = record { outcome = outcome; darts = darts }
 
 orbit-of-requires : tie.Need-orbit-of-requires
 orbit-of-requires c κs =
@@ -33,7 +32,7 @@ returns-2 : tie.Need-returns-2
 unfolding orbit-answer
 returns-2 c =
     served-first (c .before .before .before .check-dart .ensures) (c .before .enum-told .given .1)
-    (ap (beside Outcome.Served) (c .orbit-of .ensures)) (λ r. refl)
+    (ap (with-set Outcome.Served) (c .orbit-of .ensures)) (λ r. refl)
 
 pub orbit-spec : {M : Type 1} → statement M
 orbit-spec =

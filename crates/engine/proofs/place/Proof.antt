@@ -1,4 +1,4 @@
--- `engine::place` meets its contract: the map and the point are checked, and then placed. Assumes nothing.
+-- `engine::place` meets its contract: the map and the point are checked, and then placed.
 use borrow.Author.Needs.{needs}
 use mathlib.Core.Path.{refl, sym, _∙_}
 use borrow.Author.Tests.{not-false}

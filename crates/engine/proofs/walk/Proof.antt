@@ -1,4 +1,4 @@
--- `engine::walk` meets its contract: the map and the dart are checked, and then walked from. Assumes nothing.
+-- `engine::walk` meets its contract: the map and the dart are checked, and then walked from.
 use borrow.Author.Needs.{needs}
 use mathlib.Core.Path.{refl, sym, ap, _∙_}
 use Rattle.model.specs.declared.Walked.{Walked}

@@ -1,5 +1,5 @@
 -- `hull::admitted` meets its contract: the rules are asked of the map's coordinates, and then the point
--- arrives. Assumes nothing.
+-- arrives.
 use borrow.Author.Needs.{needs}
 use mathlib.Core.Path.{sym, _∙_}
 use Rattle.model.specs.Maps.{point}

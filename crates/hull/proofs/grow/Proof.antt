@@ -1,4 +1,4 @@
--- `hull::grow` meets its contract: the number of points decides. Assumes nothing.
+-- `hull::grow` meets its contract: the number of points decides.
 use borrow.Author.Needs.{needs}
 use mathlib.Core.Path.{refl, _∙_, ap}
 use Rattle.model.specs.declared.Map.{Map}

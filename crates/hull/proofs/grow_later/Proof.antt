@@ -1,4 +1,4 @@
--- `hull::grow_later` meets its contract: what is seen from the point decides. Assumes nothing.
+-- `hull::grow_later` meets its contract: what is seen from the point decides.
 use borrow.Author.Needs.{needs}
 use mathlib.Core.Path.{_≡_, refl, sym, subst, _∙_, ap}
 use denote.Ref.{now}

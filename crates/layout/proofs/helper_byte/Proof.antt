@@ -1,5 +1,4 @@
 -- `layout::helper_byte` meets its contract: helper byte k stands k bytes after the first.
--- Assumes nothing.
 use mathlib.Core.Path.{_≡_, ap, _∙_}
 use Prim.Native.Nat.{ℕ, _+_, _*_}
 use native.Mathlib.Omega.{arith}

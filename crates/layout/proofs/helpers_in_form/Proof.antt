@@ -1,5 +1,4 @@
 -- `layout::helpers_in_form` meets its contract: the loop tests every helper byte.
--- Assumes nothing.
 use borrow.Author.Needs.{needs}
 use borrow.Author.Tests.{le-leb, lt-leb}
 use mathlib.Core.Path.{ap}

@@ -1,5 +1,5 @@
 -- `layout::is_in_form` meets its contract: each test that fails is one of the form's, and with all
--- others passed the helper bytes decide. Assumes nothing.
+-- others passed the helper bytes decide.
 use mathlib.Core.Path.{ap, _∙_}
 use Prim.Native.Nat.{ℕ}
 use native.Mathlib.Omega.{arith}

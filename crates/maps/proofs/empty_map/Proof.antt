@@ -1,5 +1,4 @@
 -- `maps::empty_map` meets its contract: its links are those that the call made.
--- Assumes nothing.
 use borrow.Author.Needs.{needs}
 use mathlib.Core.Path.{ap}
 use mathlib.Core.Bool.{false}

@@ -1,4 +1,4 @@
--- `model::refusal_number` meets its contract, refusal by refusal. Assumes nothing.
+-- `model::refusal_number` meets its contract, refusal by refusal.
 use mathlib.Core.Path.{sym, ap}
 use Rattle.model.specs.Refusals.{number}
 use borrow.Author.Needs.{needs}

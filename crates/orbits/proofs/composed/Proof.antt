@@ -1,5 +1,5 @@
 -- `orbits::composed` meets its contract. The loop's invariant: the places passed hold the links of
--- f and then g. The measure is the places left. Assumes nothing.
+-- f and then g. The measure is the places left.
 use mathlib.Core.Path.{_∙_, ap}
 use Prim.Native.Nat.{ℕ, _-_}
 use native.Mathlib.Omega.{arith}

@@ -1,4 +1,4 @@
--- `orbits::link_of` answers `link-of`: past the list a number is left where it is. Assumes nothing.
+-- `orbits::link_of` answers `link-of`: past the list a number is left where it is.
 use borrow.Author.Needs.{needs}
 use mathlib.Core.Path.{sym}
 use lib.ListN.{List·getD-eq-default}

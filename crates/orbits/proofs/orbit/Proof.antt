@@ -1,5 +1,4 @@
 -- `orbits::orbit` meets its contract: what one link reaches is what it reaches taken twice over.
--- Assumes nothing.
 use mathlib.Core.Path.{_∙_}
 use Rattle.orbits.proofs.Parts.{orbit-within, orbit-set}
 use Rattle.orbits.proofs.orbit.Statement.{statement}

@@ -1,5 +1,4 @@
 -- `orbits::orbit_count` meets its contract: the parts under a link taken twice over are its orbits.
--- Assumes nothing.
 use mathlib.Core.Path.{_∙_, ap}
 use borrow.Author.Needs.{needs}
 use Rattle.orbits.specs.declared.PartCounts.{PartCounts}

@@ -1,5 +1,5 @@
 -- `orbits::part` meets its contract: the visit begins with no dart, so its queue holds just what is
--- reached. Assumes nothing.
+-- reached.
 use mathlib.Core.Path.{_∙_}
 use Rattle.orbits.specs.Links.{link-of}
 use Rattle.orbits.proofs.Queue.{queue-small}
@@ -17,7 +17,7 @@ visit-requires c κs =
     }
 
 set-of-requires : tie.Need-set-of-requires
-set-of-requires c κs = queue-small (c .before .visit .ensures .grown .queue)
+set-of-requires c κs = queue-small (c .before .visit .ensures .lengthened .queue)
 
 returns : tie.Need-returns
 returns c =

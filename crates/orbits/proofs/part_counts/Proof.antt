@@ -1,5 +1,5 @@
 -- `orbits::part_counts` meets its contract. The loop's invariant: the darts below `a` have been
--- passed, and the parts that they lie in counted. The measure is the darts left. Assumes nothing.
+-- passed, and the parts that they lie in counted. The measure is the darts left.
 use mathlib.Core.Path.{_≡_, sym, _∙_}
 use mathlib.Core.Logic.{⊎-elim}
 use mathlib.Core.Bool.{true, not, _&&_}

@@ -1,4 +1,4 @@
--- `outline::main` is safe, and prints the report on what was read. Assumes nothing.
+-- `outline::main` is safe, and prints the report on what was read.
 use borrow.Author.Needs.{needs}
 use native.Mathlib.Omega.{arith}
 use lib.ListN.{length-take}

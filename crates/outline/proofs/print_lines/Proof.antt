@@ -1,5 +1,5 @@
 -- `outline::print_lines` meets its contract. The loop's invariant: the pieces so far bring to a
--- position. The measure is how many printed lines are left. Assumes nothing.
+-- position. The measure is how many printed lines are left.
 use borrow.Author.Needs.{needs}
 use Prim.Native.Nat.{_-_, _≤_}
 use native.Mathlib.Omega.{arith}

@@ -1,5 +1,4 @@
--- `outline::print_report` meets its contract: what is decided of the text is printed. Assumes
--- nothing.
+-- `outline::print_report` meets its contract: what is decided of the text is printed.
 use borrow.Author.Needs.{needs}
 use Rattle.outline.proofs.Printing.{report-printed}
 use Rattle.outline.proofs.print_report.Statement.{statement}

@@ -1,4 +1,4 @@
--- `outline::read_more` meets its contract: the read is given the rest of the list. Assumes nothing.
+-- `outline::read_more` meets its contract: the read is given the rest of the list.
 use borrow.Author.Needs.{needs}
 use native.Mathlib.Omega.{arith}
 use Rattle.outline.proofs.Reading.{read-failed, read-some}

@@ -1,5 +1,5 @@
 -- `outline::read_text` meets its contract. The loop's invariant: reads brought to so many bytes. The
--- measure is what is left of the list. Assumes nothing.
+-- measure is what is left of the list.
 use mathlib.Core.Path.{_≡_}
 use Prim.Native.Nat.{ℕ, _-_}
 use native.Mathlib.Omega.{arith}

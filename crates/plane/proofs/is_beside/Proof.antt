@@ -1,4 +1,4 @@
--- `plane::is_beside` meets its contract: beside is strictly left. Assumes nothing.
+-- `plane::is_beside` meets its contract: beside is strictly left.
 use borrow.Author.Needs.{needs}
 use Rattle.model.specs.Plane.{beside}
 use Rattle.plane.proofs.is_beside.Statement.{statement}

@@ -1,4 +1,4 @@
--- `plane::sees_edge` meets its contract: an arrival goes by what is visible. Assumes nothing.
+-- `plane::sees_edge` meets its contract: an arrival goes by what is visible.
 use borrow.Author.Needs.{needs}
 use Rattle.model.specs.Plane.{sees-edge}
 use Rattle.plane.proofs.sees_edge.Statement.{statement}

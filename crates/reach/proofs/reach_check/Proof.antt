@@ -1,4 +1,4 @@
--- `reach::reach_check` meets its contract: the outcome of loading, as a number. Assumes nothing.
+-- `reach::reach_check` meets its contract: the outcome of loading, as a number.
 use mathlib.Core.Path.{sym, _∙_}
 use Rattle.model.specs.Refusals.{number}
 use Rattle.model.proofs.Answers.{outcome-refuses, outcome-serves}

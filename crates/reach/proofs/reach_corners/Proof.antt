@@ -1,5 +1,4 @@
 -- `reach::reach_corners` meets its contract: the file is loaded, and then its corners are listed.
--- Assumes nothing.
 use mathlib.Core.Path.{sym, _∙_}
 use mathlib.Core.List.{[], _∷_}
 use lib.ListN.{length}

@@ -1,5 +1,4 @@
 -- `reach::reach_counts` meets its contract: the file is loaded, and then its counts are written.
--- Assumes nothing.
 use mathlib.Core.Path.{ap}
 use mathlib.Core.List.{[], _∷_}
 use Rattle.model.specs.declared.Counts.{Counts}

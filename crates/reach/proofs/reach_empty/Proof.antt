@@ -1,5 +1,4 @@
 -- `reach::reach_empty` meets its contract: the empty map is sound, and has 9 bytes.
--- Assumes nothing.
 use mathlib.Core.Path.{sym, ap, subst, _∙_}
 use native.Mathlib.Omega.{arith}
 use denote.Ref.{now}

@@ -1,12 +1,11 @@
 -- `reach::reach_line` meets its contract: the answer of the call, as a number and two values.
--- Assumes nothing.
 use mathlib.Core.Path.{refl, sym, ap}
 use denote.Ref.{now}
 use Rattle.model.specs.declared.Line.{Line}
 use Rattle.model.specs.declared.Outcome.{Outcome}
 use Rattle.model.specs.Answers.{line-answer}
 use Rattle.model.specs.Text.{line-call, line-read}
-use Rattle.replies.specs.Replies.{signed}
+use Rattle.replies.specs.Replies.{values-of}
 use Rattle.replies.proofs.Serving.{served-as, answer-refused, answer-written}
 use borrow.Author.Needs.{needs}
 use Rattle.reach.proofs.reach_line.Statement.{statement}
@@ -21,7 +20,7 @@ unfolding line-read
 returns c =
     let d = c .before .before in
     let f = d .before .before in
-    answer-refused signed (line-call (now (f .before .before .args .line))) line-outcome (λ r. refl)
+    answer-refused values-of (line-call (now (f .before .before .args .line))) line-outcome (λ r. refl)
     refl _ (f .read-line .ensures) (ap line-outcome (d .read .given .1)) (c .code .ensures)
 
 returns-2 : tie.Need-returns-2
@@ -31,7 +30,7 @@ returns-2 c =
     let d = w .before .before .before in
     let f = d .before .before in
     let is = d .read2 .given .1 in
-    answer-written signed (line-call (now (f .before .before .args .line))) line-outcome (λ r. refl)
+    answer-written values-of (line-call (now (f .before .before .args .line))) line-outcome (λ r. refl)
     refl _ (f .read-line .ensures) (ap line-outcome is)
     (served-as (sym (ap (λ (o : Line). line-answer o .values) is)) (w .write-point .ensures))
 

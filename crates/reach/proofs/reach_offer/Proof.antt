@@ -1,4 +1,4 @@
--- `reach::reach_offer` meets its contract: the point is that of the coordinates. Assumes nothing.
+-- `reach::reach_offer` meets its contract: the point is that of the coordinates.
 use denote.Ref.{now}
 use Rattle.model.specs.declared.Point.{Point}
 use Rattle.model.specs.Answers.{arrival-answer}

@@ -1,8 +1,7 @@
 -- `reach::reach_orientation` meets its contract: the points are those of the coordinates.
--- Assumes nothing.
 use Rattle.model.specs.declared.Point.{Point}
 use Rattle.model.specs.Plane.{at, orientation-call}
-use Rattle.replies.specs.Replies.{reply, signed}
+use Rattle.replies.specs.Replies.{reply, values-of}
 use Rattle.replies.proofs.Serving.{served-at, point-made}
 use borrow.Author.Needs.{needs}
 use Rattle.reach.proofs.reach_orientation.Statement.{statement}
@@ -18,11 +17,11 @@ returns c =
     let f = p .before .fits in
     let a = at (s .ax) (s .ay) in
     let b = at (s .bx) (s .by) in
-    served-at (λ (z : Point). reply signed (orientation-call a b z))
+    served-at (λ (z : Point). reply values-of (orientation-call a b z))
     (point-made (s .cx) (s .cy) (f .cx) (f .cy) (r .point3 .ensures))
-    (served-at (λ (y : Point). reply signed (orientation-call a y (r .point3 .result)))
+    (served-at (λ (y : Point). reply values-of (orientation-call a y (r .point3 .result)))
     (point-made (s .bx) (s .by) (f .bx) (f .by) (q .point2 .ensures))
-    (served-at (λ (x : Point). reply signed
+    (served-at (λ (x : Point). reply values-of
     (orientation-call x (q .point2 .result) (r .point3 .result)))
     (point-made (s .ax) (s .ay) (f .ax) (f .ay) (p .point .ensures))
     (w .write-orientation .ensures)))

@@ -1,5 +1,5 @@
 -- `reach::reach_report` meets its contract: there is room for the length, and then the report is
--- written. Assumes nothing.
+-- written.
 use denote.Ref.{now}
 use Rattle.model.specs.Answers.{written-answer}
 use Rattle.model.specs.Report.{report, report-rules}

@@ -1,5 +1,4 @@
 -- `reach::reach_walk` meets its contract: the file and the dart are checked, and then walked from.
--- Assumes nothing.
 use mathlib.Core.Path.{ap, _∙_}
 use Rattle.orbits.specs.declared.Walk.{Walk}
 use Rattle.model.specs.declared.Walked.{Walked}

@@ -1,5 +1,4 @@
 -- `reach::write_offer` meets its contract: the file is loaded, and then the point is offered.
--- Assumes nothing.
 use mathlib.Core.Path.{sym, _∙_}
 use denote.Ref.{now}
 use Rattle.model.specs.declared.Map.{Map}

@@ -1,5 +1,4 @@
 -- `reach::write_orbit` meets its contract: the file and the dart are checked, and then its orbit is written.
--- Assumes nothing.
 use mathlib.Core.Path.{_≡_, ap, _∙_}
 use mathlib.Core.Bool.{Bool}
 use mathlib.Core.List.{[], _∷_, _++_}

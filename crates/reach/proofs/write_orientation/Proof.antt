@@ -1,5 +1,4 @@
 -- `reach::write_orientation` meets its contract: the answer of the call, as a number and a value.
--- Assumes nothing.
 use mathlib.Core.Path.{refl, sym, ap, _∙_}
 use mathlib.Core.List.{[], _∷_}
 use lib.IntN.{ℤ}
@@ -9,7 +8,7 @@ use Rattle.model.specs.declared.Oriented.{Oriented}
 use Rattle.model.specs.declared.Outcome.{Outcome}
 use Rattle.model.specs.Answers.{oriented-answer}
 use Rattle.model.specs.Plane.{orientation-call}
-use Rattle.replies.specs.Replies.{signed}
+use Rattle.replies.specs.Replies.{values-of}
 use Rattle.replies.proofs.Serving.{served-as, answer-refused, answer-written}
 use borrow.Author.Needs.{needs}
 use Rattle.reach.proofs.write_orientation.Statement.{statement}
@@ -24,7 +23,7 @@ returns c =
     let d = c .before .before in
     let f = d .before .before in
     let s = f .before .args in
-    answer-refused signed (orientation-call (s .a) (s .b) (s .c)) oriented-outcome (λ r. refl) refl _
+    answer-refused values-of (orientation-call (s .a) (s .b) (s .c)) oriented-outcome (λ r. refl) refl _
     (f .orientation-of .ensures .answer .equal)
     (ap oriented-outcome (d .oriented .given .1)) (c .code .ensures)
 
@@ -38,7 +37,7 @@ returns-2 c =
     let f = d .before .before in
     let s = f .before .args in
     let is = d .oriented2 .given .1 in
-    answer-written signed (orientation-call (s .a) (s .b) (s .c)) oriented-outcome (λ r. refl) refl _
+    answer-written values-of (orientation-call (s .a) (s .b) (s .c)) oriented-outcome (λ r. refl) refl _
     (f .orientation-of .ensures .answer .equal) (ap oriented-outcome is)
     (served-as
     (ap (λ (i : ℤ). i ∷ []) (toZ-ofZ w64 z (record { sfits = told .known-told2 .given .0 .1 }))

@@ -1,5 +1,4 @@
 -- `reach::write_placed` meets its contract: the file and the point are checked, and then the point is placed.
--- Assumes nothing.
 use mathlib.Core.Path.{ap, _∙_}
 use Rattle.model.specs.declared.Placed.{Placed}
 use Rattle.model.specs.Answers.{placed-answer}

@@ -1,5 +1,4 @@
 -- `reach::write_walker` meets its contract: the file and the dart are checked, and then the walker is moved.
--- Assumes nothing.
 use mathlib.Core.Path.{ap}
 use mathlib.Core.List.{[], _∷_}
 use Rattle.orbits.specs.declared.Walker.{Walker}

@@ -1,5 +1,5 @@
 -- `reports::decide` meets its contract: a text that is too long is not read, and any other is
--- decided line by line. Assumes nothing.
+-- decided line by line.
 use borrow.Author.Needs.{needs}
 use mathlib.Core.Path.{refl, sym, _∙_}
 use native.Mathlib.Omega.{arith}

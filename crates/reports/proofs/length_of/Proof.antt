@@ -1,4 +1,4 @@
--- `reports::length_of` meets its contract: the lengths of all printed lines. Assumes nothing.
+-- `reports::length_of` meets its contract: the lengths of all printed lines.
 use borrow.Author.Needs.{needs}
 use Rattle.reports.specs.Summaries.{report-of}
 use Rattle.reports.proofs.Wholes.{listed-length, corners-few, printable}

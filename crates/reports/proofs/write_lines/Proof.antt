@@ -1,4 +1,4 @@
--- `reports::write_lines` meets its contract: it lends the corners. Assumes nothing.
+-- `reports::write_lines` meets its contract: it lends the corners.
 use borrow.Author.Needs.{needs}
 use Rattle.reports.proofs.Wholes.{listed-length, corners-few, printable}
 use Rattle.reports.proofs.write_lines.Statement.{statement}

@@ -1,5 +1,4 @@
--- `reports::write_report` meets its contract: it lends the corners. Assumes
--- nothing.
+-- `reports::write_report` meets its contract: it lends the corners.
 use borrow.Author.Needs.{needs}
 use Rattle.reports.specs.Summaries.{report-of}
 use Rattle.reports.proofs.Wholes.{listed-length, corners-few, printable, all-written}

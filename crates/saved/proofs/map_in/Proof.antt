@@ -1,5 +1,4 @@
 -- `saved::map_in` meets its contract: each array holds what the file says of its places.
--- Assumes nothing.
 use mathlib.Core.Path.{ap, _∙_}
 use Prim.Native.Nat.{ℕ}
 use native.Mathlib.Omega.{arith}

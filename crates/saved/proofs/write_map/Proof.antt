@@ -1,5 +1,5 @@
 -- `saved::write_map` meets its contract: block after block, each over what follows the blocks
--- before it. Assumes nothing.
+-- before it.
 use mathlib.Core.Path.{_≡_, sym, _∙_}
 use mathlib.Core.List.{List, _++_}
 use Prim.Native.Nat.{ℕ, _*_}

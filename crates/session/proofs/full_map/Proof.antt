@@ -1,4 +1,4 @@
--- `session::full_map` is safe: the squares of the numbers below 512 fit. Assumes nothing.
+-- `session::full_map` is safe: the squares of the numbers below 512 fit.
 use borrow.Author.Needs.{needs}
 use Prim.Native.Nat.{_-_, _≤_}
 use native.Mathlib.Omega.{arith}

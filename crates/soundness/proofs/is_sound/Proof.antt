@@ -1,5 +1,5 @@
 -- `soundness::is_sound` meets its contract, for every map: the three groups of tests are the
--- definition, and what the earlier ones have shown is what the later ones ask. Assumes nothing.
+-- definition, and what the earlier ones have shown is what the later ones ask.
 use borrow.Author.Needs.{needs}
 use mathlib.Core.Path.{_≡_, sym, _∙_}
 use mathlib.Core.Logic.{⊎-elim}

@@ -1,5 +1,5 @@
--- `hull::conditions::is_in_line_among` meets its contract: it looks through the points, and where
--- the slope of one was seen, through those before it. Assumes nothing.
+-- `admission::conditions::is_in_line_among` meets its contract: it looks through the points, and where
+-- the slope of one was seen, through those before it.
 use borrow.Author.Needs.{needs}
 use mathlib.Core.Path.{_≡_, refl, sym, ap, _∙_}
 use mathlib.Core.Logic.{⊎-elim}

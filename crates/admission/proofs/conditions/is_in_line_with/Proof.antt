@@ -1,5 +1,4 @@
--- `hull::conditions::is_in_line_with` meets its contract: it looks through the points before point j.
--- Assumes nothing.
+-- `admission::conditions::is_in_line_with` meets its contract: it looks through the points before point j.
 use borrow.Author.Needs.{needs}
 use mathlib.Core.Path.{_∙_, ap, ap₂}
 use mathlib.Core.Bool.{Bool, not}

@@ -1,5 +1,5 @@
--- `hull::conditions::slope` meets its contract: at each operation the number that the machine has
--- is built from the bounds of the coordinates. Assumes nothing.
+-- `admission::conditions::slope` meets its contract: at each operation the number that the machine has
+-- is built from the bounds of the coordinates.
 use borrow.Author.Needs.{needs}
 use mathlib.Core.Path.{sym, ap, _∙_}
 use Prim.Native.Nat.{_%_}

@@ -1,5 +1,4 @@
--- `corners::listing::corners_of` meets its contract: an iteration lists one corner. Assumes
--- nothing.
+-- `corners::listing::corners_of` meets its contract: an iteration lists one corner.
 use borrow.Author.Needs.{needs}
 use mathlib.Core.Path.{refl}
 use Prim.Native.Nat.{ℕ, _-_}
@@ -13,11 +12,11 @@ use Rattle.corners.proofs.listing.corners_of.Statement.{statement}
 use Rattle.corners.proofs.listing.corners_of.Tie as tie
 
 abbrev Inv-loop : tie.InvT-loop
-Inv-loop map places₀ count start listed₀ a₀ counter₀ places listed a counter =
-    Listing map start places listed a (map .count - counter)
+Inv-loop map points₀ count start listed₀ a₀ counter₀ points listed a counter =
+    Listing map start points listed a (map .count - counter)
 
 abbrev μ-loop : tie.MeasureT-loop
-μ-loop map places₀ count start listed₀ a₀ counter₀ places listed a counter = map .count - counter
+μ-loop map points₀ count start listed₀ a₀ counter₀ points listed a counter = map .count - counter
 
 returns : tie.Need-returns Inv-loop μ-loop
 returns c = listing-few (c .if1 .taken) refl
@@ -30,11 +29,11 @@ loop-holds c =
     listing-first (c .before .before .args .t1) (c .lowest-corner .result) (length-replicate {A = ℕ} point-limit 0)
     (sub-zero _)
 
-mul-places : tie.Need-mul-places Inv-loop μ-loop
-mul-places c = omega (arith, c .before .loop .inv .few, c .before .before .before .before .pre .links .fits, c .loop-test .taken)
+mul-points : tie.Need-mul-points Inv-loop μ-loop
+mul-points c = omega (arith, c .before .loop .inv .few, c .before .before .before .before .pre .links .fits, c .loop-test .taken)
 
-array-write-places : tie.Need-array-write-places Inv-loop μ-loop
-array-write-places c = omega (arith, c .before .loop .inv .few, c .before .before .before .before .pre .links .fits, c .loop-test .taken)
+array-write-points : tie.Need-array-write-points Inv-loop μ-loop
+array-write-points c = omega (arith, c .before .loop .inv .few, c .before .before .before .before .pre .links .fits, c .loop-test .taken)
 
 add-listed : tie.Need-add-listed Inv-loop μ-loop
 add-listed c = omega (arith, c .before .loop .inv .few, c .before .before .before .before .pre .links .fits, c .loop-test .taken)
@@ -91,8 +90,8 @@ corners-of-spec =
     returns
     lowest-corner-requires
     loop-holds
-    mul-places
-    array-write-places
+    mul-points
+    array-write-points
     add-listed
     (λ c κs. search needs)
     add-counter

@@ -1,5 +1,5 @@
 -- `corners::listing::lower_of` meets its contract: the points that are compared are those that are
--- read from the arrays. Assumes nothing.
+-- read from the arrays.
 use borrow.Author.Needs.{needs}
 use mathlib.Core.Path.{_≡_, sym, ap₂, _∙_}
 use Rattle.model.specs.Plane.{lower}

@@ -1,5 +1,5 @@
 -- `corners::listing::lowest_corner` meets its contract: an iteration compares one corner of the
--- outline with the lowest so far. Assumes nothing.
+-- outline with the lowest so far.
 use borrow.Author.Needs.{needs}
 use Prim.Native.Nat.{_-_}
 use native.Mathlib.Nat.{sub-zero}

@@ -1,4 +1,4 @@
--- `corners::listing::write_corners` meets its contract: a step writes one corner. Assumes nothing.
+-- `corners::listing::write_corners` meets its contract: a step writes one corner.
 use mathlib.Core.Path.{_≡_, _∙_}
 use Prim.Native.Nat.{_-_, _≤_}
 use native.Mathlib.Omega.{arith}
@@ -7,7 +7,7 @@ use Rattle.corners.proofs.listing.write_corners.Statement.{statement}
 use Rattle.corners.proofs.listing.write_corners.Tie as tie
 
 abbrev Inv-loop : tie.InvT-loop
-Inv-loop lent₀ list count i₀ lent i = Copied lent₀ 0 (list .places) lent i × (i ≤ count)
+Inv-loop lent₀ list count i₀ lent i = Copied lent₀ 0 (list .points) lent i × (i ≤ count)
 
 abbrev μ-loop : tie.MeasureT-loop
 μ-loop lent₀ list count i₀ lent i = count - i

@@ -1,5 +1,4 @@
--- `corners::query::between` meets its contract, one return for each way through its test. Assumes
--- nothing.
+-- `corners::query::between` meets its contract, one return for each way through its test.
 use Rattle.corners.proofs.query.between.Statement.{statement}
 use Rattle.corners.proofs.query.between.Tie as tie
 

@@ -1,5 +1,4 @@
 -- `corners::query::is_at` meets its contract: the corner is the point that is read from the arrays.
--- Assumes nothing.
 use borrow.Author.Needs.{needs}
 use mathlib.Core.Path.{_∙_, ap}
 use Rattle.model.specs.declared.Point.{Point}

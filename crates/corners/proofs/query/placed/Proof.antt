@@ -1,5 +1,5 @@
 -- `corners::query::placed` meets its contract: a step looks at one corner and the edge that leaves
--- it. Assumes nothing.
+-- it.
 use borrow.Author.Needs.{needs}
 use mathlib.Core.Path.{_≡_, _∙_}
 use mathlib.Core.Bool.{cond}
@@ -12,7 +12,7 @@ use Rattle.model.specs.Maps.{point, edge-link}
 use Rattle.model.specs.Outline.{next-corner}
 use Rattle.model.specs.Placing.{place-among}
 use Rattle.model.proofs.Sound.{place-ranged}
-use Rattle.corners.proofs.Views.{Scanning, verdict, edge-verdict, inside-verdict, outside-verdict, at-first, corner-found, corner-looked, at-end}
+use Rattle.corners.proofs.Views.{Scanning, place-seen, edge-seen, inside-seen, outside-seen, at-first, corner-found, corner-looked, at-end}
 use Rattle.corners.proofs.query.placed.Statement.{statement}
 use Rattle.corners.proofs.query.placed.Tie as tie
 
@@ -39,7 +39,7 @@ abbrev entry : tie.At-loop Inv-loop μ-loop → tie.Start Inv-loop μ-loop
 entry c = listed c .before .before
 
 ended : (c : tie.After-loop Inv-loop μ-loop) →
-    verdict (entry (c .before) .args .t1) (entry (c .before) .args .p) (c .before .loop .view) ≡
+    place-seen (entry (c .before) .args .t1) (entry (c .before) .args .p) (c .before .loop .view) ≡
     cond (ltb (entry (c .before) .args .t1 .count) 2) Placed.NoOutline
     (place-among (entry (c .before) .args .t1) (entry (c .before) .args .p))
 ended c =
@@ -96,19 +96,19 @@ unfolding next-corner edge-link
 returns-3 c =
     let t = c .before .before .before .before in
     let s = entry (t .before .before) in
-    edge-verdict (s .args .t1) (s .args .p) (t .before .before .loop .view) (t .if3 .taken)
+    edge-seen (s .args .t1) (s .args .p) (t .before .before .loop .view) (t .if3 .taken)
     (c .next-corner2 .ensures) ∙ ended (t .before)
 
 returns-4 : tie.Need-returns-4 Inv-loop μ-loop
 returns-4 c =
     let s = entry (c .before .before .before) in
-    inside-verdict (s .args .t1) (s .args .p) (c .before .before .before .loop .view) (c .before .if3 .left)
+    inside-seen (s .args .t1) (s .args .p) (c .before .before .before .loop .view) (c .before .if3 .left)
     (c .if4 .taken) ∙ ended (c .before .before)
 
 returns-5 : tie.Need-returns-5 Inv-loop μ-loop
 returns-5 c =
     let s = entry (c .before .before .before) in
-    outside-verdict (s .args .t1) (s .args .p) (c .before .before .before .loop .view) (c .before .if3 .left)
+    outside-seen (s .args .t1) (s .args .p) (c .before .before .before .loop .view) (c .before .if3 .left)
     (c .if4 .left) ∙ ended (c .before .before)
 
 pub placed-spec : {M : Type 1} → statement M

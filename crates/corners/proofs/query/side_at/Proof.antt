@@ -1,5 +1,5 @@
 -- `corners::query::side_at` meets its contract: the edge's ends are the points that are read from
--- the arrays. Assumes nothing.
+-- the arrays.
 use borrow.Author.Needs.{needs}
 use mathlib.Core.Path.{_∙_, ap₂}
 use Rattle.corners.specs.Viewing.{side-of}

@@ -1,5 +1,5 @@
 -- `corners::query::side_of` meets its contract: the tests are those of the definition, at the value
--- that `orientation_in_range` gives. Assumes nothing.
+-- that `orientation_in_range` gives.
 use borrow.Author.Needs.{needs}
 use mathlib.Core.Path.{_≡_, refl, sym, _∙_, ap}
 use mathlib.Core.Bool.{Bool, true, false, not}

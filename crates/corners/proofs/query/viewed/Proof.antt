@@ -1,4 +1,4 @@
--- `corners::query::viewed` meets its contract, one return for each side. Assumes nothing.
+-- `corners::query::viewed` meets its contract, one return for each side.
 use borrow.Author.Needs.{needs}
 use mathlib.Core.Path.{sym, ap, _∙_}
 use Rattle.corners.specs.declared.query.Side.{Side}

@@ -1,4 +1,4 @@
--- `engine::checks::check_dart` meets its contract: one rule after the other. Assumes nothing.
+-- `engine::checks::check_dart` meets its contract: one rule after the other.
 use borrow.Author.Needs.{needs}
 use Rattle.model.specs.declared.Outcome.{Outcome}
 use Rattle.model.specs.Maps.{has-helper, is-present}

@@ -1,5 +1,4 @@
 -- `engine::files::load` meets its contract: the form of the file is checked, and then its map.
--- Assumes nothing.
 use borrow.Author.Needs.{needs}
 use mathlib.Core.Path.{_≡_, refl, sym, ap, _∙_}
 use borrow.Author.Tests.{not-false}
@@ -16,9 +15,9 @@ use Rattle.engine.proofs.Rules.{tested}
 use Rattle.engine.proofs.files.load.Statement.{statement}
 use Rattle.engine.proofs.files.load.Tie as tie
 
--- an outcome with a map beside it
-abbrev beside : Outcome → Map → Loaded
-beside outcome map = record { outcome = outcome; map = map }
+-- an outcome with a map with-map it
+abbrev with-map : Outcome → Map → Loaded
+with-map outcome map = record { outcome = outcome; map = map }
 
 returns : tie.Need-returns
 unfolding outcome-answer
@@ -26,7 +25,7 @@ returns c =
     let d = c .before in
     let s = d .before .before .before .args in
     answered _ (λ r. refl)
-    (ap (beside _) (c .empty-map .ensures)
+    (ap (with-map _) (c .empty-map .ensures)
     ∙ rule-applies _ _ _ _ (tested (d .before .is-in-form .ensures) (d .if1 .taken)))
 
 map-in-requires : tie.Need-map-in-requires
@@ -49,7 +48,7 @@ returns-2 c =
     let d = at-form (c .before .before) in
     let s = d .before .before .before .args in
     answered _ (λ r. refl)
-    (ap (beside _) (c .empty-map2 .ensures)
+    (ap (with-map _) (c .empty-map2 .ensures)
     ∙ rule-passes _ _ _ _ (tested (d .before .is-in-form .ensures) (d .if1 .left))
     (rule-applies _ _ _ _ (tested (checked (c .before .before)) (c .before .if2 .taken))))
 
@@ -60,7 +59,7 @@ returns-3 c =
     let s = d .before .before .before .args in
     let call = load-call (now (s .file)) in
     answered call (λ r. refl)
-    (ap (beside _) (c .before .before .map-in .ensures)
+    (ap (with-map _) (c .before .before .map-in .ensures)
     ∙ rule-passes (call .refuse) _ _ _ (tested (d .before .is-in-form .ensures) (d .if1 .left))
     (rule-passes (call .refuse) _ _ _ (tested (checked (c .before)) (c .if2 .left))
     (no-rule (call .refuse) _)))

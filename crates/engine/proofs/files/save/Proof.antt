@@ -1,5 +1,5 @@
 -- `engine::files::save` meets its contract: the map is checked, then the room, and then its bytes
--- are written. Assumes nothing.
+-- are written.
 use borrow.Author.Needs.{needs}
 use native.Mathlib.Omega.{arith}
 use Rattle.saved.proofs.Places.{length-saved}

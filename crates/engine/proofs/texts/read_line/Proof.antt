@@ -1,4 +1,4 @@
--- `engine::texts::read_line` meets its contract. Assumes nothing.
+-- `engine::texts::read_line` meets its contract.
 use borrow.Author.Needs.{needs}
 use mathlib.Core.Path.{refl}
 use Rattle.model.specs.Answers.{line-answer}

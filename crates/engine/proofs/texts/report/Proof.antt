@@ -1,5 +1,5 @@
 -- `engine::texts::report` meets its contract: the text's length is looked at, and then the report is
--- written. Assumes nothing.
+-- written.
 use borrow.Author.Needs.{needs}
 use mathlib.Core.Path.{sym, _∙_}
 use borrow.Author.Tests.{ltb-false}

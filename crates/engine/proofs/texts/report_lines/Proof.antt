@@ -1,5 +1,5 @@
 -- `engine::texts::report_lines` meets its contract: the room is looked at, and then the report is
--- written. Assumes nothing.
+-- written.
 use borrow.Author.Needs.{needs}
 use mathlib.Core.Path.{_≡_, ap, _∙_}
 use mathlib.Core.Bool.{false}

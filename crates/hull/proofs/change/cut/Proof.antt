@@ -1,4 +1,4 @@
--- `hull::change::cut` meets its contract. Assumes nothing.
+-- `hull::change::cut` meets its contract.
 use borrow.Author.Needs.{needs}
 use mathlib.Core.Path.{_≡_}
 use Prim.Native.Nat.{_<_}

@@ -1,4 +1,4 @@
--- `hull::change::join` meets its contract: it stores what the definition sets. Assumes nothing.
+-- `hull::change::join` meets its contract: it stores what the definition sets.
 use borrow.Author.Needs.{needs}
 use Rattle.model.specs.Arrival.{join}
 use Rattle.hull.proofs.change.join.Statement.{statement}

@@ -1,4 +1,4 @@
--- `hull::change::pair` meets its contract: what its calls ensure makes it up. Assumes nothing.
+-- `hull::change::pair` meets its contract: what its calls ensure makes it up.
 use borrow.Author.Needs.{needs}
 use mathlib.Core.Path.{refl, ap, _∙_}
 use Rattle.model.specs.Arrival.{join}

@@ -1,5 +1,5 @@
 -- `hull::change::splice` meets its contract: what its calls ensure makes it up, and the links that
--- are cut lead to darts. Assumes nothing.
+-- are cut lead to darts.
 use borrow.Author.Needs.{needs}
 use mathlib.Core.Path.{refl, _∙_}
 use native.Mathlib.Omega.{arith}

@@ -1,5 +1,5 @@
 -- `hull::sight::is_visible` meets its contract: the edge's ends are the points that are read from the
--- arrays. Assumes nothing.
+-- arrays.
 use borrow.Author.Needs.{needs}
 use mathlib.Core.Path.{_∙_, ap₂}
 use Rattle.model.specs.Plane.{sees-edge}

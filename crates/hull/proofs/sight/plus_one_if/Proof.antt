@@ -1,4 +1,4 @@
--- `hull::sight::plus_one_if` meets its contract. Assumes nothing.
+-- `hull::sight::plus_one_if` meets its contract.
 use borrow.Author.Needs.{needs}
 use native.Mathlib.Omega.{arith}
 use Rattle.finite.specs.Bounded.{one-if}

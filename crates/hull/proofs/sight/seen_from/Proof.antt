@@ -1,5 +1,4 @@
 -- `hull::sight::seen_from` meets its contract: an iteration passes one corner of the outline.
--- Assumes nothing.
 use borrow.Author.Needs.{needs}
 use mathlib.Core.Path.{_≡_, sym, subst, _∙_}
 use mathlib.Core.Logic.{⊎-elim}

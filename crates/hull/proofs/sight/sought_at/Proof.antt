@@ -1,4 +1,4 @@
--- `hull::sight::sought_at` meets its contract, one return for each way through its tests. Assumes nothing.
+-- `hull::sight::sought_at` meets its contract, one return for each way through its tests.
 use borrow.Author.Needs.{needs}
 use Rattle.hull.proofs.sight.sought_at.Statement.{statement}
 use Rattle.hull.proofs.sight.sought_at.Tie as tie

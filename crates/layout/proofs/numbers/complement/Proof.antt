@@ -1,5 +1,5 @@
 -- `layout::numbers::complement` meets its contract: by the sign, the machine's sum is the number in
--- two's complement. Assumes nothing.
+-- two's complement.
 use mathlib.Core.Path.{_≡_, subst}
 use mathlib.Core.Bool.{true, false}
 use lib.IntN.{ℤ, pos, _+ℤ_}

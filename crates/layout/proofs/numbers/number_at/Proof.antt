@@ -1,5 +1,5 @@
 -- `layout::numbers::number_at` meets its contract: the loop has read the number in the bytes so
--- far. Assumes nothing.
+-- far.
 use Prim.Native.Nat.{_+_, _≤_, _-_}
 use native.Mathlib.Omega.{arith}
 use mir.Syntax.{w8}

@@ -1,5 +1,4 @@
 -- `layout::numbers::put_number` meets its contract: the loop has written the bytes from `left` on.
--- Assumes nothing.
 use mathlib.Core.Path.{_≡_}
 use native.Mathlib.Nat.{mod-lt}
 use native.Mathlib.Omega.{arith}

@@ -1,5 +1,4 @@
 -- `layout::numbers::signed` meets its contract: by the half in which the number lies.
--- Assumes nothing.
 use borrow.Author.Needs.{needs}
 use mathlib.Core.Path.{sym, _∙_}
 use lib.IntN.{pos, _-ℤ_}

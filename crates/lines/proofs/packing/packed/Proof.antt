@@ -1,4 +1,4 @@
--- `reports::packing::packed` meets its contract, answer by answer. Assumes nothing.
+-- `lines::packing::packed` meets its contract, answer by answer.
 use borrow.Author.Needs.{needs}
 use mathlib.Core.Path.{sym, ap, _∙_}
 use native.Mathlib.Omega.{arith}

@@ -1,4 +1,4 @@
--- `reports::packing::refusal_of` meets its contract, number by number. Assumes nothing.
+-- `lines::packing::refusal_of` meets its contract, number by number.
 use borrow.Author.Tests.{eq-eqb, ne-eqb}
 use Rattle.lines.specs.Packing.{refusal-of}
 use Rattle.lines.proofs.packing.refusal_of.Statement.{statement}

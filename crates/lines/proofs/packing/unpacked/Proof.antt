@@ -1,5 +1,4 @@
--- `reports::packing::unpacked` meets its contract, one kind of answer after another. Assumes
--- nothing.
+-- `lines::packing::unpacked` meets its contract, one kind of answer after another.
 use borrow.Author.Needs.{needs}
 use mathlib.Core.Path.{ap}
 use borrow.Author.Tests.{lt-ltb, le-ltb, eq-eqb, ne-eqb}

@@ -1,4 +1,4 @@
--- `reports::positions::answer_at` meets its contract: past the end stands 0. Assumes nothing.
+-- `lines::positions::answer_at` meets its contract: past the end stands 0.
 use borrow.Author.Needs.{needs}
 use mathlib.Core.Path.{sym}
 use lib.ListN.{List·getD-eq-default}

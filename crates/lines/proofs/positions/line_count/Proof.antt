@@ -1,4 +1,4 @@
--- `reports::positions::line_count` meets its contract. Assumes nothing.
+-- `lines::positions::line_count` meets its contract.
 use borrow.Author.Needs.{needs}
 use Rattle.lines.specs.Lines.{line-count}
 use Rattle.lines.proofs.positions.line_count.Statement.{statement}

@@ -1,5 +1,4 @@
--- `reports::positions::line_length` meets its contract, one kind of line after another. Assumes
--- nothing.
+-- `lines::positions::line_length` meets its contract, one kind of line after another.
 use borrow.Author.Needs.{needs}
 use mathlib.Core.Path.{ap, _∙_}
 use native.Mathlib.Omega.{arith}
@@ -10,13 +9,13 @@ use Rattle.printing.specs.Printing.{arrival-line}
 use Rattle.printing.proofs.Values.{spaced-length}
 use Rattle.lines.specs.Packing.{unpacked}
 use Rattle.lines.specs.Lines.{counts-values}
-use Rattle.lines.proofs.ReportLines.{header-is, long-is, answer-is, corners-is, counts-is, corners-length, counts-length}
+use Rattle.lines.proofs.ReportLines.{title-is, long-is, answer-is, corners-is, counts-is, corners-length, counts-length}
 use Rattle.lines.proofs.positions.line_length.Statement.{statement}
 use Rattle.lines.proofs.positions.line_length.Tie as tie
 
 returns : tie.Need-returns
 unfolding bytes
-returns c = ap length (header-is _ _ _ _ (c .if1 .taken))
+returns c = ap length (title-is _ _ _ _ (c .if1 .taken))
 
 returns-2 : tie.Need-returns-2
 returns-2 c =

@@ -1,5 +1,4 @@
--- `reports::positions::put_line` meets its contract, one kind of line after another. Assumes
--- nothing.
+-- `lines::positions::put_line` meets its contract, one kind of line after another.
 use borrow.Author.Needs.{needs}
 use mathlib.Core.Path.{_≡_, sym, ap, _∙_}
 use Prim.Native.Nat.{_-_}
@@ -9,7 +8,7 @@ use Rattle.printing.specs.Printing.{arrival-line}
 use Rattle.printing.proofs.Overwriting.{room-as, wrote-as}
 use Rattle.lines.specs.Packing.{unpacked}
 use Rattle.lines.specs.Lines.{answer-at, report-line}
-use Rattle.lines.proofs.ReportLines.{header-is, long-is, answer-is, corners-is, counts-is}
+use Rattle.lines.proofs.ReportLines.{title-is, long-is, answer-is, corners-is, counts-is}
 use Rattle.lines.proofs.positions.put_line.Statement.{statement}
 use Rattle.lines.proofs.positions.put_line.Tie as tie
 
@@ -17,13 +16,13 @@ put-word-requires : tie.Need-put-word-requires
 unfolding bytes
 put-word-requires c κs =
     let test = c .before .before in
-    room-as (sym (header-is _ _ _ _ (test .if1 .taken))) (test .before .before .before .before .pre)
+    room-as (sym (title-is _ _ _ _ (test .if1 .taken))) (test .before .before .before .before .pre)
 
 returns : tie.Need-returns
 unfolding bytes
 returns c =
     let call = c .before .before in
-    wrote-as (sym (header-is _ _ _ _ (call .before .before .before .if1 .taken)))
+    wrote-as (sym (title-is _ _ _ _ (call .before .before .before .if1 .taken)))
     (call .put-word .ensures)
 
 put-refused-requires : tie.Need-put-refused-requires

@@ -1,5 +1,5 @@
--- `reports::positions::put_lines` meets its contract. The loop's invariant: the lines before
--- position `next` are written. The measure is how many lines are left. Assumes nothing.
+-- `lines::positions::put_lines` meets its contract. The loop's invariant: the lines before
+-- position `next` are written. The measure is how many lines are left.
 use borrow.Author.Needs.{needs}
 use Prim.Native.Nat.{_-_}
 use native.Mathlib.Omega.{arith}

@@ -1,5 +1,5 @@
--- `reports::positions::total_length` meets its contract. The loop's invariant: the total is the
--- length of the lines before position j. Assumes nothing.
+-- `lines::positions::total_length` meets its contract. The loop's invariant: the total is the
+-- length of the lines before position j.
 use borrow.Author.Needs.{needs}
 use Prim.Native.Nat.{_-_, _<_}
 use native.Mathlib.Omega.{arith}

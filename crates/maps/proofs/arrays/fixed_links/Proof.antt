@@ -1,5 +1,4 @@
 -- `maps::arrays::fixed_links` meets its contract: the loop fills every place with its number.
--- Assumes nothing.
 use mathlib.Core.Path.{refl}
 use Prim.Native.Nat.{ℕ, _-_}
 use native.Mathlib.Omega.{arith}

@@ -1,5 +1,4 @@
 -- `maps::arrays::point_links` meets its contract: the loop fills every place with the point link of its dart.
--- Assumes nothing.
 use borrow.Author.Needs.{needs}
 use Prim.Native.Nat.{ℕ}
 use Prim.Native.Nat.{_-_}

@@ -1,5 +1,4 @@
 -- `maps::arrays::present_darts` meets its contract: the loop fills every place with whether its dart is present.
--- Assumes nothing.
 use borrow.Author.Needs.{needs}
 use mathlib.Core.Bool.{false}
 use Prim.Native.Nat.{_-_}

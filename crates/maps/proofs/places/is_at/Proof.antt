@@ -1,4 +1,4 @@
--- `maps::places::is_at` meets its contract: equal bits are equal coordinates. Assumes nothing.
+-- `maps::places::is_at` meets its contract: equal bits are equal coordinates.
 use borrow.Author.Needs.{needs}
 use mathlib.Core.Path.{_≡_}
 use lib.Dec.{eqb}

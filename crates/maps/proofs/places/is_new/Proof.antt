@@ -1,5 +1,4 @@
 -- `maps::places::is_new` meets its contract: the loop tests every point before the n-th.
--- Assumes nothing.
 use borrow.Author.Needs.{needs}
 use mathlib.Core.Path.{ap}
 use mathlib.Core.Bool.{Bool, not}

@@ -1,5 +1,4 @@
 -- `maps::reading::coordinate` meets its contract: past the array stands 0.
--- Assumes nothing.
 use borrow.Author.Needs.{needs}
 use mathlib.Core.Path.{sym}
 use lib.IntN.{pos}

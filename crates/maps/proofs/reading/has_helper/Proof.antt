@@ -1,5 +1,4 @@
 -- `maps::reading::has_helper` meets its contract: past the array there is no helper.
--- Assumes nothing.
 use borrow.Author.Needs.{needs}
 use mathlib.Core.Path.{sym}
 use mathlib.Core.Bool.{false}

@@ -1,5 +1,4 @@
 -- `maps::reading::is_present` meets its contract, one return for each way through its tests.
--- Assumes nothing.
 use borrow.Author.Needs.{needs}
 use mathlib.Core.Path.{sym, _∙_}
 use borrow.Author.Tests.{lt-ltb, le-ltb, eq-eqb, ne-eqb}

@@ -1,5 +1,4 @@
 -- `maps::reading::point_at` meets its contract: each coordinate is read back from its bits.
--- Assumes nothing.
 use borrow.Author.Needs.{needs}
 use mathlib.Core.Path.{_∙_}
 use mir.Syntax.{w64}

@@ -1,5 +1,4 @@
 -- `maps::reading::point_link` meets its contract, one return for each way through its tests.
--- Assumes nothing.
 use borrow.Author.Needs.{needs}
 use mathlib.Core.Path.{sym, _∙_}
 use native.Mathlib.Omega.{arith}

@@ -1,5 +1,4 @@
 -- `maps::reading::previous_corner` meets its contract: a number past the array is no corner, and stays.
--- Assumes nothing.
 use borrow.Author.Needs.{needs}
 use mathlib.Core.Path.{_≡_, sym, _∙_, ap}
 use Prim.Native.Nat.{ℕ}

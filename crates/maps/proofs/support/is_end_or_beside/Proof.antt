@@ -1,5 +1,4 @@
 -- `maps::support::is_end_or_beside` meets its contract, one return for each way through its tests.
--- Assumes nothing.
 use borrow.Author.Needs.{needs}
 use mathlib.Core.Path.{sym, subst, _∙_}
 use borrow.Author.Tests.{eq-eqb, ne-eqb}

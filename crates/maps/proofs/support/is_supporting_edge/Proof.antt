@@ -1,5 +1,4 @@
 -- `maps::support::is_supporting_edge` meets its contract: the loop tests every point.
--- Assumes nothing.
 use Prim.Native.Nat.{_-_}
 use native.Mathlib.Omega.{arith}
 use Rattle.maps.specs.Places.{aside-at}

@@ -1,5 +1,5 @@
 -- `maps::traversal::counts_of` meets its contract: the lists that the code fills hold the links and the
--- present darts, and permute these, so that each number is that of the definition. Assumes nothing.
+-- present darts, and permute these, so that each number is that of the definition.
 use borrow.Author.Needs.{needs}
 use mathlib.Core.Path.{_≡_, sym, ap, subst, _∙_}
 use mathlib.Core.Bool.{Bool}

@@ -1,5 +1,4 @@
 -- `maps::traversal::dart_count` meets its contract: the loop has counted the present darts below d.
--- Assumes nothing.
 use borrow.Author.Needs.{needs}
 use mathlib.Core.Path.{_≡_, refl, ap, _∙_}
 use Prim.Native.Nat.{ℕ, _≤_, _-_}

@@ -1,4 +1,4 @@
--- `maps::traversal::moved` meets its contract: link by link. Assumes nothing.
+-- `maps::traversal::moved` meets its contract: link by link.
 use borrow.Author.Needs.{needs}
 use Rattle.maps.proofs.traversal.moved.Statement.{statement}
 use Rattle.maps.proofs.traversal.moved.Tie as tie

@@ -1,4 +1,4 @@
--- `maps::traversal::moved_by_edge` meets its contract: the edge link stands in the map. Assumes nothing.
+-- `maps::traversal::moved_by_edge` meets its contract: the edge link stands in the map.
 use borrow.Author.Needs.{needs}
 use Rattle.model.specs.Maps.{edge-link}
 use Rattle.maps.proofs.traversal.moved_by_edge.Statement.{statement}

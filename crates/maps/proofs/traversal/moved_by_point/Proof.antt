@@ -1,5 +1,5 @@
 -- `maps::traversal::moved_by_point` meets its contract: the list that is filled with the point links holds
--- the point link. Assumes nothing.
+-- the point link.
 use borrow.Author.Needs.{needs}
 use mathlib.Core.Path.{_≡_, ap, _∙_}
 use lib.ListN.{length}

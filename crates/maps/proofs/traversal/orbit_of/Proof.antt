@@ -1,5 +1,5 @@
 -- `maps::traversal::orbit_of` meets its contract: for each kind the lists that are read hold the links of
--- that kind, so that what is reached along them is the orbit. Assumes nothing.
+-- that kind, so that what is reached along them is the orbit.
 use borrow.Author.Needs.{needs}
 use mathlib.Core.Path.{_≡_, refl, sym, ap, _∙_}
 use lib.Dec.{T}

@@ -1,5 +1,5 @@
 -- `maps::traversal::walk_of` meets its contract: the lists hold the two links, and as many moves are left as
--- there are darts. Assumes nothing.
+-- there are darts.
 use borrow.Author.Needs.{needs}
 use mathlib.Core.Path.{_≡_, ap, _∙_}
 use lib.ListN.{length}

@@ -1,5 +1,5 @@
 -- `orbits::DartSet::contains` answers `has`: false past the darts, and below them what the mask
--- leaves of the word. Assumes nothing.
+-- leaves of the word.
 use mathlib.Core.Path.{sym}
 use native.Mathlib.Omega.{arith}
 use borrow.Author.Needs.{needs}

@@ -1,5 +1,5 @@
 -- `orbits::DartSet::with_dart` answers `with-dart`: the same set past the darts and at a member,
--- and else the set with the bit set by a mask. Assumes nothing.
+-- and else the set with the bit set by a mask.
 use mathlib.Core.Path.{sym, _∙_}
 use borrow.Author.Needs.{needs}
 use borrow.Author.Tests.{lt-ltb, le-ltb}

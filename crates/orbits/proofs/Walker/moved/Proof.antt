@@ -1,5 +1,5 @@
 -- `orbits::Walker::moved` meets its contract: within the list the walker goes where the link leads,
--- and past it the walker stays. Assumes nothing.
+-- and past it the walker stays.
 use borrow.Author.Needs.{needs}
 use mathlib.Core.Path.{sym, ap}
 use lib.ListN.{List·getD-eq-default}

@@ -1,6 +1,6 @@
 -- The edge step and the point step meet their contracts, in one proof since they call each other. The
 -- measure of each is the number of moves left. What a step comes to is a law of proofs/Moves, and moves
--- left and moves made stay together below what fits. Assumes nothing.
+-- left and moves made stay together below what fits.
 use borrow.Author.Needs.{needs}
 use mathlib.Core.Path.{_≡_, sym, ap, _∙_}
 use Prim.Native.Nat.{ℕ, _<_}

@@ -1,5 +1,4 @@
 -- `orbits::steps::walk` meets its contract: a walk begins with an edge step, all its moves left.
--- Assumes nothing.
 use borrow.Author.Needs.{needs}
 use mathlib.Core.Path.{ap, _∙_}
 use Rattle.orbits.specs.declared.Walker.{Walker}

@@ -1,5 +1,4 @@
--- `orbits::visits::all_move` meets its contract: the loop tests the dart of every place. Assumes
--- nothing.
+-- `orbits::visits::all_move` meets its contract: the loop tests the dart of every place.
 use Prim.Native.Nat.{_-_}
 use native.Mathlib.Omega.{arith}
 use Rattle.finite.specs.Loops.{Passed, Iteration, none-passed, one-passed, failed-tests, passed-tests}

@@ -1,5 +1,4 @@
 -- `orbits::visits::both_move` meets its contract: one return for each way through its tests.
--- Assumes nothing.
 use mathlib.Core.Path.{ap}
 use mathlib.Core.Bool.{not}
 use Rattle.finite.specs.Loops.{both-asked, one-asked}

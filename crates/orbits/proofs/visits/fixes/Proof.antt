@@ -1,5 +1,4 @@
 -- `orbits::visits::fixes` answers `is-fixed`: within the list, what lies past it does not matter.
--- Assumes nothing.
 use Rattle.orbits.specs.Classes.{is-fixed}
 use Rattle.orbits.proofs.Links.{link-read}
 use borrow.Author.Needs.{needs}

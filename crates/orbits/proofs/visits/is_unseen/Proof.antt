@@ -1,4 +1,4 @@
--- `orbits::visits::is_unseen` meets its contract, by the test of presence. Assumes nothing.
+-- `orbits::visits::is_unseen` meets its contract, by the test of presence.
 use borrow.Author.Needs.{needs}
 use Rattle.orbits.proofs.visits.is_unseen.Statement.{statement}
 use Rattle.orbits.proofs.visits.is_unseen.Tie as tie

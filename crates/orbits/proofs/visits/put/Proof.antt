@@ -1,5 +1,5 @@
 -- `orbits::visits::put` meets its contract: a dart that was seen leaves the queue as it is, and
--- there is room for one that was not. Assumes nothing.
+-- there is room for one that was not.
 use Prim.Native.Nat.{_<_}
 use native.Mathlib.Omega.{arith}
 use borrow.Author.Needs.{needs}

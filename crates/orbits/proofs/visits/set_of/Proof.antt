@@ -1,5 +1,5 @@
 -- `orbits::visits::set_of` meets its contract. The loop's invariant: the set has the darts of the
--- places passed. The measure is the places left. Assumes nothing.
+-- places passed. The measure is the places left.
 use mathlib.Core.Path.{_≡_, _∙_}
 use Prim.Native.Nat.{_≤_, _-_}
 use native.Mathlib.Omega.{arith}

@@ -1,5 +1,5 @@
 -- `orbits::visits::visit` meets its contract. The loop's invariant: from wherever the visit began,
--- it has come as far as `head`. The measure is what is left of the darts. Assumes nothing.
+-- it has come as far as `head`. The measure is what is left of the darts.
 use mathlib.Core.List.{List}
 use Prim.Native.Nat.{ℕ, _-_, _<_}
 use native.Mathlib.Omega.{arith}
@@ -31,7 +31,7 @@ visiting : (l : tie.At-loop Inv-loop μ-loop) → Now l
 visiting l = l .loop .inv (at-start l .args .order .now) (visit-begins (at-start l .pre) (l .before .put .ensures))
 
 left : (c : tie.In-loop Inv-loop μ-loop) → c .before .loop .head < dart-limit
-left c = omega (arith, c .loop-test .taken, queue-small (visiting (c .before) .grown .queue))
+left c = omega (arith, c .loop-test .taken, queue-small (visiting (c .before) .lengthened .queue))
 
 -- the dart at `head`, and both its links
 at-head : (c : tie.In-loop Inv-loop μ-loop) → getD (c .before .loop .order) (c .before .loop .head) 0 < dart-limit
@@ -66,7 +66,7 @@ element-copy-out-put c = at-head (c .before .before .before)
 put-requires-2 : tie.Need-put-requires-2 Inv-loop μ-loop
 put-requires-2 c κs =
     let t = c .before .before .before .before in
-    (visiting (t .before) .grown .queue, search (links-below t))
+    (visiting (t .before) .lengthened .queue, search (links-below t))
 
 mul-put-2 : tie.Need-mul-put-2 Inv-loop μ-loop
 mul-put-2 c = omega (arith, at-head (c .before .before .before .before .before .before .before))
@@ -77,7 +77,7 @@ element-copy-out-put-2 c = at-head (c .before .before .before .before .before .b
 put-requires-3 : tie.Need-put-requires-3 Inv-loop μ-loop
 put-requires-3 c κs =
     let p = c .before .before .before in
-    (p .put2 .ensures .grown .queue, search (links-below (p .before .before .before .before .before)))
+    (p .put2 .ensures .lengthened .queue, search (links-below (p .before .before .before .before .before)))
 
 abbrev in-loop : tie.After-put3 Inv-loop μ-loop → tie.In-loop Inv-loop μ-loop
 in-loop c = c .before .before .before .before .before .before .before .before .before

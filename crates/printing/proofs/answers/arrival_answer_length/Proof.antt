@@ -1,5 +1,4 @@
--- `printing::answers::arrival_answer_length` meets its contract, arrival by arrival. Assumes
--- nothing.
+-- `printing::answers::arrival_answer_length` meets its contract, arrival by arrival.
 use mathlib.Core.Path.{_≡_, sym, ap, _∙_}
 use mathlib.Core.List.{List, [], _∷_}
 use Prim.Native.Nat.{ℕ, _+_}

@@ -1,5 +1,5 @@
 -- `printing::answers::arrival_length` meets its contract: the number, a space and the answer's
--- line. Assumes nothing.
+-- line.
 use mathlib.Core.Path.{_≡_}
 use Prim.Native.Nat.{_+_}
 use native.Mathlib.Omega.{arith}

@@ -1,6 +1,5 @@
 -- `printing::answers::put_answer` meets its contract: the word, its values, then a line feed.
--- Assumes nothing.
-use Rattle.printing.specs.Writing.{Wrote}
+use Rattle.printing.specs.Writing.{PutAt}
 use mathlib.Core.List.{[], _∷_, _++_}
 use Rattle.model.specs.Spelling.{line-feed}
 use Rattle.printing.specs.Printing.{answer-line, values-spaced}
@@ -29,7 +28,7 @@ put-values-requires c κs =
 -- the word and its values
 both : (c : tie.After-put-values) →
     let begin = c .before .before .before .before .before .before .before .before .before in
-    Wrote (begin .args .lent .now) (begin .args .at) (begin .args .word .now ++ values-spaced
+    PutAt (begin .args .lent .now) (begin .args .at) (begin .args .word .now ++ values-spaced
     (begin .args .values .now))
     (c .put-values .last .0) (c .put-values .result)
 unfolding answer-line

@@ -1,5 +1,4 @@
 -- `printing::answers::put_arrival` meets its contract: the number, a space, then the answer's line.
--- Assumes nothing.
 use mathlib.Core.List.{[], _∷_}
 use lib.IntN.{pos}
 use Rattle.model.specs.Spelling.{space, spelt}

@@ -1,4 +1,4 @@
--- `printing::answers::put_arrival_answer` meets its contract, arrival by arrival. Assumes nothing.
+-- `printing::answers::put_arrival_answer` meets its contract, arrival by arrival.
 use mathlib.Core.Path.{ap, _∙_}
 use mathlib.Core.List.{List}
 use Prim.Native.Nat.{ℕ}

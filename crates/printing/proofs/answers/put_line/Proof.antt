@@ -1,4 +1,4 @@
--- `printing::answers::put_line` meets its contract: the word, then a line feed. Assumes nothing.
+-- `printing::answers::put_line` meets its contract: the word, then a line feed.
 use mathlib.Core.Path.{_≡_, ap}
 use mathlib.Core.List.{List, _++_, append-nil, [], _∷_}
 use Prim.Native.Nat.{ℕ}

@@ -1,5 +1,4 @@
 -- `printing::answers::put_refused` meets its contract: the line is that of the word and the number.
--- Assumes nothing.
 use Rattle.model.specs.Spelling.{bytes}
 use Rattle.printing.proofs.Overwriting.{room-as, wrote-as}
 use Rattle.printing.proofs.Printed.{refused-as}

@@ -1,4 +1,4 @@
--- `printing::answers::put_value` meets its contract: a space, then the digits. Assumes nothing.
+-- `printing::answers::put_value` meets its contract: a space, then the digits.
 use Rattle.printing.proofs.Overwriting.{wrote-then}
 use borrow.Author.Needs.{needs}
 use Rattle.printing.proofs.answers.put_value.Statement.{statement}

@@ -1,5 +1,5 @@
 -- `printing::answers::put_values` meets its contract. The loop's invariant: the values before place
--- i are written. Assumes nothing.
+-- i are written.
 use borrow.Author.Needs.{needs}
 use Prim.Native.Nat.{_-_}
 use native.Mathlib.Omega.{arith}

@@ -1,5 +1,4 @@
 -- `printing::answers::refused_length` meets its contract: the word, a line feed and one value.
--- Assumes nothing.
 use mathlib.Core.Path.{_≡_, ap}
 use mathlib.Core.List.{[], _∷_}
 use Prim.Native.Nat.{_+_}

@@ -1,5 +1,5 @@
 -- `printing::answers::values_length` meets its contract. The loop's invariant: the total is the
--- length of what stands before place i. Assumes nothing.
+-- length of what stands before place i.
 use mathlib.Core.Path.{refl, _≡_, ap, _∙_}
 use Prim.Native.Nat.{_+_, _*_, _-_, _≤_}
 use lib.ListN.{length-take, length, take}

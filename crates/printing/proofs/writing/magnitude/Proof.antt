@@ -1,5 +1,5 @@
 -- `printing::writing::magnitude` meets its contract: -1 - z is one less than the magnitude of a
--- negative z, and a cast keeps a number that is not negative. Assumes nothing.
+-- negative z, and a cast keeps a number that is not negative.
 use mathlib.Core.Path.{_≡_, ap}
 use mathlib.Core.Bool.{true, false}
 use native.Mathlib.Omega.{arith}

@@ -1,6 +1,5 @@
 -- `printing::writing::natural_length` meets its contract: few digits are told by comparison. The
 -- loop's invariant: the digits that are counted and those of the rest are one more than all.
--- Assumes nothing.
 use mathlib.Core.Path.{_≡_}
 use Prim.Native.Nat.{_+_, _≤_}
 use native.Mathlib.Omega.{arith}

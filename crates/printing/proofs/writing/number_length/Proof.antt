@@ -1,5 +1,5 @@
 -- `printing::writing::number_length` meets its contract: a negative number has a minus before its
--- digits. Assumes nothing.
+-- digits.
 use Rattle.printing.proofs.Magnitudes.{signed-spelling, plain-spelling}
 use mathlib.Core.Path.{sym, ap, _∙_}
 use native.Mathlib.Omega.{arith}

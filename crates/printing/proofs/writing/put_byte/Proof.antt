@@ -1,4 +1,4 @@
--- `printing::writing::put_byte` meets its contract: it is one store. Assumes nothing.
+-- `printing::writing::put_byte` meets its contract: it is one store.
 use Rattle.printing.proofs.Overwriting.{wrote-byte}
 use borrow.Author.Needs.{needs}
 use Rattle.printing.proofs.writing.put_byte.Statement.{statement}

@@ -1,6 +1,5 @@
 -- `printing::writing::put_natural` meets its contract. The loop's invariant: the digits after those
 -- of the rest are written, and the rest's last digit belongs at `place`. The measure is the rest.
--- Assumes nothing.
 use native.Mathlib.Omega.{arith}
 use mathlib.Core.Path.{ap, _∙_}
 use Prim.Native.Nat.{ℕ, _+_, _<_}

@@ -1,5 +1,5 @@
 -- `printing::writing::put_number` meets its contract: a negative number has a minus before its
--- digits. Assumes nothing.
+-- digits.
 use mathlib.Core.Path.{refl}
 use mathlib.Core.List.{[], _∷_}
 use Rattle.model.specs.Spelling.{minus}

@@ -1,5 +1,5 @@
 -- `printing::writing::put_word` meets its contract. The loop's invariant: the first i bytes of the
--- word are written, and the list is as long as it was. Assumes nothing.
+-- word are written, and the list is as long as it was.
 use borrow.Author.Needs.{needs}
 use mathlib.Core.Path.{refl}
 use Prim.Native.Nat.{_-_, _+_, _<_}

@@ -1,5 +1,4 @@
 -- `replies::opening::load_at` meets its contract: the file is loaded, and then the dart looked for.
--- Assumes nothing.
 use mathlib.Core.Path.{_≡_, sym, ap, _∙_}
 use mathlib.Core.Bool.{Bool, not}
 use mathlib.Core.List.{List}

@@ -1,5 +1,5 @@
 -- `replies::opening::load_near` meets its contract: the file is loaded, and then the range looked
--- at. Assumes nothing.
+-- at.
 use mathlib.Core.Path.{sym, ap, _∙_}
 use mathlib.Core.Bool.{not}
 use Rattle.model.specs.Plane.{in-range}

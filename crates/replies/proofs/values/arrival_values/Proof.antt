@@ -1,4 +1,4 @@
--- `replies::values::arrival_values` meets its contract: arrival by arrival. Assumes nothing.
+-- `replies::values::arrival_values` meets its contract: arrival by arrival.
 use Rattle.model.specs.Answers.{arrival-answer}
 use Rattle.replies.specs.Replies.{place-of, told}
 use borrow.Author.Needs.{needs}

@@ -1,4 +1,4 @@
--- `replies::values::placed_values` meets its contract: place by place. Assumes nothing.
+-- `replies::values::placed_values` meets its contract: place by place.
 use Rattle.model.specs.Answers.{placed-answer}
 use Rattle.replies.specs.Replies.{place-of, told}
 use borrow.Author.Needs.{needs}

@@ -1,4 +1,4 @@
--- `replies::writing::code` meets its contract: the number of a refusal is small. Assumes nothing.
+-- `replies::writing::code` meets its contract: the number of a refusal is small.
 use borrow.Author.Needs.{needs}
 use native.Mathlib.Omega.{arith}
 use Rattle.model.proofs.Answers.{number-most}

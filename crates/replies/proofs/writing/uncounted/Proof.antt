@@ -1,4 +1,4 @@
--- `replies::writing::uncounted` meets its contract: number 9 comes before number 10. Assumes nothing.
+-- `replies::writing::uncounted` meets its contract: number 9 comes before number 10.
 use borrow.Author.Needs.{needs}
 use mathlib.Core.Path.{refl, sym, _∙_}
 use mathlib.Core.Bool.{true}

@@ -1,5 +1,5 @@
 -- `replies::writing::write_admitted` meets its contract: the point's rules, and then what is
--- written. Assumes nothing.
+-- written.
 use mathlib.Core.Path.{_≡_, sym, ap, subst, _∙_}
 use mathlib.Core.List.{[]}
 use Rattle.model.specs.declared.Offered.{Offered}

@@ -1,5 +1,5 @@
 -- `replies::writing::write_corner_list` meets its contract: the room of both lists is checked, and
--- then both are written. Assumes nothing.
+-- then both are written.
 use mathlib.Core.Path.{refl, ap, _∙_}
 use mathlib.Core.List.{List, [], _∷_}
 use Prim.Native.Nat.{ℕ}

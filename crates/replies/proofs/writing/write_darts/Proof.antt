@@ -1,5 +1,5 @@
 -- `replies::writing::write_darts` meets its contract: the room is checked, then the words are
--- written, and then the size. Assumes nothing.
+-- written, and then the size.
 use mathlib.Core.Path.{sym, ap, _∙_}
 use mathlib.Core.List.{List, [], _∷_, _++_}
 use Prim.Native.Nat.{ℕ}

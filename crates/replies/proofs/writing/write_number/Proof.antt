@@ -1,5 +1,5 @@
 -- `replies::writing::write_number` meets its contract: the room is checked, and then the number
--- stored. Assumes nothing.
+-- stored.
 use mathlib.Core.List.{[], _∷_}
 use mir.Syntax.{w64}
 use mir.ValLaws.{toZ-ofZ}

@@ -1,5 +1,5 @@
 -- `replies::writing::write_offered` meets its contract: the room of both lists is checked, and then
--- both are written. Assumes nothing.
+-- both are written.
 use native.Mathlib.Omega.{arith}
 use denote.Ref.{now}
 use Rattle.model.specs.Answers.{arrival-answer}

@@ -1,5 +1,5 @@
 -- `replies::writing::write_point` meets its contract: the room is checked, and then both
--- coordinates stored. Assumes nothing.
+-- coordinates stored.
 use mathlib.Core.List.{[], _∷_}
 use mir.Syntax.{w64}
 use mir.ValLaws.{toZ-ofZ}

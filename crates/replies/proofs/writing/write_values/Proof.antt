@@ -1,5 +1,5 @@
 -- `replies::writing::write_values` meets its contract: the room is checked, and then a step writes
--- one value. Assumes nothing.
+-- one value.
 use mathlib.Core.Path.{_∙_}
 use Prim.Native.Nat.{_-_, _≤_}
 use native.Mathlib.Omega.{arith}

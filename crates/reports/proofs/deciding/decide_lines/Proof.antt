@@ -1,5 +1,5 @@
 -- `reports::deciding::decide_lines` meets its contract. The loop's invariant: the refused lines are
--- decided up to a stop. The measure is what is left of the text. Assumes nothing.
+-- decided up to a stop. The measure is what is left of the text.
 use borrow.Author.Needs.{needs}
 use mathlib.Core.Path.{_≡_, sym, subst}
 use mathlib.Core.Bool.{false}

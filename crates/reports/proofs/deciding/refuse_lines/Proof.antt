@@ -1,5 +1,5 @@
 -- `reports::deciding::refuse_lines` meets its contract. The loop's invariant: what is decided and
--- what is ahead make up the report. The measure is what is left of the text. Assumes nothing.
+-- what is ahead make up the report. The measure is what is left of the text.
 use borrow.Author.Needs.{needs}
 use mathlib.Core.Path.{_≡_, sym, ap, _∙_}
 use mathlib.Core.Bool.{false}

@@ -1,5 +1,5 @@
 -- `reports::deciding::verdict_on` meets its contract, by what the line names and what the rules
--- came to. Assumes nothing.
+-- came to.
 use borrow.Author.Needs.{needs}
 use Rattle.reports.proofs.Verdicts.{found-accepted, found-refused, found-malformed}
 use Rattle.reports.proofs.deciding.verdict_on.Statement.{statement}

@@ -1,4 +1,4 @@
--- `saved::reading::coordinate_in` meets its contract: by whether k is a point. Assumes nothing.
+-- `saved::reading::coordinate_in` meets its contract: by whether k is a point.
 use borrow.Author.Tests.{lt-ltb, le-ltb}
 use mathlib.Core.Path.{ap, _∙_}
 use mir.Syntax.{w64}

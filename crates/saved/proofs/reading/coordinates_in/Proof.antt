@@ -1,5 +1,5 @@
 -- `saved::reading::coordinates_in` meets its contract: the loop fills every place with the
--- coordinate of its point in the direction. Assumes nothing.
+-- coordinate of its point in the direction.
 use borrow.Author.Needs.{needs}
 use mathlib.Core.Path.{_∙_}
 use Prim.Native.Nat.{_+_, _-_, _*_}

@@ -1,4 +1,4 @@
--- `saved::reading::helper_in` meets its contract: by whether k is a point. Assumes nothing.
+-- `saved::reading::helper_in` meets its contract: by whether k is a point.
 use borrow.Author.Tests.{lt-ltb, le-ltb}
 use mathlib.Core.Path.{ap}
 use Prim.Native.Nat.{ℕ}

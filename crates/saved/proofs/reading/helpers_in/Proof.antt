@@ -1,5 +1,5 @@
 -- `saved::reading::helpers_in` meets its contract: the loop fills every place with the
--- helper of its point. Assumes nothing.
+-- helper of its point.
 use borrow.Author.Needs.{needs}
 use mathlib.Core.Bool.{Bool, false}
 use Prim.Native.Nat.{_-_}

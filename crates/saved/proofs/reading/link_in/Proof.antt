@@ -1,4 +1,4 @@
--- `saved::reading::link_in` meets its contract: by whether d is a dart of a point. Assumes nothing.
+-- `saved::reading::link_in` meets its contract: by whether d is a dart of a point.
 use borrow.Author.Tests.{lt-ltb, le-ltb}
 use mathlib.Core.Path.{ap, _∙_}
 use Prim.Native.Nat.{ℕ, _+_, _*_}

@@ -1,5 +1,5 @@
 -- `saved::reading::links_in` meets its contract: the loop fills every place with the
--- edge link of its dart. Assumes nothing.
+-- edge link of its dart.
 use borrow.Author.Needs.{needs}
 use Prim.Native.Nat.{ℕ, _-_}
 use native.Mathlib.Omega.{arith}

@@ -1,5 +1,5 @@
 -- `saved::writing::coordinate_field` meets its contract: an even coordinate is an x, an odd one a
--- y. Assumes nothing.
+-- y.
 use borrow.Author.Needs.{needs}
 use borrow.Author.Tests.{eq-eqb, ne-eqb}
 use mathlib.Core.Path.{_≡_, sym, ap, subst, _∙_}

@@ -1,5 +1,4 @@
 -- `saved::writing::helper_field` meets its contract: 1 where there is a helper, else 0.
--- Assumes nothing.
 use borrow.Author.Needs.{needs}
 use mathlib.Core.Path.{sym, ap, _∙_}
 use Rattle.finite.specs.Bounded.{one-if}

@@ -1,5 +1,4 @@
 -- `saved::writing::write_coordinates` meets its contract: the loop has written i coordinates.
--- Assumes nothing.
 use borrow.Author.Needs.{needs}
 use Prim.Native.Nat.{_*_, _-_}
 use native.Mathlib.Omega.{arith}

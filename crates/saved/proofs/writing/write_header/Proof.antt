@@ -1,5 +1,5 @@
 -- `saved::writing::write_header` meets its contract: number after number, each over what follows
--- the numbers before it. Assumes nothing.
+-- the numbers before it.
 use mathlib.Core.Path.{refl, ap, _∙_}
 use mathlib.Core.List.{List, _++_}
 use Prim.Native.Nat.{ℕ, _-_}

@@ -1,5 +1,5 @@
 -- `saved::writing::write_helpers` meets its contract: the loop has written the helper bytes of k
--- points. Assumes nothing.
+-- points.
 use borrow.Author.Needs.{needs}
 use Prim.Native.Nat.{_-_}
 use native.Mathlib.Omega.{arith}

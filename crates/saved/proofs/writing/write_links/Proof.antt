@@ -1,5 +1,4 @@
 -- `saved::writing::write_links` meets its contract: the loop has written the links of d darts.
--- Assumes nothing.
 use borrow.Author.Needs.{needs}
 use Prim.Native.Nat.{_*_, _-_}
 use native.Mathlib.Omega.{arith}

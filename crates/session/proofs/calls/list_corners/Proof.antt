@@ -1,4 +1,4 @@
--- `session::calls::list_corners` is safe: the length that is answered lies within the lent list. Assumes nothing.
+-- `session::calls::list_corners` is safe: the length that is answered lies within the lent list.
 use borrow.Author.Needs.{needs}
 use Rattle.engine.proofs.Entries.{written-within}
 use Rattle.session.proofs.Lengths.{first-part}

@@ -1,4 +1,4 @@
--- `session::telling::say_number` is safe: 21 bytes are room for every number. Assumes nothing.
+-- `session::telling::say_number` is safe: 21 bytes are room for every number.
 use borrow.Author.Needs.{needs}
 use native.Mathlib.Omega.{arith}
 use mir.Syntax.{w64}

@@ -1,4 +1,4 @@
--- `session::telling::tell` is safe. The loop's invariant: place i is no place past the list. Assumes nothing.
+-- `session::telling::tell` is safe. The loop's invariant: place i is no place past the list.
 use borrow.Author.Needs.{needs}
 use Prim.Native.Nat.{_-_, _≤_}
 use lib.ListN.{length}

@@ -1,5 +1,4 @@
--- `session::telling::tell_bytes` is safe. The loop's invariant: place i is no place past the list. Assumes
--- nothing.
+-- `session::telling::tell_bytes` is safe. The loop's invariant: place i is no place past the list.
 use borrow.Author.Needs.{needs}
 use Prim.Native.Nat.{_-_, _≤_}
 use native.Mathlib.Omega.{arith}

@@ -1,4 +1,4 @@
--- `session::telling::tell_darts` is safe: so many darts are gone over. Assumes nothing.
+-- `session::telling::tell_darts` is safe: so many darts are gone over.
 use borrow.Author.Needs.{needs}
 use Prim.Native.Nat.{_-_, _≤_}
 use Rattle.orbits.specs.Sets.{dart-limit}

@@ -1,5 +1,5 @@
 -- `soundness::linkage::absent_fixed` meets its contract: the loop tests every place of the edge
--- links. Assumes nothing.
+-- links.
 use borrow.Author.Needs.{needs}
 use mathlib.Core.Path.{_≡_}
 use mathlib.Core.Bool.{Bool, _||_}

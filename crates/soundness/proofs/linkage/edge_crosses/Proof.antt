@@ -1,5 +1,4 @@
 -- `soundness::linkage::edge_crosses` meets its contract, one return for each way through its tests.
--- Assumes nothing.
 use borrow.Author.Needs.{needs}
 use mathlib.Core.Path.{sym, _∙_}
 use borrow.Author.Tests.{eq-eqb, ne-eqb, not-true, not-false}

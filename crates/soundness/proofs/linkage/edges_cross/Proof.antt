@@ -1,5 +1,4 @@
 -- `soundness::linkage::edges_cross` meets its contract: the loop tests every dart below the bound.
--- Assumes nothing.
 use borrow.Author.Needs.{needs}
 use mathlib.Core.Bool.{Bool, not, _&&_}
 use lib.Dec.{eqb}

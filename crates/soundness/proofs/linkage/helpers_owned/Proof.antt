@@ -1,5 +1,4 @@
 -- `soundness::linkage::helpers_owned` meets its contract: it is what the call ensures.
--- Assumes nothing.
 use borrow.Author.Needs.{needs}
 use Rattle.model.specs.Sound.{helpers-owned}
 use Rattle.soundness.proofs.linkage.helpers_owned.Statement.{statement}

@@ -1,5 +1,4 @@
 -- `soundness::linkage::is_bare_from` meets its contract: the loop tests every place from n on.
--- Assumes nothing.
 use borrow.Author.Needs.{needs}
 use mathlib.Core.Path.{ap}
 use mathlib.Core.Bool.{Bool, false, not}

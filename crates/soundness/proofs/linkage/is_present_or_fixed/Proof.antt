@@ -1,5 +1,5 @@
 -- `soundness::linkage::is_present_or_fixed` meets its contract, one return for each way through its
--- tests. Assumes nothing.
+-- tests.
 use borrow.Author.Needs.{needs}
 use mathlib.Core.Path.{sym, _∙_}
 use Rattle.soundness.proofs.linkage.is_present_or_fixed.Statement.{statement}

@@ -1,5 +1,4 @@
 -- `soundness::linkage::link_undoes` meets its contract, one return for each way through its tests.
--- Assumes nothing.
 use borrow.Author.Needs.{needs}
 use mathlib.Core.Path.{sym, _∙_}
 use Rattle.soundness.proofs.linkage.link_undoes.Statement.{statement}

@@ -1,5 +1,5 @@
 -- `soundness::linkage::links_sound` meets its contract: after each `&&` stands the conjunction of
--- the tests so far. Assumes nothing.
+-- the tests so far.
 use borrow.Author.Needs.{needs}
 use mathlib.Core.Path.{_≡_, _∙_}
 use mathlib.Core.Logic.{⊎-elim}

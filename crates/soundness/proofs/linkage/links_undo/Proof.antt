@@ -1,5 +1,4 @@
 -- `soundness::linkage::links_undo` meets its contract: the loop tests every dart below the bound.
--- Assumes nothing.
 use borrow.Author.Needs.{needs}
 use mathlib.Core.Bool.{Bool, _&&_}
 use lib.Dec.{eqb}

@@ -1,5 +1,4 @@
 -- `soundness::linkage::lone_fixed` meets its contract: the loop tests every point.
--- Assumes nothing.
 use mathlib.Core.Bool.{Bool, not}
 use Rattle.finite.specs.Tests.{_⇒_}
 use Rattle.orbits.specs.Classes.{is-fixed}

@@ -1,5 +1,4 @@
 -- `soundness::outlines::all_moved` meets its contract: the loop tests every dart.
--- Assumes nothing.
 use borrow.Author.Needs.{needs}
 use Prim.Native.Nat.{_-_}
 use native.Mathlib.Omega.{arith}

@@ -1,5 +1,5 @@
 -- `soundness::outlines::is_outside_or_moved` meets its contract, one return for each way through
--- its tests. Assumes nothing.
+-- its tests.
 use borrow.Author.Needs.{needs}
 use mathlib.Core.Path.{sym, _∙_}
 use borrow.Author.Tests.{eq-eqb, ne-eqb}

@@ -1,5 +1,5 @@
 -- `soundness::outlines::no_outline` meets its contract: it is the conjunction of what the call
--- ensures and of a test. Assumes nothing.
+-- ensures and of a test.
 use borrow.Author.Needs.{needs}
 use mathlib.Core.Path.{sym, _∙_}
 use Rattle.model.specs.Sound.{no-outline}

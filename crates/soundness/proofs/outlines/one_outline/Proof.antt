@@ -1,5 +1,5 @@
 -- `soundness::outlines::one_outline` meets its contract: the arrays that the code fills hold the
--- point link and the present darts, so that the count is that of the definition. Assumes nothing.
+-- point link and the present darts, so that the count is that of the definition.
 use borrow.Author.Needs.{needs}
 use mathlib.Core.Path.{_≡_, sym, ap, subst, _∙_}
 use mathlib.Core.Bool.{Bool}

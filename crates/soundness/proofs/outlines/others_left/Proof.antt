@@ -1,5 +1,5 @@
 -- `soundness::outlines::others_left` meets its contract: the loop tests every corner from the
--- reference round. Assumes nothing.
+-- reference round.
 use borrow.Author.Needs.{needs}
 use mathlib.Core.Path.{_≡_, sym, ap, _∙_}
 use mathlib.Core.Bool.{Bool, not, _&&_}

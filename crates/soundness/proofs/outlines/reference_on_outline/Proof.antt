@@ -1,6 +1,6 @@
 -- `soundness::outlines::reference_on_outline` meets its contract: past the two tests of the
 -- reference itself, its part is closed just where both links move every dart of the set that the
--- code finds. Assumes nothing.
+-- code finds.
 use borrow.Author.Needs.{needs}
 use mathlib.Core.Path.{_≡_, sym, ap, subst, _∙_}
 use mathlib.Core.Bool.{true}

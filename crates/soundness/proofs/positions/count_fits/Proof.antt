@@ -1,5 +1,4 @@
 -- `soundness::positions::count_fits` meets its contract: the test is that of the definition.
--- Assumes nothing.
 use mathlib.Core.Path.{refl}
 use Rattle.model.specs.Sound.{count-fits}
 use Rattle.soundness.proofs.positions.count_fits.Statement.{statement}

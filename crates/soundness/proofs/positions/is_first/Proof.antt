@@ -1,5 +1,4 @@
 -- `soundness::positions::is_first` meets its contract: it is what the call ensures, at point k.
--- Assumes nothing.
 use borrow.Author.Needs.{needs}
 use mathlib.Core.Path.{_∙_, ap}
 use Rattle.maps.specs.Places.{new-at}

@@ -1,5 +1,4 @@
 -- `soundness::positions::is_zero_from` meets its contract: the loop tests every place from n on.
--- Assumes nothing.
 use borrow.Author.Needs.{needs}
 use mathlib.Core.Path.{sym, ap, _∙_}
 use mathlib.Core.Bool.{Bool, not}

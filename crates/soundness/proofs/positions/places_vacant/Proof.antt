@@ -1,5 +1,5 @@
 -- `soundness::positions::places_vacant` meets its contract: it is the conjunction of what the calls
--- ensure. Assumes nothing.
+-- ensure.
 use borrow.Author.Needs.{needs}
 use mathlib.Core.Path.{sym, _∙_}
 use Rattle.model.specs.Sound.{places-vacant}

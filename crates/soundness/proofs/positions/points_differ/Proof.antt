@@ -1,5 +1,4 @@
 -- `soundness::positions::points_differ` meets its contract: the loop tests every point.
--- Assumes nothing.
 use borrow.Author.Needs.{needs}
 use mathlib.Core.Path.{_≡_}
 use mathlib.Core.Bool.{Bool, not}

@@ -1,5 +1,4 @@
 -- `soundness::positions::points_in_range` meets its contract: the loop tests every point.
--- Assumes nothing.
 use borrow.Author.Needs.{needs}
 use mathlib.Core.Path.{ap, _∙_}
 use mathlib.Core.Bool.{Bool}

@@ -1,5 +1,4 @@
 -- `survey::lines::at_end` meets its contract: the test is that of the definition.
--- Assumes nothing.
 use mathlib.Core.Path.{refl}
 use Rattle.survey.specs.Places.{at-end}
 use Rattle.survey.proofs.lines.at_end.Statement.{statement}

@@ -1,5 +1,4 @@
 -- `survey::lines::byte_at` meets its contract: past the end of a list the reading is 0.
--- Assumes nothing.
 use mathlib.Core.Path.{sym}
 use lib.ListN.{List·getD-eq-default}
 use borrow.Author.Needs.{needs}

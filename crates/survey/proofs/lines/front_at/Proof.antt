@@ -1,5 +1,5 @@
 -- `survey::lines::front_at` meets its contract: the part that is lent is all that stands from the
--- place on, and past the end there is no number. Assumes nothing.
+-- place on, and past the end there is no number.
 use borrow.Author.Needs.{needs}
 use mathlib.Core.Path.{ap, _∙_}
 use Prim.Native.Nat.{_-_}

@@ -1,5 +1,5 @@
 -- `survey::lines::place_of` meets its contract: at each place that the search comes to, what is
--- sought from there on is what is sought. Assumes nothing.
+-- sought from there on is what is sought.
 use borrow.Author.Needs.{needs}
 use mathlib.Core.Path.{_≡_, refl, sym, _∙_}
 use Prim.Native.Nat.{_-_}

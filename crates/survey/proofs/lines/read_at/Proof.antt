@@ -1,5 +1,5 @@
 -- `survey::lines::read_at` meets its contract: the line begins with a number that a space follows,
--- or it is not in form. Assumes nothing.
+-- or it is not in form.
 use borrow.Author.Needs.{needs}
 use mathlib.Core.Path.{_≡_, sym, _∙_}
 use native.Mathlib.Omega.{arith}

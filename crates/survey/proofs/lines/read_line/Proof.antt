@@ -1,5 +1,5 @@
 -- `survey::lines::read_line` meets its contract: the line at the first place is all that is lent,
--- or what is lent is no line. Assumes nothing.
+-- or what is lent is no line.
 use borrow.Author.Needs.{needs}
 use mathlib.Core.Path.{sym, ap, _∙_}
 use Rattle.survey.specs.declared.lines.Read.{Read}

@@ -1,5 +1,4 @@
--- `survey::lines::read_second` meets its contract, by what follows the second number. Assumes
--- nothing.
+-- `survey::lines::read_second` meets its contract, by what follows the second number.
 use borrow.Author.Needs.{needs}
 use mathlib.Core.Path.{_≡_, sym, _∙_}
 use native.Mathlib.Omega.{arith}

@@ -1,4 +1,4 @@
--- `survey::lines::refused_from` meets its contract, with a feed and without one. Assumes nothing.
+-- `survey::lines::refused_from` meets its contract, with a feed and without one.
 use borrow.Author.Needs.{needs}
 use borrow.Author.Tests.{lt-ltb, le-ltb}
 use Rattle.survey.specs.Places.{line-bytes, line-end, next-line}

@@ -1,5 +1,4 @@
 -- `survey::numbers::digit_value` meets its contract: a digit is 48 at least.
--- Assumes nothing.
 use native.Mathlib.Omega.{arith}
 use Rattle.survey.proofs.Digits.{digit-small}
 use borrow.Author.Needs.{needs}

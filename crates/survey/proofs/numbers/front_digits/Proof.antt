@@ -1,5 +1,5 @@
 -- `survey::numbers::front_digits` meets its contract. The loop's invariant: the digits before place
--- `count` have the value so far, and there are digit-limit of them at most. Assumes nothing.
+-- `count` have the value so far, and there are digit-limit of them at most.
 use mathlib.Core.Path.{_≡_, sym, _∙_}
 use mathlib.Core.Logic.{⊎-elim}
 use mathlib.Core.Bool.{true}

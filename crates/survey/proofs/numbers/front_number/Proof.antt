@@ -1,5 +1,5 @@
 -- `survey::numbers::front_number` meets its contract, by the cases of sign and magnitude. A
--- magnitude is below 10^digit-limit, so it fits, and so does its negation. Assumes nothing.
+-- magnitude is below 10^digit-limit, so it fits, and so does its negation.
 use Rattle.integers.specs.Ring.{zero--ℤ}
 use Rattle.integers.specs.Range.{Number, natural, literal, sub, back, fits}
 use Rattle.survey.specs.declared.numbers.Front.the-variants.{Value as spelled}

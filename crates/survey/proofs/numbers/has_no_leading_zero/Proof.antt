@@ -1,5 +1,5 @@
 -- `survey::numbers::has_no_leading_zero` meets its contract: it is the disjunction of the two
--- tests. Assumes nothing.
+-- tests.
 use mathlib.Core.Path.{sym}
 use borrow.Author.Tests.{eq-eqb, ne-eqb}
 use Rattle.survey.proofs.numbers.has_no_leading_zero.Statement.{statement}

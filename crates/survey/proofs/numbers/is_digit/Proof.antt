@@ -1,5 +1,4 @@
 -- `survey::numbers::is_digit` meets its contract: it is the conjunction of the two tests.
--- Assumes nothing.
 use mathlib.Core.Path.{sym}
 use borrow.Author.Tests.{le-leb, lt-leb}
 use Rattle.model.specs.Text.{is-digit}

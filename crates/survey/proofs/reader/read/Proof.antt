@@ -1,7 +1,7 @@
 -- `survey::reader::read` meets its contract: a walk of its MIR, by hand. The reader is taken
 -- apart, and `read_at` is called on the text and the place. The struct is Copy: what it owns is
 -- had twice, one copy is kept whole for the exit, and of the other what the text owns goes to the
--- callee, beside the lifetime's token, which comes back. Assumes nothing.
+-- callee, beside the lifetime's token, which comes back.
 use mathlib.Core.Path.{_≡_, refl}
 use Prim.Native.Nat.{_<_, _^_}
 use mathlib.Core.List.{[], _∷_}

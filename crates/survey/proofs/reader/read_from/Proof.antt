@@ -1,6 +1,6 @@
 -- `survey::reader::read_from` meets its contract: a walk of its MIR, by hand. A reader is made of
 -- the text and the place, in a local, and handed to `read`. In a local MIR erases the lifetime of
--- the struct's type. Assumes nothing.
+-- the struct's type.
 use mathlib.Core.Path.{_≡_, refl}
 use Prim.Native.Nat.{ℕ, _<_, _^_}
 use mathlib.Core.List.{List, [], _∷_}

@@ -489,7 +489,7 @@ impl Map {
         (outline, lowest)
     }
 
-    /// The verdict and two values.
+    /// Where it lies, and two values.
     fn place(&self, x: i64, y: i64) -> Result<[u64; 3], u32> {
         if !in_range(x) || !in_range(y) {
             return Err(OUT_OF_RANGE);

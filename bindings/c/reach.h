@@ -95,7 +95,7 @@ enum {
 
 /* The bytes of stack that reach_report needs, and those that every other function needs. With less
    a call runs into the guard page of its stack. */
-enum { REACH_REPORT_STACK = 1048576, REACH_CALL_STACK = 262144 };
+enum { REACH_REPORT_STACK = 524288, REACH_CALL_STACK = 262144 };
 
 /*
  * The saved form of a map of n points. Numbers are big-endian.
@@ -173,7 +173,7 @@ uint32_t reach_walker_edge(const uint8_t *map, size_t n, uint64_t dart, uint64_t
 /* Writes the dart where a walker stands after one move by the point link. Refusals: 7, 1, 6, 10. */
 uint32_t reach_walker_point(const uint8_t *map, size_t n, uint64_t dart, uint64_t *out, size_t m);
 
-/* Places a query point and writes three values: the verdict (REACH_PLACED_...), then the corner and
+/* Places a query point and writes three values: where it lies (REACH_PLACED_...), then the corner and
    0, or the start and the end of the edge, or the number of visible edges and 0, or 0 and 0.
    Refusals: 7, 1, 3, 10. */
 uint32_t reach_place(const uint8_t *map, size_t n, int64_t x, int64_t y, uint64_t *out, size_t m);
@@ -192,7 +192,8 @@ uint32_t reach_check(const uint8_t *map, size_t n);
 uint32_t reach_line(const uint8_t *line, size_t n, int64_t *out, size_t m);
 
 /* Writes what the program prints for a survey text, and how many bytes it is to length[0]: never
-   more than 16 bytes for each byte of the text and 4,096 more. Refusals: 9, 10. */
+   more than REACH_REPORT_BYTES of the text's length, which is proved (`report-most` of
+   crates/reports/proofs/Lengths.antt). Refusals: 9, 10. */
 uint32_t reach_report(const uint8_t *text, size_t n, uint8_t *out, size_t m, uint64_t *length,
                       size_t k);
 

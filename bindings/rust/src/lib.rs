@@ -42,7 +42,7 @@ pub const COORDINATE_LIMIT: i64 = 1_000_000;
 pub const TEXT_LIMIT: usize = 65_536;
 
 /// The bytes of stack that [`report`] needs of its thread.
-pub const REPORT_STACK: usize = 1_048_576;
+pub const REPORT_STACK: usize = 524_288;
 
 /// The bytes of stack that every other call needs of its thread.
 pub const CALL_STACK: usize = 262_144;
@@ -108,8 +108,7 @@ pub fn read_line(line: &[u8]) -> Result<Point, Refusal> {
 /// # Ok::<(), reach::Refusal>(())
 /// ```
 pub fn report(text: &[u8]) -> Result<Vec<u8>, Refusal> {
-    // The longest printed line for its length is `65535 refused 8` for a blank line, with its feed
-    // 16 bytes for one. The title, the corners and the counts are less than 4,096 bytes.
+    // No report is longer: `report-most` of crates/reports/proofs/Lengths.antt.
     let mut printed = vec![0; 16 * text.len().min(TEXT_LIMIT) + 4096];
     let mut length = [0];
     Refusal::of(raw::report(text, &mut printed, &mut length))?;

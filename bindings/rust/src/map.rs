@@ -388,8 +388,8 @@ impl Map {
     pub fn place(&self, point: Point) -> Result<Placed, Refusal> {
         let mut out = [0; 3];
         Refusal::of(raw::place(&self.bytes, point.x, point.y, &mut out))?;
-        let [verdict, first, second] = out.map(index);
-        Ok(match verdict {
+        let [kind, first, second] = out.map(index);
+        Ok(match kind {
             0 => Placed::NoOutline,
             1 => Placed::Corner(first),
             2 => Placed::Edge { start: first, end: second },

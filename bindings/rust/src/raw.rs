@@ -158,7 +158,7 @@ pub fn counts(map: &[u8], out: &mut [u64]) -> u32 {
     unsafe { engine::reach_counts(map.as_ptr(), map.len(), out.as_mut_ptr(), out.len()) }
 }
 
-/// 7, 1, 3, 10: the verdict and two values.
+/// 7, 1, 3, 10: where it lies, and two values.
 pub fn place(map: &[u8], x: i64, y: i64, out: &mut [u64]) -> u32 {
     unsafe { engine::reach_place(map.as_ptr(), map.len(), x, y, out.as_mut_ptr(), out.len()) }
 }

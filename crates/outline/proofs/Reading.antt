@@ -1,11 +1,11 @@
 -- Reading, in the order of this page: one read into the rest of a list; the loop: where it begins,
 -- one read more, where a read ends it, where the list is full.
-use mathlib.Core.Path.{_≡_, refl, _∙_}
+use mathlib.Core.Path.{_≡_, refl, sym, subst, _∙_}
 use mathlib.Core.Bool.{true, false}
 use mathlib.Core.List.{List}
 use Prim.Native.Nat.{ℕ, _+_, _-_, _≤_, _<_}
 use native.Mathlib.Omega.{arith}
-use borrow.Author.Tests.{eqb-false}
+use borrow.Author.Tests.{eqb-true, eqb-false}
 use borrow.Rule.Slice.PartMut.{putMid, take-put}
 use lib.Dec.{eqb}
 use lib.ListN.{length}
@@ -24,6 +24,7 @@ module _ {before : List ℕ} {filled : ℕ} (last : List ℕ) (inside : filled �
         as-long = as-long;
         not-back = omega arith;
         inside = inside;
+        nothing-more = λ e. absurd (let z : _≡_ {A = ℕ} 0 1 = cc in omega arith);
         goes-on = λ e. absurd (let z : _≡_ {A = ℕ} 0 1 = cc in omega arith);
       }
 
@@ -36,6 +37,7 @@ module _ {before : List ℕ} {filled : ℕ} (last : List ℕ) (inside : filled �
         as-long = as-long;
         not-back = omega arith;
         inside = fits;
+        nothing-more = λ none. omega (arith, eqb-true more 0 none);
         goes-on = λ e some. let n = eqb-false more 0 some in positive more n;
       }
     where
@@ -68,6 +70,10 @@ module _ {lent before after : List ℕ} {filled : ℕ} {r : Input} (f : Filling 
         reads = one-read .reads;
         inside = one-read .inside;
         as-long = one-read .as-long;
+        told = λ e. (
+          before,
+          subst (λ (k : ℕ). ReadMore before k after r) (sym (m .nothing-more e)) m,
+        );
         whole = λ e h. absurd (last e h);
       }
 
@@ -80,5 +86,6 @@ all-read f full =
       reads = f .reads;
       inside = f .inside;
       as-long = f .as-long;
+      told = λ e. absurd (let z : _≡_ {A = ℕ} 0 1 = cc in omega arith);
       whole = λ e h. omega (arith, f .inside, f .as-long);
     }

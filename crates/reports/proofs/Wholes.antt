@@ -60,7 +60,7 @@ module _ {text answers : List ℕ} {s : Surveyed} {list : CornerList} {c : Count
   abbrev decided : Summary
   decided =
       record {
-        corners = list .places;
+        corners = list .points;
         listed = list .count;
         ends = record { lines = s .lines; long = false; counts = c };
       }
@@ -77,7 +77,7 @@ module _ {text answers : List ℕ} {s : Surveyed} {list : CornerList} {c : Count
               lines-fit = surveys .lines-fit;
             };
         is-report =
-            report-short answers (take (list .count) (list .places)) (decided .ends) refl
+            report-short answers (take (list .count) (list .points)) (decided .ends) refl
             ∙ ap (λ (l : List ℕ). title ++ l)
             (rw (lists .members, numbers, ← closing-lines (s .map)) (surveys .together))
             ∙ ap (λ (b : Bool). title

@@ -8,7 +8,7 @@ use Prim.Native.Nat.{ℕ, _≤_}
 use lib.IntN.{ℤ}
 use lib.ListN.{length, drop}
 use Rattle.model.specs.declared.Map.{Map}
-use Rattle.model.specs.Maps.{point-limit, empty-map, with-coordinates}
+use Rattle.model.specs.Maps.{empty-map, with-coordinates}
 use Rattle.model.specs.Sound.{Shaped}
 use Rattle.model.specs.Text.{lines}
 use Rattle.model.specs.Report.{text-limit, arrivals, closing, report}
@@ -19,7 +19,7 @@ use Rattle.reports.specs.declared.deciding.Surveyed.{Surveyed}
 use Rattle.reports.specs.declared.Summary.{Summary}
 use Rattle.reports.specs.Verdicts.{verdict-by}
 use Rattle.lines.specs.Lines.{answer-lines}
-use Rattle.reports.specs.Summaries.{report-of}
+use Rattle.reports.specs.Summaries.{report-of, Fits}
 
 -- the answers of the lines before number n, and the lines from a place on, offered to the map
 pub record Reports (text : List ℕ) (m : Map) (answers : List ℕ) (n at : ℕ) : Type 0 where

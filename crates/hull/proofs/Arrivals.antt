@@ -1,7 +1,7 @@
 -- An arrival leaves a sound map. The outline of a sound map is a convex outline of the plane; a point
 -- that sees no edge of it lies inside, and one that sees some is put between the left and the right
 -- corner, which are there and unique; plane/proofs has the geometry, maps/proofs the links.
--- In the order of this page: the convex outline; inside; outside, with the split of visible edges; every
+-- In the order of this page: the convex outline; inside; outside, with the run of visible edges; every
 -- arrival; every offer.
 use mathlib.Core.Path.{_≡_, ap}
 use mathlib.Core.Logic.{_≢_}
@@ -74,12 +74,12 @@ module _ {m : Map} {p : Point} (a : Accepted m p) (two : 2 ≤ m .count) where
         let corner = right-corner-seen shape p (y .0) (y .1) (y .2) in
         right-corner-first 0 (corner .0) (corner .1)
 
-    -- the visible edges are one split, from the left corner to the right
+    -- the visible edges are one run, from the left corner to the right
     pub split-is : Split (next-corner m) (previous-corner m) (sees m p) (outline m) (left-corner m p) (right-corner m p)
     unfolding sees
     split-is = visible-split shape p (a .general) (left-corner m p) (right-corner m p) left-is right-is
 
-    -- the outline from the right corner to the left, and then over the corners within the split
+    -- the outline from the right corner to the left, and then over the corners within the run
     pub rotated-circuit : Circuit m (right-corner m p ∷ split-is .middle ++ left-corner m p ∷ split-is .inner)
     rotated-circuit = outline-rotated (a .is-sound) two (split-is .front) (split-is .back) _ (split-is .cut) (split-is .rotated)
 

@@ -1,5 +1,5 @@
 // The report on a survey text. First every line is decided, then the report's length is known, and
-// then its bytes are written: nothing is computed twice, and no array holds a report. The answers of
+// then its bytes are written: no line is decided twice, and no array holds a report. The answers of
 // the lines stand in an array that the caller lends, so that no call copies them.
 
 pub mod deciding;

@@ -3,6 +3,9 @@
 //! ratio.
 //!
 //!     bench [--samples N]
+//!     bench --stack
+//!
+//! The second form prints the least stack in which each call ends.
 //!
 //! Both answer first, and the answers must be equal. Each call on a map takes its saved bytes and
 //! looks at soundness. Saving has no call of its own: it is part of an offer.
@@ -10,6 +13,7 @@
 mod inputs;
 mod measure;
 mod plain;
+mod stack;
 #[cfg(test)]
 mod tests;
 
@@ -140,20 +144,28 @@ impl Table {
     }
 }
 
-fn samples() -> Option<usize> {
+fn main() {
     let words: Vec<String> = std::env::args().skip(1).collect();
-    match words.iter().map(String::as_str).collect::<Vec<_>>()[..] {
-        [] => Some(11),
-        ["--samples", number] => number.parse().ok().filter(|&samples| samples > 0),
+    let done = match words.iter().map(String::as_str).collect::<Vec<_>>()[..] {
+        [] => times("11"),
+        ["--samples", samples] => times(samples),
+        ["--stack"] => {
+            stack::table();
+            Some(())
+        }
+        // what `--stack` calls for each try
+        ["--stack-of", name, pages] => pages.parse().ok().and_then(|pages| stack::one(name, pages)),
         _ => None,
+    };
+    if done.is_none() {
+        eprintln!("bench [--samples N] or bench --stack");
+        std::process::exit(2);
     }
 }
 
-fn main() {
-    let Some(samples) = samples() else {
-        eprintln!("bench [--samples N]");
-        std::process::exit(2);
-    };
+/// Prints the table of times.
+fn times(samples: &str) -> Option<()> {
+    let samples = samples.parse().ok().filter(|&samples| samples > 0)?;
     let table = Table { samples };
     println!("| call | proved | plain | ratio |");
     println!("|---|---:|---:|---:|");
@@ -163,4 +175,5 @@ fn main() {
         table.calls("random", &inputs::random(points));
     }
     table.small();
+    Some(())
 }

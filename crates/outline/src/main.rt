@@ -7,8 +7,8 @@
 // contract, and `main` can have none: that standard input reaches standard output is tested, by the
 // session beside this folder and by the comparison of tests/.
 //
-// The language has no exit status, so it is always 0: an empty report or part of one, with a
-// message on standard error, is a failure. Arguments are ignored.
+// The language has no exit status, so it is 0 also where the system failed: an empty report or part
+// of one, with a message on standard error, is a failure. Arguments are ignored.
 
 use libc::STDERR_FILENO;
 use libc::STDIN_FILENO;

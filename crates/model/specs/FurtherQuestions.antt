@@ -56,7 +56,7 @@ use Rattle.model.specs.Arrival.{cut, join, left-corner, right-corner, wi
 use Rattle.model.specs.Arrival.{spliced, later-point, arrive, is-repeated, is-in-line}
 use Rattle.model.specs.Arrival.{admission-rules}
 use Rattle.model.specs.Offers.{offer}
-use Rattle.model.specs.History.{Run, is-accepted, extended, run-from, run, reported}
+use Rattle.model.specs.History.{Entry, Run, is-accepted, extended, run-from, run, reported}
 use Rattle.model.specs.History.{reported-edges, is-outside, outside-arrivals, edges-seen}
 use Rattle.model.specs.Placing.{strictly-visible, place-among, place-call}
 use Rattle.model.specs.Lent.{writing, lent-after}
@@ -271,6 +271,9 @@ of-session r =
     -- "which is the number of outline edges visible from its point in the map before it"
     ∷ (map reported-edges (r .history) is 0 ∷ 0 ∷ 1 ∷ 1 ∷ 0 ∷ 2 ∷ [])
     ∷ (map edges-seen (r .history) is 0 ∷ 0 ∷ 1 ∷ 1 ∷ 0 ∷ 2 ∷ [])
+    -- "reference 2k", "reference kept": the last point, 5, is outside
+    ∷ (map (λ (e : Entry). e .before .reference) (r .history) is 1024 ∷ 1024 ∷ 2 ∷ 4 ∷ 6 ∷ 6 ∷ [])
+    ∷ (r .map .reference ∷ [] is 10 ∷ [])
     -- "A fixed dart is an edge orbit of one"
     ∷ (orbit-sizes (r .map) 6 is 1 ∷ 2 ∷ 2 ∷ 2 ∷ [])
     ∷ (orbit-sizes (r .map) 2 is 2 ∷ 2 ∷ 4 ∷ 8 ∷ [])
@@ -292,6 +295,11 @@ of-few none one two =
     ∷ (flatten (placings two (at (pos 2) (pos 0) ∷ at (pos 5) (pos 0) ∷ at (pos 2) (pos 1) ∷ []))
     is flatten (says "edge 0 1\n" ∷ says "outside 0\n" ∷ says "outside 1\n" ∷ []))
     ∷ (number-of-rules (place-call none (at beyond-far (pos 0)) .rules) ∷ [] is 3 ∷ [])
+    -- the reference of none, one and two points: "1,024 means none", "reference 2"
+    ∷ (map (λ (m : Map). m .reference) (none ∷ one ∷ two ∷ []) is 1024 ∷ 1024 ∷ 2 ∷ [])
+    -- "from the smallest y, then the smallest x"
+    ∷ (corners (run (at (pos 0) (pos 1) ∷ at (pos 1) (pos 0) ∷ at (pos 2) (pos 2) ∷ []) .map)
+    is 1 ∷ 2 ∷ 0 ∷ [])
     ∷ []
 
 -- ---- lent lists and files

@@ -1,5 +1,5 @@
 -- What the functions of the program promise. Nothing is assumed.
 --     Reading      what was read of standard input
---     Printing     what is handed to standard output
+--     Printing     how far printing came
 pub mod Reading
 pub mod Printing

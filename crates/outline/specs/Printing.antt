@@ -1,5 +1,5 @@
--- What is handed to standard output, in the order of this page: pieces of what was decided; the
--- report on a text.
+-- How far printing came, in the order of this page: by pieces of what was decided; by those of the
+-- report on a text. The logic keeps no trace of what is written: these are the pieces that were made.
 use mathlib.Core.Path.{_≡_}
 use mathlib.Core.Bool.{false}
 use mathlib.Core.List.{List}
@@ -10,14 +10,14 @@ use Rattle.lines.specs.Lines.{line-count}
 use Rattle.reports.specs.Pieces.{Pieces}
 use Rattle.outline.specs.declared.Printed.{Printed}
 
--- the bytes that were handed over without a failure are those of pieces up to a position, and where
--- nothing failed that is the end
+-- pieces lead up to the position that was reached, with these bytes, and where nothing failed that is
+-- the end
 pub record PrintsLines (answers : List ℕ) (d : Summary) (r : Printed) : Type 0 where
   pub bytes : List ℕ
   pub pieces : Pieces answers d (r .next) bytes
   pub whole : r .failed ≡ false → r .next ≡ line-count (d .ends)
 
--- so where nothing failed they are the report on the text
+-- so where nothing failed their bytes are the report on the text
 pub record PrintsReport (text : List ℕ) (r : Printed) : Type 0 where
   pub answers : List ℕ
   pub decided : Summary

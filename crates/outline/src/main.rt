@@ -2,10 +2,10 @@
 // of the operating system ends it with a message on standard error.
 //
 // Proved: each read is given only the rest of the list, and reading stops only where the input
-// ended, the list is full or a read failed; what is handed to the system, piece after piece, is the
-// report on what was read, whole unless a write failed. What the system then does with it has no
-// contract, and `main` can have none: that standard input reaches standard output is tested, by the
-// session beside this folder and by the comparison of tests/.
+// ended, the list is full or a read failed; the pieces that are made, one after another, put together
+// the report on what was read, and printing comes to its end unless a write failed. Which bytes
+// reach the system no contract can say, and `main` can have none: that the pieces are written is
+// tested, by the session beside this folder and by the comparison of tests/.
 //
 // The language has no exit status, so it is 0 also where the system failed: an empty report or part
 // of one, with a message on standard error, is a failure. Arguments are ignored.

@@ -298,16 +298,16 @@ impl Map {
             return OUT_OF_RANGE;
         }
         let (x, y) = (x as i32, y as i32);
+        let (xs, ys) = (&self.xs[..n], &self.ys[..n]);
+        let is_at = |(&px, &py): (&i32, &i32)| (px ^ x) | (py ^ y) == 0;
+        if xs.iter().zip(ys).map(is_at).fold(false, |is_repeated, is_at| is_repeated | is_at) {
+            return REPEATED;
+        }
         let mut across = [0; POINT_LIMIT];
         let mut up = [0; POINT_LIMIT];
-        let mut is_repeated = false;
         for k in 0..n {
-            across[k] = self.xs[k] - x;
-            up[k] = self.ys[k] - y;
-            is_repeated |= across[k] | up[k] == 0;
-        }
-        if is_repeated {
-            return REPEATED;
+            across[k] = xs[k] - x;
+            up[k] = ys[k] - y;
         }
         if is_in_line(&across[..n], &up[..n]) { IN_LINE } else { 0 }
     }
@@ -558,13 +558,18 @@ fn number(bytes: &[u8]) -> Option<(i64, &[u8])> {
     Some((if is_negative { -value } else { value }, &digits[length..]))
 }
 
-fn read_line(bytes: &[u8]) -> Result<(i64, i64), u32> {
-    if let Some((x, [b' ', rest @ ..])) = number(bytes)
-        && let Some((y, [])) = number(rest)
-    {
-        return Ok((x, y));
+/// The line at the front of a text, and what follows it. A feed is sought only where the line is
+/// not in form.
+fn read_line(text: &[u8]) -> (Result<(i64, i64), u32>, &[u8]) {
+    if let Some((x, [b' ', second @ ..])) = number(text) {
+        match number(second) {
+            Some((y, [])) => return (Ok((x, y)), &[]),
+            Some((y, [b'\n', rest @ ..])) => return (Ok((x, y)), rest),
+            _ => {}
+        }
     }
-    Err(BAD_LINE)
+    let feed = text.iter().position(|&b| b == b'\n');
+    (Err(BAD_LINE), feed.map_or(&[], |feed| &text[feed + 1..]))
 }
 
 /// Appends a number in decimal.
@@ -594,9 +599,9 @@ fn printed(text: &[u8]) -> Vec<u8> {
     let mut rest = text;
     let mut line_number = 0;
     while !rest.is_empty() {
-        let end = rest.iter().position(|&b| b == b'\n').unwrap_or(rest.len());
-        let arrival = read_line(&rest[..end]).and_then(|(x, y)| map.offer(x, y));
-        rest = rest.get(end + 1..).unwrap_or(&[]);
+        let (line, others) = read_line(rest);
+        let arrival = line.and_then(|(x, y)| map.offer(x, y));
+        rest = others;
         put(&mut out, line_number);
         line_number += 1;
         match arrival {
@@ -719,8 +724,10 @@ pub fn corners(file: &[u8], out: &mut [u64], length: &mut [u64]) -> u32 {
 
 #[inline(never)]
 pub fn line(line: &[u8], out: &mut [i64]) -> u32 {
-    let bytes = line.strip_suffix(b"\n").unwrap_or(line);
-    answer(read_line(bytes).map(|(x, y)| write(&[x, y], out)))
+    match read_line(line) {
+        (Ok((x, y)), []) => write(&[x, y], out),
+        _ => BAD_LINE,
+    }
 }
 
 #[inline(never)]

@@ -112,7 +112,9 @@ fn the_yardstick_is_right_on_texts() {
         let got = plain::report(&text, &mut out, &mut length);
         let printed = &out[..length[0] as usize];
         number(reference::report_or_refusal(&text), |report| assert_eq!(report, printed), got);
-        for bytes in text.split(|&b| b == b'\n') {
+        let without_feeds = text.split(|&b| b == b'\n');
+        let with_feeds = text.split_inclusive(|&b| b == b'\n');
+        for bytes in without_feeds.chain(with_feeds).chain([&text[..]]) {
             let mut point = [0; 2];
             let got = plain::line(bytes, &mut point);
             let right = |p: Point| assert_eq!(point, [p.x, p.y]);

@@ -45,9 +45,17 @@ fn in_range(z: i64) -> bool {
     (-LIMIT..=LIMIT).contains(&z)
 }
 
-/// The product of two differences of coordinates.
+/// The product of two coordinates, or of two differences of coordinates.
 fn product(a: i32, b: i32) -> i64 {
     i64::from(a) * i64::from(b)
+}
+
+/// The determinant with rows (x, y, 1), expanded along its last column, as the engine works it out.
+fn determinant([ax, ay]: [i32; 2], [bx, by]: [i32; 2], [cx, cy]: [i32; 2]) -> i64 {
+    let without_a = product(bx, cy) - product(by, cx);
+    let without_b = product(ax, cy) - product(ay, cx);
+    let without_c = product(ax, by) - product(ay, bx);
+    without_a - without_b + without_c
 }
 
 /// Whether two of these directions, none of which is 0, are the same or opposite. Such directions
@@ -251,20 +259,20 @@ impl Map {
         Some(outline)
     }
 
-    /// All points but the two ends are strictly left of each outline edge: so many differences of
-    /// products are negative. The sign bit is added up, since a comparison of 64-bit numbers costs
-    /// more.
+    fn point(&self, k: usize) -> [i32; 2] {
+        [self.xs[k], self.ys[k]]
+    }
+
+    /// All points but the two ends are strictly left of each outline edge: with its ends exchanged,
+    /// so many determinants are negative. The sign bit is added up, since a comparison of 64-bit
+    /// numbers costs more.
     fn others_left(&self, outline: &[u16]) -> bool {
         let n = self.count;
         let (xs, ys) = (&self.xs[..n], &self.ys[..n]);
         outline.iter().all(|&a| {
             let a = usize::from(a);
-            let b = self.next(a);
-            let (ax, ay) = (xs[a], ys[a]);
-            let (across, up) = (xs[b] - ax, ys[b] - ay);
-            let left = |(&x, &y): (&i32, &i32)| {
-                (product(up, x - ax) - product(across, y - ay)) as u64 >> 63
-            };
+            let (start, end) = (self.point(a), self.point(self.next(a)));
+            let left = |(&x, &y): (&i32, &i32)| determinant(end, start, [x, y]) as u64 >> 63;
             xs.iter().zip(ys).map(left).sum::<u64>() == n as u64 - 2
         })
     }
@@ -342,10 +350,9 @@ impl Map {
         })
     }
 
-    /// Whether the edge that leaves a corner is visible from (x, y).
+    /// The orientation of an edge's two ends and (x, y).
     fn orientation(&self, a: usize, b: usize, x: i32, y: i32) -> i64 {
-        let (ax, ay) = (self.xs[a], self.ys[a]);
-        product(self.xs[b] - ax, y - ay) - product(self.ys[b] - ay, x - ax)
+        determinant(self.point(a), self.point(b), [x, y])
     }
 
     fn later(&mut self, k: usize) -> Arrival {
@@ -658,8 +665,8 @@ pub fn orientation(a: [i64; 2], b: [i64; 2], c: [i64; 2], out: &mut [i64]) -> u3
     if ![a, b, c].iter().flatten().all(|&z| in_range(z)) {
         return OUT_OF_RANGE;
     }
-    let value = (b[0] - a[0]) * (c[1] - a[1]) - (b[1] - a[1]) * (c[0] - a[0]);
-    write(&[value], out)
+    let [a, b, c] = [a, b, c].map(|p| p.map(|z| z as i32));
+    write(&[determinant(a, b, c)], out)
 }
 
 #[inline(never)]

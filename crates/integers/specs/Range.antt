@@ -94,6 +94,9 @@ pub record Number (B : ℕ) (z : ℤ) : Type 0 where
   pub is : has ≡ z
   pub small : Bounded B z
 
+pub has-bounded : {B : ℕ} {z : ℤ} (a : Number B z) → Bounded B (a .has)
+has-bounded {B} a = subst (Bounded B) (sym (a .is)) (a .small)
+
 abbrev pub exact : {B : ℕ} {z : ℤ} → Bounded B z → Number B z
 exact {B} {z} h = record { has = z; is = refl; small = h }
 
@@ -142,7 +145,7 @@ module _ {A B : ℕ} {x y : ℤ} (a : Number A x) (b : Number B y) where
 module _ (w : Width) {B : ℕ} (t : T (ltb B (2 ^ hbits w))) where
   -- the need of the operation, or of the cast to w, that gives a
   pub fits : {z : ℤ} (a : Number B z) → SFits w (a .has)
-  fits a = subst (SFits w) (sym (a .is)) (bounded-fits w t (a .small))
+  fits a = bounded-fits w t (has-bounded a)
 
   -- a, read back from its bits
   abbrev pub back : {z : ℤ} → Number B z → Number B z

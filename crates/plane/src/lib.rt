@@ -105,10 +105,20 @@ pub fn orientation_in_range(a: Point, b: Point, c: Point) -> i64
     determinant(a.x, a.y, b.x, b.y, c.x, c.y)
 }
 
-// The orientation of three points by their coordinates, which are in range.
+// The orientation of three points by their coordinates, which are in range: Knuth's determinant
+//
+//     | ax  ay  1 |
+//     | bx  by  1 |
+//     | cx  cy  1 |
+//
+// expanded along its last column: the 1 of each row times the minor of the other two rows, with
+// the signs +, -, + down the column.
 pub fn determinant(ax: i64, ay: i64, bx: i64, by: i64, cx: i64, cy: i64) -> i64
     requires { ⌜ RangedCoordinates ax ay bx by cx cy ⌝ }
     ensures { λ r. ⌜ r ≡ orientation (at ax ay) (at bx by) (at cx cy) ⌝ }
 {
-    (bx - ax) * (cy - ay) - (by - ay) * (cx - ax)
+    let without_a = bx * cy - by * cx;
+    let without_b = ax * cy - ay * cx;
+    let without_c = ax * by - ay * bx;
+    without_a - without_b + without_c
 }

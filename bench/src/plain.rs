@@ -2,9 +2,10 @@
 //!
 //! The boundary is the engine's: saved bytes in, numbers and lent lists out, soundness looked at in
 //! every call. Points and links stand in arrays, products are 64-bit, and the loops over points
-//! have no branches, so that the compiler can vectorise them. As in the engine, soundness compares
-//! every outline edge with every point, a new point the slopes of its lines to all points, which are
-//! kept as bits, and a later arrival looks at every outline edge. A map grows in place.
+//! have no branches: the compiler vectorises those that compare coordinates, while products are
+//! taken one by one. As in the engine, soundness compares every outline edge with every point, a new
+//! point the slopes of its lines to all points, which are kept as bits, and a later arrival looks at
+//! every outline edge. A map grows in place.
 
 const POINT_LIMIT: usize = 512;
 const DART_LIMIT: usize = 2 * POINT_LIMIT;

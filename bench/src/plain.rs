@@ -3,9 +3,8 @@
 //! The boundary is the engine's: saved bytes in, numbers and lent lists out, soundness looked at in
 //! every call. Points and links stand in arrays, products are 64-bit, and the loops over points
 //! have no branches: the compiler vectorises those that compare coordinates, while products are
-//! taken one by one. As in the engine, soundness compares every outline edge with every point, a new
-//! point the slopes of its lines to all points, which are kept as bits, and a later arrival looks at
-//! every outline edge. A map grows in place.
+//! taken one by one. As in the engine, soundness compares every outline edge with every point, and
+//! a later arrival looks at every outline edge once. A map grows in place.
 
 const POINT_LIMIT: usize = 512;
 const DART_LIMIT: usize = 2 * POINT_LIMIT;
@@ -13,13 +12,11 @@ const NO_DART: usize = DART_LIMIT;
 const TEXT_LIMIT: usize = 65_536;
 const LIMIT: i64 = 1_000_000;
 const HEAD: usize = 9;
-const SLOPES: usize = 65_536;
 
 const NOT_SOUND: u32 = 1;
 const FULL: u32 = 2;
 const OUT_OF_RANGE: u32 = 3;
 const REPEATED: u32 = 4;
-const IN_LINE: u32 = 5;
 const NO_SUCH_DART: u32 = 6;
 const BAD_FILE: u32 = 7;
 const BAD_LINE: u32 = 8;
@@ -59,28 +56,17 @@ fn determinant([ax, ay]: [i32; 2], [bx, by]: [i32; 2], [cx, cy]: [i32; 2]) -> i6
     without_a - without_b + without_c
 }
 
-/// Whether two of these directions, none of which is 0, are the same or opposite. Such directions
-/// have one slope, so products are compared only where the slope was seen before.
-fn is_in_line(across: &[i32], up: &[i32]) -> bool {
-    let mut seen = [0_u64; SLOPES / 64];
-    (0..across.len()).any(|j| {
-        let (u, v) = (across[j], up[j]);
-        let slope = slope(u, v);
-        let (word, bit) = (&mut seen[slope / 64], 1 << (slope % 64));
-        let was_seen = *word & bit != 0;
-        *word |= bit;
-        was_seen && (0..j).any(|i| product(across[i], v) == product(up[i], u))
-    })
+/// Whether a and b lie on opposite sides of p, which is in line with them: it is strictly between.
+fn are_opposite([ax, ay]: [i32; 2], [bx, by]: [i32; 2], [px, py]: [i32; 2]) -> bool {
+    product(ax - px, bx - px) + product(ay - py, by - py) < 0
 }
 
-/// The slope of a direction, as one of so many numbers. Its parts are an odd number to 1, so that
-/// slopes that are whole numbers do not meet; with twice the limit more it is not negative.
-fn slope(across: i32, up: i32) -> usize {
-    if across == 0 {
-        return 0;
+/// Whether p is left of the edge from a to b, or on it between its ends.
+fn is_beside(a: [i32; 2], b: [i32; 2], p: [i32; 2]) -> bool {
+    match determinant(a, b, p) {
+        0 => are_opposite(a, b, p),
+        side => side > 0,
     }
-    let (across, up) = (i64::from(across), i64::from(up));
-    ((LIMIT + 1) * (up + 2 * LIMIT * across) / across) as usize % SLOPES
 }
 
 /// What the links of a map lead to, from its reference.
@@ -178,7 +164,7 @@ impl Map {
             return self.reference == NO_DART && !self.helpers[..self.count].contains(&true);
         }
         match self.the_outline() {
-            Some(outline) => self.others_left(outline.list()),
+            Some(outline) => self.others_beside(outline.list()),
             None => false,
         }
     }
@@ -264,17 +250,19 @@ impl Map {
         [self.xs[k], self.ys[k]]
     }
 
-    /// All points but the two ends are strictly left of each outline edge: with its ends exchanged,
-    /// so many determinants are negative. The sign bit is added up, since a comparison of 64-bit
-    /// numbers costs more.
-    fn others_left(&self, outline: &[u16]) -> bool {
+    /// All points but the two ends are left of each outline edge or on it. Most often all are
+    /// strictly left: with its ends exchanged, so many determinants are negative. The sign bit is
+    /// added up, since a comparison of 64-bit numbers costs more.
+    fn others_beside(&self, outline: &[u16]) -> bool {
         let n = self.count;
         let (xs, ys) = (&self.xs[..n], &self.ys[..n]);
         outline.iter().all(|&a| {
             let a = usize::from(a);
             let (start, end) = (self.point(a), self.point(self.next(a)));
             let left = |(&x, &y): (&i32, &i32)| determinant(end, start, [x, y]) as u64 >> 63;
+            let beside = |&(&x, &y): &(&i32, &i32)| is_beside(start, end, [x, y]);
             xs.iter().zip(ys).map(left).sum::<u64>() == n as u64 - 2
+                || xs.iter().zip(ys).filter(beside).count() == n - 2
         })
     }
 
@@ -312,13 +300,7 @@ impl Map {
         if xs.iter().zip(ys).map(is_at).fold(false, |is_repeated, is_at| is_repeated | is_at) {
             return REPEATED;
         }
-        let mut across = [0; POINT_LIMIT];
-        let mut up = [0; POINT_LIMIT];
-        for k in 0..n {
-            across[k] = xs[k] - x;
-            up[k] = ys[k] - y;
-        }
-        if is_in_line(&across[..n], &up[..n]) { IN_LINE } else { 0 }
+        0
     }
 
     fn join(&mut self, a: usize, b: usize) {
@@ -351,13 +333,8 @@ impl Map {
         })
     }
 
-    /// The orientation of an edge's two ends and (x, y).
-    fn orientation(&self, a: usize, b: usize, x: i32, y: i32) -> i64 {
-        determinant(self.point(a), self.point(b), [x, y])
-    }
-
     fn later(&mut self, k: usize) -> Arrival {
-        let (x, y) = (self.xs[k], self.ys[k]);
+        let p = self.point(k);
         let start = self.reference / 2;
         let (mut left, mut right, mut visible) = (start, start, 0);
         let mut corner = start;
@@ -365,7 +342,7 @@ impl Map {
         let mut entering = false;
         loop {
             let next = self.next(corner);
-            let leaving = self.orientation(corner, next, x, y) < 0;
+            let leaving = !is_beside(self.point(corner), self.point(next), p);
             if corner == start {
                 first = leaving;
             } else if leaving != entering {
@@ -389,6 +366,13 @@ impl Map {
         }
         if visible == 0 {
             return Arrival::Inside;
+        }
+        if left == right {
+            // no edge is hidden: p is in line beyond one of two corners, and the other is farther
+            let end = self.next(start);
+            let is_beyond_end = are_opposite(self.point(start), p, self.point(end));
+            left = if is_beyond_end { start } else { end };
+            right = left;
         }
         let (l, r) = (2 * left, 2 * right + 1);
         for dart in [usize::from(self.edge[l]), usize::from(self.edge[r])] {
@@ -505,27 +489,26 @@ impl Map {
         if self.count < 2 {
             return Ok([0; 3]);
         }
-        let (x, y) = (x as i32, y as i32);
+        let p = [x as i32, y as i32];
         let (mut on_edge, mut visible, mut is_inside) = (None, 0, true);
         let start = self.reference / 2;
         let mut a = start;
         loop {
             let b = self.next(a);
-            let side = self.orientation(a, b, x, y);
+            let (from, to) = (self.point(a), self.point(b));
+            let side = determinant(from, to, p);
             visible += u64::from(side < 0);
             is_inside &= side > 0;
             if side == 0 {
-                let (ax, ay) = (self.xs[a] - x, self.ys[a] - y);
-                let (bx, by) = (self.xs[b] - x, self.ys[b] - y);
-                if ax == 0 && ay == 0 {
+                if from == p {
                     return Ok([1, a as u64, 0]);
                 }
-                if bx == 0 && by == 0 {
+                if to == p {
                     return Ok([1, b as u64, 0]);
                 }
                 // of two opposite edges the one from the lower corner is listed first
                 let is_listed = self.next(b) != a || self.is_lower(a, b);
-                if product(ax, bx) + product(ay, by) < 0 && is_listed {
+                if are_opposite(from, to, p) && is_listed {
                     on_edge = Some([2, a as u64, b as u64]);
                 }
             }

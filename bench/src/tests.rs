@@ -1,7 +1,7 @@
 //! The yardstick measures nothing unless it is right: it is held to the reference on drawn surveys.
 
-use crate::plain;
-use reference::{Answer, Arrival, Ending, Kind, Map, Placed, Point};
+use crate::{inputs, plain};
+use reference::{Answer, Arrival, Ending, Kind, Map, Placed, Point, orientation};
 
 /// A number below n.
 fn below(state: &mut u64, n: u64) -> u64 {
@@ -77,12 +77,17 @@ fn compare(file: &[u8], p: Point, dart: u64) {
 #[test]
 fn the_yardstick_is_right_on_maps() {
     let mut state = 5;
-    for survey in 0..3000 {
+    for survey in 0..4000 {
         let width = [3, 10, 100, 1_000_002][survey % 4];
+        // along a level, an upright and a slanted rail too
+        let rail = [None, Some((1, 0)), Some((0, 1)), Some((-1, 1))][survey / 4 % 4];
         let mut map = Map::empty();
         for _ in 0..below(&mut state, 24) {
             let mut coordinate = || below(&mut state, 2 * width + 1) as i64 - width as i64;
-            let p = Point::new(coordinate(), coordinate());
+            let p = match (rail, coordinate(), coordinate()) {
+                (Some((across, up)), z, other) if other % 8 != 0 => Point::new(z * across, z * up),
+                (_, x, y) => Point::new(x, y),
+            };
             let dart = below(&mut state, 40);
             compare(&map.save(), p, dart);
             let mut file = map.save();
@@ -95,10 +100,27 @@ fn the_yardstick_is_right_on_maps() {
 }
 
 #[test]
+fn points_of_one_slope_are_in_line_with_the_origin_alone() {
+    let points: Vec<Point> =
+        inputs::of_one_slope(511).into_iter().map(|(x, y)| Point::new(x, y)).collect();
+    let are_in_line = |a, b, c| orientation(a, b, c) == Ok(0);
+    let mut with_origin = Vec::new();
+    for (k, &c) in points.iter().enumerate() {
+        assert_eq!(1_000_001 * c.y / c.x % 65_536, 0);
+        for (j, &b) in points[..k].iter().enumerate() {
+            assert!(!points[..j].iter().any(|&a| are_in_line(a, b, c)));
+            if are_in_line(Point::new(0, 0), b, c) {
+                with_origin.push((j, k));
+            }
+        }
+    }
+    assert_eq!(with_origin, [(504, 510)]);
+}
+
+#[test]
 fn the_yardstick_is_right_on_texts() {
     let mut state = 6;
-    let mut texts: Vec<Vec<u8>> =
-        crate::inputs::texts().into_iter().map(|(_, text)| text).collect();
+    let mut texts: Vec<Vec<u8>> = inputs::texts().into_iter().map(|(_, text)| text).collect();
     texts.push(vec![b'\n'; 65_537]);
     for _ in 0..20_000 {
         let alphabet = b"0011234579- - \n\n\n ";

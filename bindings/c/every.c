@@ -12,8 +12,8 @@
 #include <stdio.h>
 #include <string.h>
 
-#if REACH_HEADER_VERSION != 1
-#error "this program is for version 1 of reach.h"
+#if REACH_HEADER_VERSION != 2
+#error "this program is for version 2 of reach.h"
 #endif
 
 static int values, differences;
@@ -82,7 +82,6 @@ static void arrivals(void) {
     IS(out[0], REACH_SECOND);
     IS(offer(1, 3), 0);
     IS(offer(5, 4), 0);
-    IS(offer(2, 2), REACH_IN_LINE);
     IS(offer(4, 0), REACH_REPEATED);
     IS(offer(REACH_COORDINATE_LIMIT + 1, 0), REACH_OUT_OF_RANGE);
     IS(offer(2, 1), 0);
@@ -204,6 +203,42 @@ static void reports(void) {
     IS(reach_report(text, sizeof text, printed, sizeof printed, length, 1), REACH_LONG_TEXT);
 }
 
+/* Marks along a rail: beyond an end, beyond the other, between them, beside the rail. */
+static void rail(void) {
+    bytes = REACH_EMPTY_BYTES;
+    IS(reach_empty(map, sizeof map), 0);
+    IS(offer(0, 0), 0);
+    IS(offer(2, 0), 0);
+    IS(offer(4, 0), 0);
+    IS(out[0], REACH_OUTSIDE);
+    IS(out[1], 0);
+    IS(out[2], 0);
+    IS(out[3], 2);
+    IS(offer(-2, 0), 0);
+    IS(out[0], REACH_OUTSIDE);
+    IS(out[1], 2);
+    IS(out[2], 2);
+    IS(out[3], 2);
+    IS(offer(1, 0), 0);
+    IS(out[0], REACH_INSIDE);
+    IS(reach_corners(map, bytes, out, REACH_POINTS, length, 1), 0);
+    IS(length[0], 2);
+    IS(out[0], 3);
+    IS(out[1], 2);
+    IS(reach_place(map, bytes, 6, 0, out, 3), 0);
+    IS(out[0], REACH_PLACED_OUTSIDE);
+    IS(out[1], 0);
+    IS(reach_place(map, bytes, 2, 0, out, 3), 0);
+    IS(out[0], REACH_PLACED_EDGE);
+    IS(out[1], 3);
+    IS(out[2], 2);
+    IS(offer(1, 1), 0);
+    IS(out[0], REACH_OUTSIDE);
+    IS(out[1], 2);
+    IS(out[2], 3);
+    IS(out[3], 1);
+}
+
 /* A map of so many points as there may be, each a corner. */
 static void full(void) {
     bytes = REACH_EMPTY_BYTES;
@@ -236,7 +271,7 @@ int main(void) {
         {REACH_CALL_STACK, saved_form},     {REACH_CALL_STACK, orbits},
         {REACH_CALL_STACK, walks},          {REACH_CALL_STACK, places},
         {REACH_CALL_STACK, numbers},        {REACH_REPORT_STACK, reports},
-        {REACH_CALL_STACK, full},
+        {REACH_CALL_STACK, rail},           {REACH_CALL_STACK, full},
     };
     for (size_t i = 0; i < sizeof parts / sizeof parts[0]; i++) {
         pthread_attr_t attributes;

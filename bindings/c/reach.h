@@ -33,20 +33,19 @@
 
 /* The version of this header: it grows with each change of a function, a number or the saved form.
  */
-#define REACH_HEADER_VERSION 1
+#define REACH_HEADER_VERSION 2
 
 #ifdef __cplusplus
 extern "C" {
 #endif
 
-/* The refusals. */
+/* The refusals. Number 5 is withdrawn: no call returns it, and it is not used again. */
 enum {
     REACH_NOT_SOUND = 1,    /* map not sound */
     REACH_FULL = 2,         /* offered point: 512 points already */
     REACH_OUT_OF_RANGE = 3, /* offered or query point, or point of an orientation: coordinate out
                                of range */
     REACH_REPEATED = 4,     /* offered point: equal to an accepted point */
-    REACH_IN_LINE = 5,      /* offered point: in line with two accepted points */
     REACH_NO_DART = 6,      /* dart absent or above 1,023 */
     REACH_BAD_FILE = 7,     /* file under 9 bytes, length not matching n and the bytes lent, n above
                                512, version not 1, or helper byte above 1 */
@@ -137,7 +136,11 @@ uint32_t reach_empty(uint8_t *out, size_t n);
 
 /* Offers a point to a map: writes the bytes of the map after it, 13 more than before, to out, and
    four values to arrival: its kind, the left corner, the right corner and the number of visible
-   edges, the last three 0 unless the kind is REACH_OUTSIDE. Refusals: 7, 1, 2, 3, 4, 5, 10. */
+   edges, the last three 0 unless the kind is REACH_OUTSIDE. An edge is visible where the point lies
+   right of it, or on its line but not between its ends; a point left of each edge or on it is
+   REACH_INSIDE. The visible edges lie between the left and the right corner. Where the outline is
+   two corners and the point in line beyond one of them, left and right are both the corner farther
+   from it, and two edges are visible. Refusals: 7, 1, 2, 3, 4, 10. */
 uint32_t reach_offer(const uint8_t *map, size_t n, int64_t x, int64_t y, uint8_t *out, size_t m,
                      uint64_t *arrival, size_t k);
 
@@ -173,9 +176,9 @@ uint32_t reach_walker_edge(const uint8_t *map, size_t n, uint64_t dart, uint64_t
 /* Writes the dart where a walker stands after one move by the point link. Refusals: 7, 1, 6, 10. */
 uint32_t reach_walker_point(const uint8_t *map, size_t n, uint64_t dart, uint64_t *out, size_t m);
 
-/* Places a query point and writes three values: where it lies (REACH_PLACED_...), then the corner and
-   0, or the start and the end of the edge, or the number of visible edges and 0, or 0 and 0.
-   Refusals: 7, 1, 3, 10. */
+/* Places a query point and writes three values: where it lies (REACH_PLACED_...), then the corner
+   and 0, or the start and the end of the edge, or the number of edges that it lies right of and 0,
+   or 0 and 0. Refusals: 7, 1, 3, 10. */
 uint32_t reach_place(const uint8_t *map, size_t n, int64_t x, int64_t y, uint64_t *out, size_t m);
 
 /* Lists the corners' point numbers, anticlockwise from the smallest y, then the smallest x, and

@@ -26,13 +26,16 @@ pub enum Arrival {
     First,
     /// It is the second point: there is an outline now.
     Second,
-    /// It lies inside the outline.
+    /// It lies inside the outline or on it: left of each outline edge, or between the edge's ends.
     Inside,
-    /// It lies outside and becomes a corner.
+    /// It lies outside and becomes a corner. An outline edge is visible from it where it lies right
+    /// of the edge, or on the edge's line but not between its ends.
     Outside {
-        /// The corner whose entering edge is not visible and whose leaving edge is.
+        /// The corner whose entering edge is not visible and whose leaving edge is; of an outline
+        /// of two corners that the point is in line with, the one farther from it.
         left: usize,
-        /// The corner whose entering edge is visible and whose leaving edge is not.
+        /// The corner whose entering edge is visible and whose leaving edge is not; of an outline
+        /// of two corners that the point is in line with, the one farther from it.
         right: usize,
         /// The number of outline edges visible from the point.
         visible: usize,
@@ -119,9 +122,10 @@ pub enum Placed {
     },
     /// It lies inside the outline.
     Inside,
-    /// It lies outside, and so many outline edges are visible from it.
+    /// It lies outside, and so many outline edges are strictly visible from it.
     Outside {
-        /// The number of outline edges visible from it.
+        /// The number of outline edges that it lies right of. Those on whose lines it lies are not
+        /// counted, though an arrival there counts them.
         visible: usize,
     },
 }
@@ -245,8 +249,8 @@ impl Map {
     ///
     /// # Errors
     ///
-    /// The lowest that applies of [`Refusal::Full`], [`Refusal::OutOfRange`], [`Refusal::Repeated`]
-    /// and [`Refusal::InLine`].
+    /// The lowest that applies of [`Refusal::Full`], [`Refusal::OutOfRange`] and
+    /// [`Refusal::Repeated`].
     ///
     /// ```
     /// use reach::{Arrival, Map, Point, Refusal};
@@ -254,9 +258,24 @@ impl Map {
     /// let mut map = Map::new();
     /// assert_eq!(map.offer(Point { x: 0, y: 0 }), Ok(Arrival::First));
     /// assert_eq!(map.offer(Point { x: 4, y: 0 }), Ok(Arrival::Second));
-    /// assert_eq!(map.offer(Point { x: 8, y: 0 }), Err(Refusal::InLine));
+    /// assert_eq!(map.offer(Point { x: 4, y: 0 }), Err(Refusal::Repeated));
     /// let outside = Arrival::Outside { left: 1, right: 0, visible: 1 };
     /// assert_eq!(map.offer(Point { x: 1, y: 3 }), Ok(outside));
+    /// ```
+    ///
+    /// Marks may lie along a rail: each beyond an end is a corner, each between the ends is not.
+    ///
+    /// ```
+    /// use reach::{Arrival, Map, Point};
+    ///
+    /// let mut map = Map::new();
+    /// map.offer(Point { x: 0, y: 0 })?;
+    /// map.offer(Point { x: 2, y: 0 })?;
+    /// let beyond = Arrival::Outside { left: 0, right: 0, visible: 2 };
+    /// assert_eq!(map.offer(Point { x: 4, y: 0 }), Ok(beyond));
+    /// assert_eq!(map.offer(Point { x: 1, y: 0 }), Ok(Arrival::Inside));
+    /// assert_eq!(map.corners(), [0, 2]);
+    /// # Ok::<(), reach::Refusal>(())
     /// ```
     pub fn offer(&mut self, point: Point) -> Result<Arrival, Refusal> {
         let mut bytes = vec![0; self.bytes.len() + POINT_BYTES];

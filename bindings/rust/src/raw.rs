@@ -118,7 +118,7 @@ pub fn empty(out: &mut [u8]) -> u32 {
     unsafe { engine::reach_empty(out.as_mut_ptr(), out.len()) }
 }
 
-/// 7, 1, 2, 3, 4, 5, 10: the bytes of the map after the offer; kind, left, right, visible.
+/// 7, 1, 2, 3, 4, 10: the bytes of the map after the offer; kind, left, right, visible.
 pub fn offer(map: &[u8], x: i64, y: i64, out: &mut [u8], arrival: &mut [u64]) -> u32 {
     let (list, m) = (out.as_mut_ptr(), out.len());
     let (values, k) = (arrival.as_mut_ptr(), arrival.len());

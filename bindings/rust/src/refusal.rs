@@ -14,8 +14,6 @@ pub enum Refusal {
     OutOfRange,
     /// The offered point equals an accepted point.
     Repeated,
-    /// The offered point is in line with two accepted points.
-    InLine,
     /// The dart is absent or above 1,023.
     NoDart,
     /// The bytes are not in the saved form.
@@ -26,18 +24,19 @@ pub enum Refusal {
     LongText,
     /// A lent list is shorter than the result.
     ShortList,
-    /// A number that is new to this crate: the archive it is linked with is of a later engine.
+    /// A number that this crate does not know: the archive it is linked with is of a later engine,
+    /// or of an earlier one and the number withdrawn, as 5 is.
     Unknown(u32),
 }
 
 impl Refusal {
-    /// Every refusal that this crate knows, in the order of the numbers.
+    /// Every refusal that this crate knows, in the order of the numbers. Number 5 is withdrawn and
+    /// not used again.
     pub const ALL: &'static [Refusal] = &[
         Refusal::NotSound,
         Refusal::Full,
         Refusal::OutOfRange,
         Refusal::Repeated,
-        Refusal::InLine,
         Refusal::NoDart,
         Refusal::BadFile,
         Refusal::BadLine,
@@ -56,7 +55,6 @@ impl Refusal {
             Refusal::Full => 2,
             Refusal::OutOfRange => 3,
             Refusal::Repeated => 4,
-            Refusal::InLine => 5,
             Refusal::NoDart => 6,
             Refusal::BadFile => 7,
             Refusal::BadLine => 8,
@@ -86,7 +84,6 @@ impl fmt::Display for Refusal {
                 "offered or query point, or point of an orientation: coordinate out of range"
             }
             Refusal::Repeated => "offered point: equal to an accepted point",
-            Refusal::InLine => "offered point: in line with two accepted points",
             Refusal::NoDart => "dart absent or above 1,023",
             Refusal::BadFile => {
                 "file under 9 bytes, length not matching n and the bytes lent, n above 512, \
@@ -95,7 +92,9 @@ impl fmt::Display for Refusal {
             Refusal::BadLine => "text line not in form",
             Refusal::LongText => "text above 65,536 bytes",
             Refusal::ShortList => "lent list shorter than the result; a longer one keeps its tail",
-            Refusal::Unknown(number) => return write!(f, "refusal {number}, new to this crate"),
+            Refusal::Unknown(number) => {
+                return write!(f, "refusal {number}, unknown to this crate");
+            }
         })
     }
 }
@@ -117,11 +116,11 @@ mod tests {
     }
 
     #[test]
-    fn a_new_number_is_kept() {
-        for number in [11, 18, u32::MAX] {
+    fn an_unknown_number_is_kept() {
+        for number in [5, 11, 18, u32::MAX] {
             assert_eq!(Refusal::of(number), Err(Refusal::Unknown(number)));
             assert_eq!(Refusal::Unknown(number).number(), number);
         }
-        assert_eq!(Refusal::Unknown(18).to_string(), "refusal 18, new to this crate");
+        assert_eq!(Refusal::Unknown(18).to_string(), "refusal 18, unknown to this crate");
     }
 }

@@ -1,8 +1,5 @@
 // Why a sound map refuses a point, asked of the map's coordinates: no map is copied for it.
 
-mod conditions;
-
-use crate::conditions::is_in_line_among;
 use maps::places::is_new;
 use model::Outcome;
 use model::POINT_LIMIT;
@@ -10,11 +7,13 @@ use model::Point;
 use model::Refusal;
 use plane::in_range;
 ghost use mathlib.Core.Path.{_≡_};
-ghost use Rattle.admission.specs.Admission.{RangedPlaces, admission-by};
+ghost use Rattle.model.specs.Maps.{point-limit};
+ghost use Rattle.maps.specs.Places.{PlacesFor};
+ghost use Rattle.admission.specs.Admission.{admission-by};
 
 // Whether a point is accepted, or why it is refused.
 pub fn admission<'a>(xs: &'a [i64], ys: &'a [i64], count: usize, p: Point) -> Outcome
-    requires { ⌜ RangedPlaces (now xs) (now ys) ⌝ }
+    requires { ⌜ PlacesFor (now xs) (now ys) point-limit ⌝ }
     ensures { λ r. ⌜ r ≡ admission-by (now (xs .entry)) (now (ys .entry)) count p ⌝ }
 {
     if POINT_LIMIT <= count {
@@ -25,9 +24,6 @@ pub fn admission<'a>(xs: &'a [i64], ys: &'a [i64], count: usize, p: Point) -> Ou
     }
     if !is_new(xs, ys, count, p) {
         return Outcome::Refused(Refusal::Repeated);
-    }
-    if is_in_line_among(xs, ys, count, p) {
-        return Outcome::Refused(Refusal::InLine);
     }
     Outcome::Served
 }

@@ -26,9 +26,9 @@ use Rattle.finite.specs.Cycles.{Chain, Cycle}
 use Rattle.model.specs.declared.Point.{Point}
 use Rattle.model.specs.declared.Map.{Map}
 use Rattle.model.specs.declared.Placed.{Placed}
-use Rattle.model.specs.Plane.{at, orientation, left-of, in-line, sees-edge, strictly-between}
+use Rattle.model.specs.Plane.{at, orientation, left-of, in-line, strictly-between}
 use Rattle.model.specs.Maps.{point}
-use Rattle.model.specs.Outline.{next-corner, outline, sees, visible-edges, corners}
+use Rattle.model.specs.Outline.{next-corner, outline, corners}
 use Rattle.model.specs.Sound.{Shaped}
 use Rattle.model.specs.Placing.{is-at, is-on-edge, is-left-of-edge, strictly-sees, strictly-visible, place-among}
 use Rattle.model.proofs.Sound.{same-point-eq, same-point-by}
@@ -37,7 +37,7 @@ use Rattle.plane.proofs.Orientation.{orientation-cyclic, orientation-swap, orie
 use Rattle.plane.proofs.Aligned.{left-of-all}
 use Rattle.maps.proofs.Circuits.{Circuit, Edge, edge-next}
 use Rattle.maps.proofs.Outline.{outline-circuit, outline-long}
-use Rattle.hull.proofs.Arrivals.{sound-convex}
+use Rattle.hull.proofs.Beyond.{sound-convex}
 use Rattle.corners.proofs.Corners.{corners-rotated, corners-members}
 
 -- ---- the tests of a corner as statements
@@ -105,11 +105,6 @@ module _ {m : Map} (s : Shaped m) (two : 2 ≤ m .count) (p : Point) where
       let r = corners-rotated s two in
       ap (count-in (strictly-sees m p)) (sym (r .3)) ∙ count-in-swap (strictly-sees m p) (r .1) (r .0)
       ∙ ap (count-in (strictly-sees m p)) (r .2)
-
-  -- what an arrival sees is the same now (request #106 changes that, and drops this)
-  pub strictly-visible-is : strictly-visible m p ≡ visible-edges m p
-  unfolding visible-edges sees sees-edge
-  strictly-visible-is = strictly-visible-outline
 
   no-corner : T (not (any-in (is-at m p) (corners m))) → NoCorner m p
   no-corner t a h e = none-passes (is-at m p) (corners m) t a (listed a h) (same-point-by (point m a) p e)

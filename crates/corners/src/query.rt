@@ -17,7 +17,7 @@ ghost use Rattle.model.specs.Plane.{in-range};
 ghost use Rattle.model.specs.Maps.{point-limit};
 ghost use Rattle.model.specs.Sound.{Shaped};
 ghost use Rattle.model.specs.Placing.{place-among};
-ghost use Rattle.admission.specs.Ranges.{RangedQuery};
+ghost use Rattle.maps.specs.Places.{RangedQuery};
 ghost use Rattle.corners.specs.Viewing.{side-at, side-of, same-at, viewed};
 
 // How a point lies to an edge: strictly left of it, so that it is visible, in line and strictly

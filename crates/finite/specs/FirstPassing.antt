@@ -1,6 +1,6 @@
 -- The first member that passes a test, in the order of this page: where one passes, the first is a
 -- member that passes; it is that one where only one does; it cuts the list in two, and all before
--- it fail; where no member passes.
+-- it fail; where no member passes, there is none and the default is given.
 use mathlib.Core.Path.{_≡_, refl, ap}
 use mathlib.Core.Logic.{⊎-elim}
 use mathlib.Core.Bool.{Bool, not, _||_}
@@ -73,3 +73,9 @@ none-passes p (y ∷ s) t x m k =
     none-passes p s
     (not-T (any-in p s) (λ h. T-not (p y || any-in p s) t (or-right (p y) (any-in p s) h))) x l k)
     (elem-cases x y s m)
+
+pub first-none : (p : ℕ → Bool) (d : ℕ) (s : List ℕ) → ((x : ℕ) → T (elem x s) → ¬ T (p x)) → first-in p d s ≡ d
+unfolding first-in
+first-none p d [] none = refl
+first-none p d (x ∷ s) none =
+    rw (is-false (p x) (none x (elem-head x s))) (first-none p d s (λ y h. none y (elem-tail y x s h)))

@@ -2,10 +2,8 @@
 --     for k in first..stop { if !here(k) { return false; } } true
 -- In this order: what such a loop tests; its invariant, `Passed`, with the laws of its start, of one
 -- iteration, of an early return and of its end; what tests every number below a bound, every element
--- from a place on, and every place of a list. A loop that answers true at the first number that passes,
---     for k in 0..n { if here(k) { return true; } } false
--- tests that none passes, and its answer is the negation. Then the same laws for loops that fill an
--- array, and for loops round the corners of a ring.
+-- from a place on, and every place of a list. Then the same laws for loops that fill an array, and for
+-- loops round the corners of a ring.
 use mathlib.Core.Path.{_≡_, sym, ap, subst, _∙_}
 use mathlib.Core.Logic.{_≢_, ⊎-elim}
 use mathlib.Core.Bool.{Bool, true, false, not, cond, _&&_}
@@ -15,11 +13,11 @@ use native.Mathlib.Nat.{zero-add, sub-zero}
 use native.Mathlib.Numerals.{add-one}
 use native.Mathlib.Omega.{arith}
 use borrow.Author.Tests.{not-true, not-false, eq-eqb, ne-eqb}
-use lib.Dec.{T, T-not, not-T, eqb}
+use lib.Dec.{T, eqb}
 use lib.ListN.{length, getD, set, drop, length-drop, length-set}
 use lib.Seq.{getD-drop, getD-set-same, getD-set-other, ext-getD}
 use Rattle.finite.specs.Tests.{of-true, same-test}
-use Rattle.finite.specs.Bounded.{all, any, table, all-at, all-by, any-at, any-by, below-suc, length-table, getD-table}
+use Rattle.finite.specs.Bounded.{all, table, all-at, all-by, below-suc, length-table, getD-table}
 use Rattle.finite.specs.Lists.{all-in, all-places, ring}
 use Rattle.finite.specs.ListLaws.{getD-any, all-in-at, all-in-by, all-places-at}
 use Rattle.finite.specs.ListLaws.{all-places-by}
@@ -97,24 +95,6 @@ all-passed all-of p l = tests-same (passed-tests p l) all-of
 
 pub below : (n : ℕ) (p : ℕ → Bool) → Tests (all n p) p 0 n
 below n p = record { each = λ t k h l. all-at n p t k l; whole = λ f. all-by n p (λ k l. f k (omega arith) l) }
-
--- that none below n passes
-pub none-below : (n : ℕ) (p : ℕ → Bool) → Tests (not (any n p)) (λ k. not (p k)) 0 n
-none-below n p =
-    record {
-      each = λ t k h l. not-T (p k) (λ q. T-not (any n p) t (any-by n p k l q));
-      whole =
-          λ f.
-          not-T (any n p)
-          (λ a. let s = any-at n p a in T-not (p (s .0)) (f (s .0) (omega arith) (s .1)) (s .2));
-    }
-
--- what the negation answers
-pub some-found : {b : Bool} → false ≡ not b → true ≡ b
-some-found {b} e = sym (not-false b (sym e))
-
-pub none-found : {b : Bool} → true ≡ not b → false ≡ b
-none-found {b} e = sym (not-true b (sym e))
 
 module _ {A : Type 0} (s : List A) (n : ℕ) (d : A) where
   pub from-on : (p : A → Bool) → Tests (all-in p (drop n s)) (λ k. p (getD s k d)) n (length s)

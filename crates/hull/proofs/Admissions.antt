@@ -20,48 +20,43 @@ use Rattle.model.specs.Sound.{sound, Shaped}
 use Rattle.model.specs.Outline.{next-corner, outline, corners-from, visible-edges, sees}
 use Rattle.model.specs.Refusals.{nor}
 use Rattle.model.specs.Reading.{unsound}
-use Rattle.model.specs.Arrival.{arrive, refusing, admission-rules, is-repeated, is-in-line, left-corner, right-corner}
+use Rattle.model.specs.Arrival.{arrive, refusing, admission-rules, is-repeated, left-corner, right-corner}
 use Rattle.model.specs.Offers.{offer}
-use Rattle.model.proofs.Sound.{place-ranged, sound-by}
+use Rattle.model.proofs.Sound.{sound-by}
 use Rattle.model.proofs.Answers.{rule-passes, outcome-refuses, outcome-serves, served-none}
-use Rattle.admission.specs.Admission.{RangedPlaces, admission-by}
-use Rattle.hull.specs.Requires.{RoomFor}
+use Rattle.maps.specs.Places.{PlacesFor}
+use Rattle.admission.specs.Admission.{admission-by}
+use Rattle.hull.specs.Requires.{Accepted}
 use Rattle.hull.proofs.Indices.{spliceable}
-use Rattle.hull.proofs.Outcomes.{Accepted, accepted-by}
+use Rattle.hull.proofs.Outcomes.{accepted-by}
 
 not-sound : {m : Map} → Shaped m → not (sound m) ≡ false
 not-sound {m} s = ap not (is-true (sound m) (sound-by m s))
 
-pub ranged-places : {m : Map} → Shaped m → RangedPlaces (m .xs) (m .ys)
-unfolding point
-ranged-places s =
-    record { xs-whole = s .points .xs-whole; ys-whole = s .points .ys-whole; places = place-ranged s }
+pub whole-places : {m : Map} → Shaped m → PlacesFor (m .xs) (m .ys) point-limit
+whole-places s = record { xs-hold = omega (arith, s .points .xs-whole); ys-hold = omega (arith, s .points .ys-whole) }
 
 module _ {m : Map} (s : Shaped m) (p : Point) where
   pub admission-refused : (r : Refusal) →
       Outcome.Refused r ≡ admission-by (m .xs) (m .ys) (m .count) p →
       offer m p ≡ refusing m r
-  unfolding admission-by is-repeated is-in-line point offer
+  unfolding admission-by is-repeated point offer
   admission-refused r e =
       sym (rule-passes (refusing m) (unsound m) (admission-rules m p) (arrive m p) (not-sound s)
       (outcome-refuses (refusing m) (arrive m p) (admission-rules m p) r e))
 
   module _ (e : Outcome.Served ≡ admission-by (m .xs) (m .ys) (m .count) p) where
     pub admission-served : offer m p ≡ arrive m p
-    unfolding admission-by is-repeated is-in-line point offer
+    unfolding admission-by is-repeated point offer
     admission-served =
         sym (rule-passes (refusing m) (unsound m) (admission-rules m p) (arrive m p) (not-sound s)
         (outcome-serves (refusing m) (arrive m p) (admission-rules m p) e))
 
     pub admission-accepted : Accepted m p
-    unfolding admission-by is-repeated is-in-line point
+    unfolding admission-by is-repeated point
     admission-accepted =
         accepted-by m p
         (nor (λ t. T-not (sound m) t (sound-by m s)) (served-none (admission-rules m p) e))
-
--- what an arrival requires
-pub accepted-room : {m : Map} {p : Point} → Accepted m p → RoomFor m p
-accepted-room a = record { is-sound = a .is-sound; room = a .room; offered = a .ranged }
 
 -- ---- how large the numbers are that an arrival reports
 
@@ -82,5 +77,4 @@ visible-most m p = omega (arith, count-in-most (sees m p) (outline m), outline-m
 
 pub corners-below : {m : Map} {p : Point} → Accepted m p → 2 ≤ m .count →
     (left-corner m p < point-limit) × (right-corner m p < point-limit)
-corners-below a two =
-    let s = spliceable (accepted-room a) two in (s .left-below, s .right-below)
+corners-below a two = let s = spliceable a two in (s .left-below, s .right-below)

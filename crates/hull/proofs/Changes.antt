@@ -27,9 +27,10 @@ use Rattle.maps.proofs.Alone.{alone-new-fixed}
 use Rattle.maps.proofs.Splice.{Splices}
 use Rattle.maps.proofs.Spliced.{spliced-splices, spliced-helper-new, spliced-helper-old}
 use Rattle.maps.proofs.Pair.{all-fixed, pair-helper, pair-owned, pair-splices}
-use Rattle.hull.proofs.Outcomes.{Accepted, Decided, accepted, Arrives, arrive-arrives, offer-decided}
+use Rattle.hull.specs.Requires.{Accepted}
+use Rattle.hull.proofs.Outcomes.{Decided, accepted, Arrives, arrive-arrives, offer-decided}
 use Rattle.hull.proofs.Outcomes as outcomes
-use Rattle.hull.proofs.Arrivals.{left-is, right-is}
+use Rattle.hull.proofs.Arrivals.{corners-on}
 
 -- ---- v is where a link leads that is made by cases
 
@@ -163,7 +164,7 @@ module _ {m : Map} {p : Point} (a : Accepted m p) where
     outside-links =
         let helped = outline-circuit (a .is-sound) two .helped in
         spliced-splices (a .is-sound) (a .room) p l r
-        (helped l (left-is a two some .member)) (helped r (right-is a two some .member))
+        (helped l (corners-on a two some .0)) (helped r (corners-on a two some .1))
 
     outside-helpers : (k : ℕ) → has-helper (spliced m p l r) k ≡ with-helper (m .count) (has-helper m) k
     outside-helpers k =

@@ -31,8 +31,10 @@ use Rattle.maps.proofs.Points.{point-new, point-old}
 use Rattle.maps.proofs.Empty.{empty-sound}
 use Rattle.maps.proofs.Alone.{alone-outline}
 use Rattle.maps.proofs.Pair.{pair-outline}
-use Rattle.hull.proofs.Outcomes.{Accepted, Decided, accepted, refused, Arrives, first, second, inside, outside, arrive-arrives, arrival-accepted, offer-decided, refused-keeps}
-use Rattle.hull.proofs.Arrivals.{sound-convex, arrival-sound, outside-balance}
+use Rattle.hull.specs.Requires.{Accepted}
+use Rattle.hull.proofs.Outcomes.{Decided, accepted, refused, Arrives, first, second, inside, outside, arrive-arrives, arrival-accepted, offer-decided, refused-keeps}
+use Rattle.hull.proofs.Arrivals.{arrival-sound, outside-balance}
+use Rattle.hull.proofs.Theorems.{corners-turn-left}
 
 -- ---- one induction over runs
 
@@ -265,7 +267,8 @@ invariant-balanced r k =
           (lt-or-ge (r .map .count) 2);
       next-is-corner = λ a on. outline-next s (two a on) a on .1;
       edge-to-next = λ a on. outline-next s (two a on) a on .0;
-      others-strictly-left = λ a c on. sound-convex s (two a on) .left a c on;
+      others-beside = λ a c on. s .outlined (two a on) .others a c on;
+      corners-turn-left = λ three a on. corners-turn-left s (two a on) three a on;
       reports-right = k .reports;
       arrivals-balance = k .balance;
     }

@@ -20,11 +20,12 @@ use Rattle.model.specs.declared.Map.{Map}
 use Rattle.model.specs.Maps.{point-limit, point, is-present, edge-link}
 use Rattle.model.specs.Outline.{outline}
 use Rattle.model.specs.Sound.{Shaped}
-use Rattle.model.specs.Arrival.{cut, left-corner, right-corner}
+use Rattle.model.specs.Arrival.{cut, turning-left, turning-right, farther, left-corner, right-corner}
 use Rattle.model.proofs.Sound.{place-ranged, present-below}
 use Rattle.maps.proofs.Outline.{outline-circuit}
-use Rattle.admission.specs.Ranges.{RangedQuery}
-use Rattle.hull.specs.Requires.{RoomFor, OutlineFor, Spliceable}
+use Rattle.maps.specs.Places.{RangedQuery}
+use Rattle.hull.specs.Requires.{Accepted, OutlineFor, Spliceable}
+use Rattle.hull.proofs.Beyond.{by-beyond}
 
 -- ---- edge links
 
@@ -63,7 +64,7 @@ module _ {m : Map} (s : Shaped m) where
 -- the arrays of a map with an outline may be read at every place
 pub ranged : {m : Map} {p : Point} → OutlineFor m p → RangedQuery (m .xs) (m .ys) p
 unfolding point
-ranged o = record { places = place-ranged (o .is-sound); offered = o .offered }
+ranged o = record { places = place-ranged (o .accepted .is-sound); offered = o .accepted .ranged }
 
 -- ---- corners
 
@@ -79,17 +80,19 @@ first-below n test (a ∷ t) h below = go (test a) (first-below n test t h (λ x
     go false l = l
 
 -- an accepted point may be put between its left and its right corner
-pub spliceable : {m : Map} {p : Point} → RoomFor m p → 2 ≤ m .count →
+pub spliceable : {m : Map} {p : Point} → Accepted m p → 2 ≤ m .count →
     Spliceable (m .edge) (m .count) (left-corner m p) (right-corner m p)
-unfolding left-corner right-corner edge-link
-spliceable {m} {p} o two =
-    let below = outline-circuit (o .is-sound) two .below in
+unfolding farther turning-left turning-right edge-link
+spliceable {m} {p} a two =
+    let below = outline-circuit (a .is-sound) two .below in
     let corner : (test : ℕ → Bool) → first-in test 0 (outline m) < point-limit =
-    λ test. omega (arith, o .room, first-below (m .count) test (outline m) (omega arith) below) in
+    λ test. omega (arith, a .room, first-below (m .count) test (outline m) (omega arith) below) in
+    let corners =
+    by-beyond a two (λ l r. (l < point-limit) × (r < point-limit)) (λ beyond. (corner _, corner _)) (λ n. (corner _, corner _)) in
     record {
-      room = o .room;
-      left-below = corner _;
-      right-below = corner _;
-      whole = o .is-sound .links .edge-whole;
-      links-below = link-below (o .is-sound);
+      room = a .room;
+      left-below = corners .0;
+      right-below = corners .1;
+      whole = a .is-sound .links .edge-whole;
+      links-below = link-below (a .is-sound);
     }

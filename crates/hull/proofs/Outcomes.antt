@@ -3,7 +3,7 @@
 use mathlib.Core.Path.{_≡_, refl, sym, ap, subst, _∙_}
 use mathlib.Core.Logic.{_≢_, ⊎-elim}
 use mathlib.Core.Bool.{Bool, cond}
-use Prim.Native.Nat.{ℕ, _≤_, _<_}
+use Prim.Native.Nat.{ℕ, _≤_}
 use native.Mathlib.Omega.{arith}
 use borrow.Author.Tests.{eq-eqb, ne-eqb}
 use lib.Dec.{T, not-T, leb, eqb, nleb→lt}
@@ -16,23 +16,16 @@ use Rattle.model.specs.declared.Arrival.{Arrival}
 use Rattle.model.specs.declared.Offered.{Offered}
 use Rattle.model.specs.Refusals.{number, unless, Refuses, NoneApplies, none, nor}
 use Rattle.model.specs.Answers.{arrival-answer}
-use Rattle.model.specs.Plane.{in-range, in-line}
+use Rattle.model.specs.Plane.{in-range}
 use Rattle.model.specs.Maps.{point-limit, point}
-use Rattle.model.specs.Sound.{sound, Shaped}
+use Rattle.model.specs.Sound.{sound}
 use Rattle.model.specs.Outline.{visible-edges}
-use Rattle.model.specs.Arrival.{left-corner, right-corner, alone, pair, spliced, arrived, later-point, arrive, is-repeated, is-in-line, refusing}
+use Rattle.model.specs.Arrival.{left-corner, right-corner, alone, pair, spliced, arrived, later-point, arrive, is-repeated, refusing}
 use Rattle.model.specs.Offers.{offer-rules, offer}
 use Rattle.model.specs.History.{is-accepted}
 use Rattle.model.proofs.Sound.{sound-holds, same-point-by}
 use Rattle.model.proofs.Answers.{RulesDecide, refuses, serves, unless-decides, unless-made}
-
--- a point that no condition refuses
-pub record Accepted (m : Map) (p : Point) : Type 0 where
-  pub is-sound : Shaped m
-  pub room : m .count < point-limit
-  pub ranged : T (in-range p)
-  pub fresh : (k : ℕ) → k < m .count → point m k ≢ p
-  pub general : (i j : ℕ) → i < j → j < m .count → ¬ T (in-line (point m i) (point m j) p)
+use Rattle.hull.specs.Requires.{Accepted}
 
 -- what an offer comes to: it is accepted, or refused by the first rule that applies
 pub data Decided (m : Map) (p : Point) : Offered → Type 0 where
@@ -42,15 +35,13 @@ pub data Decided (m : Map) (p : Point) : Offered → Type 0 where
 module _ (m : Map) (p : Point) where
   -- where no rule applies every condition of refusal fails
   pub accepted-by : NoneApplies (offer-rules m p) → Accepted m p
-  unfolding is-repeated is-in-line
-  accepted-by (nor unsound (nor full (nor far (nor repeated (nor in-a-line none))))) =
+  unfolding is-repeated
+  accepted-by (nor unsound (nor full (nor far (nor repeated none)))) =
       record {
         is-sound = sound-holds m (not-not (sound m) unsound);
         room = nleb→lt point-limit (m .count) (not-T (leb point-limit (m .count)) full);
         ranged = not-not (in-range p) far;
         fresh = λ k h e. repeated (any-by (m .count) _ k h (same-point-by (point m k) p e));
-        general = λ i j h k l.
-            in-a-line (any-by (m .count) _ j k (any-by j (λ i′. in-line (point m i′) (point m j) p) i h l));
       }
 
   decided-by : (o : Offered) → RulesDecide (refusing m) (offer-rules m p) (arrive m p) o → Decided m p o

@@ -1,6 +1,6 @@
--- The way round an outline on which a point looks for its left and its right corner and counts the
--- edges that it sees, in the order of this page: a corner that is sought; the corners still ahead; the
--- invariant; the laws of its start, of a corner passed and of the end.
+-- The way round an outline on which a point looks for the corners where what it sees turns and counts the
+-- edges that it sees, in the order of this page: what is seen, by the arrays of the map; a corner that is
+-- sought; the corners still ahead; the invariant; the laws of its start, of a corner passed and of the end.
 -- What is found and what is still ahead make up the answer together. So nothing has to be said of the
 -- corners that were passed.
 use mathlib.Core.Path.{_≡_, refl, sym, ap, subst, _∙_}
@@ -21,20 +21,31 @@ use Rattle.model.specs.declared.Map.{Map}
 use Rattle.model.specs.Maps.{own, helper, owner, point, edge-link}
 use Rattle.model.specs.Outline.{next-corner, previous-corner, corners-from, outline, sees, visible-edges}
 use Rattle.model.specs.Sound.{Shaped}
-use Rattle.model.specs.Arrival.{left-corner, right-corner}
+use Rattle.model.specs.Arrival.{turning-left, turning-right, is-farther, is-beyond, farther, left-corner, right-corner}
 use Rattle.maps.proofs.Links.{sound-linked}
 use Rattle.maps.proofs.Circuits.{edge-next, edge-previous}
 use Rattle.maps.proofs.Outline.{outline-first, outline-next, outline-previous}
 use Rattle.hull.specs.declared.sight.Sought.{Sought}
 use Rattle.hull.specs.Requires.{OutlineFor, visible-at}
-use Rattle.hull.specs.Sight.{sought-at, seen}
+use Rattle.hull.specs.Sight.{sought-at, outlined, turning, seen}
 
 -- what else the map holds does not matter
-pub seen-by-arrays : (m : Map) (p : Point) →
-    record { left = left-corner m p; right = right-corner m p; visible = visible-edges m p }
-    ≡ seen (m .xs) (m .ys) (m .edge) (m .count) (m .reference) p
-unfolding left-corner right-corner visible-edges sees outline corners-from next-corner previous-corner edge-link point
-seen-by-arrays m p = refl
+module _ (m : Map) (p : Point) where
+  abbrev pub by-arrays : Map
+  by-arrays = outlined (m .xs) (m .ys) (m .edge) (m .count) (m .reference)
+
+  pub turning-by-arrays : turning m p ≡ turning by-arrays p
+  unfolding turning-left turning-right visible-edges sees outline corners-from next-corner previous-corner edge-link point
+  turning-by-arrays = refl
+
+  pub farther-by-arrays : farther m p ≡ farther by-arrays p
+  unfolding farther is-farther outline corners-from next-corner edge-link point
+  farther-by-arrays = refl
+
+  pub seen-by-arrays : seen m p ≡ seen by-arrays p
+  unfolding left-corner right-corner is-beyond farther is-farther turning-left turning-right visible-edges sees
+      outline corners-from next-corner previous-corner edge-link point
+  seen-by-arrays = refl
 
 -- ---- a corner that is sought
 
@@ -93,8 +104,8 @@ module _ (m : Map) (p : Point) where
     pub on : T (elem a (outline m))
     pub few : visible + ahead ≤ m .count
     pub entered : entering ≡ sees m p (previous-corner m a)
-    pub left-is : settled left is-left (corners-ahead m ahead a) ≡ left-corner m p
-    pub right-is : settled right is-right (corners-ahead m ahead a) ≡ right-corner m p
+    pub left-is : settled left is-left (corners-ahead m ahead a) ≡ turning-left m p
+    pub right-is : settled right is-right (corners-ahead m ahead a) ≡ turning-right m p
     pub visible-is : visible + count-in (sees m p) (corners-ahead m ahead a) ≡ visible-edges m p
 
   -- what the code tests of an edge
@@ -105,14 +116,14 @@ module _ (m : Map) (p : Point) where
 
   module _ (o : OutlineFor m p) where
     abbrev s : Shaped m
-    s = o .is-sound
+    s = o .accepted .is-sound
 
     -- nothing is found at first, and all of the outline is ahead
     pub at-first : {last ahead : ℕ} {entering : Bool} → ahead ≡ m .count → last ≡ previous-corner m (owner (m .reference)) →
         entering ≡ visible-at (m .xs) (m .ys) last (owner (m .reference)) p →
         SightAhead entering (record { corner = 0; found = false }) (record { corner = 0; found = false }) 0
         (owner (m .reference)) ahead
-    unfolding outline corners-from left-corner right-corner visible-edges
+    unfolding outline corners-from turning-left turning-right visible-edges
     at-first {last} {ahead} {entering} all from e =
         rw all
         (let start = owner (m .reference) in
@@ -174,7 +185,7 @@ module _ (m : Map) (p : Point) where
     pub at-end : {entering : Bool} {left right : Sought} {visible a ahead : ℕ} →
         SightAhead entering left right visible a ahead → ahead ≤ 0 →
         record { left = left .corner; right = right .corner; visible = visible }
-        ≡ seen (m .xs) (m .ys) (m .edge) (m .count) (m .reference) p
+        ≡ turning (by-arrays m p) p
     unfolding ring count-in
     at-end {entering} {left} {right} {visible} {a} {ahead} u h =
         let none : ahead ≡ 0 = omega arith in
@@ -182,4 +193,4 @@ module _ (m : Map) (p : Point) where
         let l = sym (settled-end left is-left) ∙ w .left-is in
         let r = sym (settled-end right is-right) ∙ w .right-is in
         let v : visible ≡ visible-edges m p = omega (arith, w .visible-is) in
-        (λ i. record { left = l i; right = r i; visible = v i }) ∙ seen-by-arrays m p
+        (λ i. record { left = l i; right = r i; visible = v i }) ∙ turning-by-arrays m p

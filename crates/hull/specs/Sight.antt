@@ -1,12 +1,14 @@
--- Sight round an outline, in the order of this page: a corner that is sought; what is seen.
+-- Sight round an outline, in the order of this page: a corner that is sought; a map by what is seen of it;
+-- what is seen, with the corners where that turns, and with the left and the right corner.
 use mathlib.Core.Bool.{Bool, true, not, cond, _&&_}
 use mathlib.Core.List.{List}
 use Prim.Native.Nat.{ℕ}
 use lib.IntN.{ℤ}
 use Rattle.model.specs.declared.Point.{Point}
+use Rattle.model.specs.declared.Map.{Map}
 use Rattle.model.specs.Maps.{empty-map, with-outline}
 use Rattle.model.specs.Outline.{visible-edges}
-use Rattle.model.specs.Arrival.{left-corner, right-corner}
+use Rattle.model.specs.Arrival.{turning-left, turning-right, left-corner, right-corner}
 use Rattle.hull.specs.declared.sight.Seen.{Seen}
 use Rattle.hull.specs.declared.sight.Sought.{Sought}
 
@@ -14,9 +16,14 @@ use Rattle.hull.specs.declared.sight.Sought.{Sought}
 abbrev pub sought-at : Sought → Bool → Bool → ℕ → Sought
 sought-at s before after a = cond (s .found) s (cond (not before && after) (record { corner = a; found = true }) s)
 
--- what is seen from p of the outline of a map with these coordinates and edge links: its other fields do
--- not matter
-abbrev pub seen : List ℤ → List ℤ → List ℕ → ℕ → ℕ → Point → Seen
-seen xs ys edge count reference p =
-    let m = with-outline empty-map xs ys edge count reference in
-    record { left = left-corner m p; right = right-corner m p; visible = visible-edges m p }
+-- a map with these coordinates and edge links, for what is seen of its outline: its other fields do not
+-- matter
+abbrev pub outlined : List ℤ → List ℤ → List ℕ → ℕ → ℕ → Map
+outlined xs ys edge count reference = with-outline empty-map xs ys edge count reference
+
+-- what is seen from p of the outline of a map
+abbrev pub turning : Map → Point → Seen
+turning m p = record { left = turning-left m p; right = turning-right m p; visible = visible-edges m p }
+
+abbrev pub seen : Map → Point → Seen
+seen m p = record { left = left-corner m p; right = right-corner m p; visible = visible-edges m p }

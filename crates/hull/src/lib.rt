@@ -21,7 +21,7 @@ ghost use Prim.Native.Nat.{_+_, _≤_};
 ghost use Rattle.model.specs.Maps.{map-lent};
 ghost use Rattle.model.specs.Sound.{Shaped};
 ghost use Rattle.model.specs.Arrival.{admitted, arrive, arrived, later-point, refusing};
-ghost use Rattle.hull.specs.Requires.{RoomFor};
+ghost use Rattle.hull.specs.Requires.{Accepted};
 
 // What an arrival leaves beside a map's arrays: how the point arrived, and the reference.
 pub struct Growth {
@@ -55,7 +55,7 @@ fn refused(map: Map, refusal: Refusal) -> Offered
 
 // The arrival of a point that is not refused.
 fn arrive(map: Map, p: Point) -> Offered
-    requires { ⌜ RoomFor map p ⌝ }
+    requires { ⌜ Accepted map p ⌝ }
     ensures { λ r. ⌜ r ≡ arrive map p ⌝ }
 {
     let mut xs = map.xs;
@@ -97,7 +97,7 @@ pub fn grow(
     reference: usize,
     p: Point,
 ) -> Growth
-    requires { ⌜ RoomFor (map-lent xs ys helpers edge count reference) p ⌝ }
+    requires { ⌜ Accepted (map-lent xs ys helpers edge count reference) p ⌝ }
     ensures { λ r. ⌜ arrived (r .arrival)
         (map-lent (xs .exit) (ys .exit) (helpers .exit) (edge .exit) (count + 1) (r .reference))
         ≡ arrive
@@ -131,7 +131,7 @@ fn grow_later(
     reference: usize,
     p: Point,
 ) -> Growth
-    requires { ⌜ RoomFor (map-lent xs ys helpers edge count reference) p ⌝ }
+    requires { ⌜ Accepted (map-lent xs ys helpers edge count reference) p ⌝ }
     requires { ⌜ 2 ≤ count ⌝ }
     ensures { λ r. ⌜ arrived (r .arrival)
         (map-lent (xs .exit) (ys .exit) (helpers .exit) (edge .exit) (count + 1) (r .reference))

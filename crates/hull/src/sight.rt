@@ -4,15 +4,17 @@ use maps::reading::next_corner;
 use maps::reading::point_at;
 use maps::reading::previous_corner;
 use model::Point;
+use plane::between::are_opposite;
 use plane::sees_edge;
 ghost use mathlib.Core.Path.{_≡_};
 ghost use mathlib.Core.Bool.{cond, not};
 ghost use Prim.Native.Nat.{_+_, _<_};
 ghost use Rattle.finite.specs.Bounded.{one-if};
 ghost use Rattle.model.specs.Maps.{point-limit};
-ghost use Rattle.admission.specs.Ranges.{RangedQuery};
-ghost use Rattle.hull.specs.Requires.{OutlineIn, visible-at};
-ghost use Rattle.hull.specs.Sight.{sought-at, seen};
+ghost use Rattle.maps.specs.Places.{RangedQuery};
+ghost use Rattle.model.specs.Arrival.{farther};
+ghost use Rattle.hull.specs.Requires.{BeyondIn, OutlineIn, visible-at};
+ghost use Rattle.hull.specs.Sight.{outlined, sought-at, seen, turning};
 
 // The corners between which the visible edges lie, and their number.
 pub struct Seen {
@@ -27,7 +29,8 @@ pub struct Sought {
     pub found: bool,
 }
 
-// What is seen from p, once round the outline.
+// What is seen from p. Where some edge is visible and the outline has no corner at which that turns,
+// all of it is visible: p is in line beyond one of two corners, and both are the farther one.
 pub fn seen_from<'a>(
     xs: &'a [i64],
     ys: &'a [i64],
@@ -37,8 +40,57 @@ pub fn seen_from<'a>(
     p: Point,
 ) -> Seen
     requires { ⌜ OutlineIn (now xs) (now ys) (now edge) count reference p ⌝ }
-    ensures { λ r. ⌜ r ≡ seen (now (xs .entry)) (now (ys .entry)) (now (edge .entry)) count
-        reference p ⌝ }
+    ensures { λ r. ⌜ r ≡ seen (outlined (now (xs .entry)) (now (ys .entry)) (now (edge .entry)) count
+        reference) p ⌝ }
+{
+    let turning = turning_from(xs, ys, edge, count, reference, p);
+    let visible = turning.visible;
+    if visible == 0 {
+        return turning;
+    }
+    if turning.left != turning.right {
+        return turning;
+    }
+    let far = farther_corner(xs, ys, edge, count, reference, p);
+    Seen {
+        left: far,
+        right: far,
+        visible,
+    }
+}
+
+// The corner farther from p, which is in line beyond one of two corners: the other one lies ahead of
+// it, between it and p.
+fn farther_corner<'a>(
+    xs: &'a [i64],
+    ys: &'a [i64],
+    edge: &'a [usize],
+    count: usize,
+    reference: usize,
+    p: Point,
+) -> usize
+    requires { ⌜ BeyondIn (now xs) (now ys) (now edge) count reference p ⌝ }
+    ensures { λ r. ⌜ r ≡ farther (outlined (now (xs .entry)) (now (ys .entry)) (now (edge .entry))
+        count reference) p ⌝ }
+{
+    let a = reference / 2;
+    let b = next_corner(edge, a);
+    let ahead = are_opposite(point_at(xs, ys, a), p, point_at(xs, ys, b));
+    if ahead { a } else { b }
+}
+
+// What is seen from p once round the outline, with the corners where what is visible turns.
+fn turning_from<'a>(
+    xs: &'a [i64],
+    ys: &'a [i64],
+    edge: &'a [usize],
+    count: usize,
+    reference: usize,
+    p: Point,
+) -> Seen
+    requires { ⌜ OutlineIn (now xs) (now ys) (now edge) count reference p ⌝ }
+    ensures { λ r. ⌜ r ≡ turning (outlined (now (xs .entry)) (now (ys .entry)) (now (edge .entry))
+        count reference) p ⌝ }
 {
     let start = reference / 2;
     let last = previous_corner(edge, start);

@@ -7,7 +7,7 @@ use Rattle.model.specs.declared.Refusal.{Refusal}
 use Rattle.model.specs.declared.Arrival.{Arrival}
 use Rattle.model.specs.Refusals.{number}
 use Rattle.model.specs.Maps.{point-limit}
-use Rattle.lines.specs.Packing.{OfLine, full, out-of-range, repeated, in-line, bad-line}
+use Rattle.lines.specs.Packing.{OfLine, full, out-of-range, repeated, bad-line}
 use Rattle.lines.specs.Packing.{SmallValues, Packable, first, second, inside, outside, refused}
 use Rattle.lines.specs.Packing.{packed, refusal-of, outside-of, unpacked}
 
@@ -16,7 +16,6 @@ unfolding unpacked refusal-of number
 refusal-back full = refl
 refusal-back out-of-range = refl
 refusal-back repeated = refl
-refusal-back in-line = refl
 refusal-back bad-line = refl
 
 -- ---- an outside arrival

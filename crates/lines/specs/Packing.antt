@@ -10,12 +10,11 @@ use Rattle.model.specs.declared.Arrival.{Arrival}
 use Rattle.model.specs.Refusals.{number}
 use Rattle.model.specs.Maps.{point-limit}
 
--- the numbers that a line can get: those of an offered point, 2 to 5, and "text line not in form"
+-- the numbers that a line can get: those of an offered point, 2 to 4, and "text line not in form"
 pub data OfLine : Refusal → Type 0 where
   full : OfLine Refusal.Full
   out-of-range : OfLine Refusal.OutOfRange
   repeated : OfLine Refusal.Repeated
-  in-line : OfLine Refusal.InLine
   bad-line : OfLine Refusal.BadLine
 
 -- point numbers, and as many visible edges as there are points at most
@@ -43,8 +42,7 @@ unfoldable pub refusal-of : ℕ → Refusal
 refusal-of n =
     cond (eqb n 2) Refusal.Full
     (cond (eqb n 3) Refusal.OutOfRange
-    (cond (eqb n 4) Refusal.Repeated
-    (cond (eqb n 5) Refusal.InLine Refusal.BadLine)))
+    (cond (eqb n 4) Refusal.Repeated Refusal.BadLine))
 
 abbrev pub outside-of : ℕ → Arrival
 outside-of n =

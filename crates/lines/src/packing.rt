@@ -72,8 +72,5 @@ fn refusal_of(number: usize) -> Refusal
     if number == 4 {
         return Refusal::Repeated;
     }
-    if number == 5 {
-        return Refusal::InLine;
-    }
     Refusal::BadLine
 }

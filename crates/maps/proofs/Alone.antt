@@ -1,6 +1,6 @@
 -- The map after the first point and after an inside point: one dart more, which both links fix.
 -- Links and helpers are the old ones, so the outline is the old one, and the map is sound where the
--- new point is in range, differs from the others and lies strictly left of each outline edge.
+-- new point is in range, differs from the others and lies beside each outline edge.
 use mathlib.Core.Path.{_≡_, refl, sym, ap, subst, _∙_}
 use mathlib.Core.Logic.{_≢_, _⊎_, inl, inr, ⊎-elim}
 use Prim.Native.Nat.{ℕ, _≤_, _<_}
@@ -16,7 +16,7 @@ use Rattle.model.specs.Plane.{in-range, beside}
 use Rattle.model.specs.Maps.{point-limit, own, owner, point, has-helper, is-present, edge-link, point-link}
 use Rattle.model.specs.Outline.{next-corner, outline}
 use Rattle.model.specs.Arrival.{with-point, alone}
-use Rattle.model.specs.Sound.{Shaped, ShapedPoints, ShapedLinks, AllLeft}
+use Rattle.model.specs.Sound.{Shaped, ShapedPoints, ShapedLinks, AllBeside}
 use Rattle.maps.proofs.Darts.{by-present, own-present, helper-present, present-owner, present-dart}
 use Rattle.maps.proofs.Links.{DartOf}
 use Rattle.maps.proofs.Circuits.{Circuit, circuit-outline}
@@ -103,15 +103,15 @@ module _ {m : Map} (s : Shaped m) (p : Point) where
     module _ (room : m .count < point-limit)
         (new-left : (a : ℕ) → T (elem a (outline m)) → T (beside (point m a) (point m (next-corner m a)) p)) where
       -- the new point lies beside each edge by assumption, and the old ones as before
-      alone-left : AllLeft (alone m p) (outline m)
+      alone-beside : AllBeside (alone m p) (outline m)
       unfolding alone with-point next-corner edge-link
-      alone-left a c on h not-start not-end =
+      alone-beside a c on h not-start not-end =
           let b = outline-circuit s two in
           let old = point-old s room p (m .helpers) (m .edge) (m .reference) in
           let next = b .below (next-corner m a) (outline-next s two a on .1) in
           rw (old a (omega (arith, b .below a on)), old (next-corner m a) (omega arith))
           (⊎-elim
-          (λ (l : c < m .count). rw (old c (omega arith)) (s .outlined two .left a c on l not-start not-end))
+          (λ (l : c < m .count). rw (old c (omega arith)) (s .outlined two .others a c on l not-start not-end))
           (λ (e : c ≡ m .count). rw (e, point-new s room p (m .helpers) (m .edge) (m .reference)) (new-left a on))
           (below-suc (m .count) c h))
 
@@ -128,7 +128,7 @@ alone-sound {m} p s room not-one ranged differs left =
     (λ (two : 2 ≤ m .count).
     sound-with-outline points (alone-links s p room) (omega arith) (outline m) (alone-circuit s p two)
     (alone-outline s p two) (s .outlined two .reference-own) (outline-first s two) (alone-every s p two)
-    (alone-left s p two room (left two)))
+    (alone-beside s p two room (left two)))
     (lt-or-ge (m .count) 2)
   where
     points : ShapedPoints (alone m p)

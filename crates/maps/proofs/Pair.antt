@@ -20,7 +20,7 @@ use Rattle.model.specs.Plane.{in-range}
 use Rattle.model.specs.Maps.{point-limit, own, helper, owner, point, has-helper, is-present, edge-link}
 use Rattle.model.specs.Outline.{next-corner, outline}
 use Rattle.model.specs.Arrival.{join, with-point, pair}
-use Rattle.model.specs.Sound.{Shaped, AllLeft}
+use Rattle.model.specs.Sound.{Shaped, AllBeside}
 use Rattle.maps.proofs.Darts.{each-dart, present-owner, present-helper}
 use Rattle.maps.proofs.Edges.{length-join, join-first, join-second, join-other}
 use Rattle.maps.proofs.Circuits.{Circuit, circuit-outline}
@@ -129,8 +129,8 @@ module _ {m : Map} (s : Shaped m) (one : m .count ≡ 1) (p : Point) where
       (same-or-not a 1)
 
   -- there is no third point
-  pair-left : AllLeft (pair m p) (1 ∷ 0 ∷ [])
-  pair-left a c h b not-start not-end =
+  pair-beside : AllBeside (pair m p) (1 ∷ 0 ∷ [])
+  pair-beside a c h b not-start not-end =
       ⊎-elim
       (λ (e : a ≡ 1).
       let next : next-corner (pair m p) a ≡ 0 =
@@ -154,4 +154,4 @@ pair-sound {m} p s one ranged differs =
     (splice-links s room (omega arith) (omega arith) (pair-splices s one p)) (omega arith)
     (1 ∷ 0 ∷ []) (pair-circuit s one p) (pair-outline s one p) tt (elem-head 1 (0 ∷ []))
     (λ d h o. below-two s one p (owner d) (omega (arith, present-owner (pair m p) d (h .is-present))))
-    (pair-left s one p)
+    (pair-beside s one p)

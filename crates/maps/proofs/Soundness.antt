@@ -1,6 +1,6 @@
 -- How a sound map is put together from its points, its links and a circuit: a map with a circuit that
 -- begins with the reference's point, on which every closed part lies, and whose edges have all other
--- points strictly left, is sound; so is one with fewer than two points, no helper and no reference.
+-- points beside them, is sound; so is one with fewer than two points, no helper and no reference.
 use mathlib.Core.Path.{_≡_}
 use mathlib.Core.List.{List}
 use Prim.Native.Nat.{ℕ, _≤_, _<_}
@@ -11,7 +11,7 @@ use Rattle.orbits.proofs.ClosedWalks.{ClosedPart, OneClosed, one-closed-by}
 use Rattle.model.specs.declared.Map.{Map}
 use Rattle.model.specs.Maps.{owner, is-own, is-present, edge-link, point-link, dart-bound}
 use Rattle.model.specs.Outline.{outline}
-use Rattle.model.specs.Sound.{ShapedPoints, ShapedLinks, AllLeft, Bare, Shaped}
+use Rattle.model.specs.Sound.{ShapedPoints, ShapedLinks, AllBeside, Bare, Shaped}
 use Rattle.maps.proofs.Links.{Linked, DartOf, links-symmetric}
 use Rattle.maps.proofs.Circuits.{Circuit, circuit-dart, circuit-reach, circuit-closed, circuit-closed-part}
 
@@ -26,8 +26,8 @@ sound-without-outline p l few bare =
 -- two points or more: the circuit is the outline
 pub sound-with-outline : {m : Map} → ShapedPoints m → ShapedLinks m → 2 ≤ m .count → (s : List ℕ) → Circuit m s →
     outline m ≡ s → T (is-own (m .reference)) → T (elem (owner (m .reference)) s) →
-    ((d : ℕ) → DartOf m d → ClosedPart (edge-link m) (point-link m) d → T (elem (owner d) s)) → AllLeft m s → Shaped m
-sound-with-outline {m} p l two s c e own-dart first every left =
+    ((d : ℕ) → DartOf m d → ClosedPart (edge-link m) (point-link m) d → T (elem (owner d) s)) → AllBeside m s → Shaped m
+sound-with-outline {m} p l two s c e own-dart first every others =
     record {
       points = p;
       links = l;
@@ -38,7 +38,7 @@ sound-with-outline {m} p l two s c e own-dart first every left =
             reference-own = own-dart;
             reference-present = circuit-dart c (m .reference) first .is-present;
             reference-closed = circuit-closed linked c (m .reference) first;
-            left = rw e left;
+            others = rw e others;
           };
       bare = λ few. absurd (omega arith);
     }

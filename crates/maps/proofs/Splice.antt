@@ -11,7 +11,7 @@ use lib.Dec.{T, T-not}
 use lib.ListN.{length}
 use Rattle.finite.specs.Tests.{decide, same-or-not}
 use Rattle.finite.specs.Lists.{elem, distinct}
-use Rattle.finite.specs.ListLaws.{elem-head, elem-tail, elem-cases, elem-append-left}
+use Rattle.finite.specs.ListLaws.{elem-head, elem-tail, elem-cases, elem-one, elem-append, elem-append-left}
 use Rattle.finite.specs.ListLaws.{elem-append-right}
 use Rattle.finite.specs.Distinct.{distinct-head, distinct-cons, distinct-left, distinct-apart}
 use Rattle.finite.specs.Cycles.{Chain, Cycle, chain-cut, chain-join}
@@ -101,6 +101,17 @@ module _ {m m′ : Map} {l r : ℕ} (z : Splices m m′ l r) where
 
   pub splice-next-new : next-corner m′ (m .count) ≡ r
   splice-next-new = edge-next m′ (m .count) r (z .at-own)
+
+-- what is kept of an old circuit: k and the kept corners, l and r among them, are a circuit, and the
+-- corner after each of them but l is the one it was
+pub record Kept (m m′ : Map) (l r : ℕ) (kept : List ℕ) : Type 0 where
+  pub corners : List ℕ
+  pub was : Circuit m corners
+  pub kept-was : (x : ℕ) → T (elem x kept) → T (elem x corners)
+  pub left-kept : T (elem l kept)
+  pub right-kept : T (elem r kept)
+  pub new-circuit : Circuit m′ (m .count ∷ kept)
+  pub kept-next : (x : ℕ) → T (elem x kept) → x ≢ l → next-corner m′ x ≡ next-corner m x
 
 -- the corners from r to l
 abbrev pub arc : ℕ → List ℕ → ℕ → List ℕ
@@ -278,33 +289,48 @@ module _ {m m′ : Map} (s : Shaped m) (room : m .count < point-limit) {l r : �
           );
         }
 
-    -- ---- no other part is closed
-    --
-    -- Take a closed part off the new circuit. None of the four darts newly linked lies on it, nor one of their
-    -- old partners that is fixed now. So on it the links are the old ones, and it is a closed part of the
-    -- old map, which had just one: that with own l on it, which is on the new circuit.
+    pub arc-kept : Kept m m′ l r (arc r between l)
+    arc-kept =
+        record {
+          corners = r ∷ between ++ l ∷ lost;
+          was = c;
+          kept-was = arc-old;
+          left-kept = left-in-arc;
+          right-kept = right-in-arc;
+          new-circuit = splice-circuit;
+          kept-next = λ x h other.
+              ⊎-elim (splice-next x) (λ (i : T (elem x (l ∷ []))). absurd (other (elem-one x l i)))
+              (elem-append x (r ∷ between) (l ∷ []) h);
+        }
 
+  -- ---- no other part is closed
+  --
+  -- Take a closed part off the new circuit. None of the four darts newly linked lies on it, nor one of their
+  -- old partners that is fixed now. So on it the links are the old ones, and it is a closed part of the
+  -- old map, which had just one: that with own l on it, which is on the new circuit.
+
+  module _ (kept : List ℕ) (K : Kept m m′ l r kept) where
     module _ (two : 2 ≤ m .count) (helped-same : (j : ℕ) → j ≢ m .count → has-helper m′ j ≡ has-helper m j) where
       abbrev On : ℕ → Type 0
-      On d = T (elem (owner d) (m .count ∷ arc r between l))
+      On d = T (elem (owner d) (m .count ∷ kept))
 
       on-new : (d : ℕ) → owner d ≡ m .count → On d
-      on-new d e = rw e (elem-head (m .count) (arc r between l))
+      on-new d e = rw e (elem-head (m .count) kept)
 
-      on-arc : (d x : ℕ) → owner d ≡ x → T (elem x (arc r between l)) → On d
-      on-arc d x e h = rw e (elem-tail x (m .count) (arc r between l) h)
+      on-kept : (d x : ℕ) → owner d ≡ x → T (elem x kept) → On d
+      on-kept d x e h = rw e (elem-tail x (m .count) kept h)
 
       left-on : On (own l)
-      left-on = on-arc (own l) l (owner-own l) left-in-arc
+      left-on = on-kept (own l) l (owner-own l) (K .left-kept)
 
       old : Linked m
       old = sound-linked s
 
-      left-old-on : T (elem (owner (own l)) (r ∷ between ++ l ∷ lost))
-      left-old-on = rw (owner-own l) (arc-old l left-in-arc)
+      left-old-on : T (elem (owner (own l)) (K .corners))
+      left-old-on = rw (owner-own l) (K .kept-was l (K .left-kept))
 
       left-dart : DartOf m (own l)
-      left-dart = circuit-dart c (own l) left-old-on
+      left-dart = circuit-dart (K .was) (own l) left-old-on
 
       -- a dart off the circuit that is moved is linked as before
       same-edge : (d : ℕ) → ¬ On d → edge-link m′ d ≢ d → edge-link m d ≡ edge-link m′ d
@@ -312,7 +338,7 @@ module _ {m m′ : Map} (s : Shaped m) (room : m .count < point-limit) {l r : �
           by-splice z (λ d e. ¬ On d → e ≢ d → edge-link m d ≡ e)
           (λ off h. absurd (off left-on))
           (λ off h. absurd (off (on-new (helper (m .count)) (owner-helper (m .count)))))
-          (λ off h. absurd (off (on-arc (helper r) r (owner-helper r) right-in-arc)))
+          (λ off h. absurd (off (on-kept (helper r) r (owner-helper r) (K .right-kept))))
           (λ off h. absurd (off (on-new (own (m .count)) (owner-own (m .count)))))
           (λ d f off h. absurd (h refl)) (λ d o off h. refl)
 
@@ -338,7 +364,7 @@ module _ {m m′ : Map} (s : Shaped m) (room : m .count < point-limit) {l r : �
           (off : ¬ On d) where
         -- all of its part lies off the circuit, so the old links agree with the new ones on it
         off-all : (x : ℕ) → Reach (links m′) d x → ¬ On x
-        off-all x t on = off (circuit-stays linked splice-circuit (reach-sym (links-symmetric linked) dart t) on)
+        off-all x t on = off (circuit-stays linked (K .new-circuit) (reach-sym (links-symmetric linked) dart t) on)
 
         agree : (x : ℕ) → Reach (links m′) d x →
             (edge-link m x ≡ edge-link m′ x) × (point-link m x ≡ point-link m′ x)
@@ -349,12 +375,42 @@ module _ {m m′ : Map} (s : Shaped m) (room : m .count < point-limit) {l r : �
         not-off =
             let only =
             one-closed-at (links-symmetric old) (s .outlined two .one-walk) left-dart
-            (circuit-closed-part old c (own l) left-old-on) in
+            (circuit-closed-part old (K .was) (own l) left-old-on) in
             let old-dart = present-dart m d (old-present d off (dart .is-present)) in
             let was = only .every d old-dart (agree-closed agree closed) in
             off-all (own l) (agree-reach agree (reach-sym (links-symmetric old) left-dart was)) left-on
 
       pub splice-every : (d : ℕ) → DartOf m′ d → ClosedPart (edge-link m′) (point-link m′) d → On d
       splice-every d dart closed =
-          let test = elem (owner d) (m .count ∷ arc r between l) in
+          let test = elem (owner d) (m .count ∷ kept) in
           ⊎-elim (λ on. on) (λ off. absurd (not-off d dart closed (T-not test off))) (decide test)
+
+-- ---- l alone is kept, where it is r too: the new point and l link each other
+
+pub single-kept : {m m′ : Map} {f : ℕ} (z : Splices m m′ f f) (corners : List ℕ) → Circuit m corners →
+    T (elem f corners) → Kept m m′ f f (f ∷ [])
+unfolding Cycle Chain elem distinct
+single-kept {m} {f = f} z corners c on =
+    record {
+      corners = corners;
+      was = c;
+      kept-was = λ x h. rw (elem-one x f h) on;
+      left-kept = elem-head f [];
+      right-kept = elem-head f [];
+      new-circuit =
+          record {
+            all-distinct =
+                distinct-cons (m .count) (f ∷ [])
+                (λ h. omega (arith, c .below f on, elem-one (m .count) f h))
+                (distinct-cons f [] (λ h. h) tt);
+            below = λ a h.
+                ⊎-elim (λ (e : a ≡ m .count). omega (arith, z .count-grows))
+                (λ o. omega (arith, z .count-grows, elem-one a f o, c .below f on))
+                (elem-cases a (m .count) (f ∷ []) h);
+            helped = λ a h.
+                ⊎-elim (λ (e : a ≡ m .count). rw e (z .helped-new)) (λ o. rw (elem-one a f o) (z .helped-left))
+                (elem-cases a (m .count) (f ∷ []) h);
+            edges = (z .at-own, (z .at-left, tt));
+          };
+      kept-next = λ x h other. absurd (other (elem-one x f h));
+    }

@@ -1,7 +1,7 @@
 -- The map after an outside point: `spliced` puts the new point between its left and its right corner
--- (`spliced-splices`, with every edge link in terms of the old ones). Where the old outline runs from the
--- right corner r to the left corner l and on over the corners that are lost, the new outline is the new
--- point and r .. l, and the map is sound if all points lie left of that outline.
+-- (`spliced-splices`, with every edge link in terms of the old ones). The new outline is
+-- the new point and what is kept: the corners from the right corner r to the left corner l, or one
+-- corner, where that is both; and the map is sound if all points lie beside that outline.
 use mathlib.Core.Path.{_≡_, refl, sym, ap, _∙_}
 use mathlib.Core.Logic.{_≢_, _⊎_, inl, inr, ⊎-elim}
 use mathlib.Core.Bool.{true, false}
@@ -13,8 +13,7 @@ use lib.ListN.{length, set, length-set}
 use lib.Seq.{getD-set-same, getD-set-other}
 use Rattle.finite.specs.Tests.{same-or-not, of-true}
 use Rattle.finite.specs.Lists.{elem}
-use Rattle.finite.specs.ListLaws.{elem-head, elem-cases, elem-one, elem-append, elem-append-left}
-use Rattle.finite.specs.ListLaws.{elem-append-right}
+use Rattle.finite.specs.ListLaws.{elem-head, elem-cases, elem-append-right}
 use Rattle.orbits.specs.Sets.{dart-limit}
 use Rattle.orbits.specs.Links.{link-of}
 use Rattle.model.specs.declared.Point.{Point}
@@ -23,14 +22,14 @@ use Rattle.model.specs.Plane.{in-range, beside}
 use Rattle.model.specs.Maps.{point-limit, own, helper, owner, point, has-helper, is-present, edge-link}
 use Rattle.model.specs.Outline.{next-corner, outline}
 use Rattle.model.specs.Arrival.{cut, join, with-point, spliced}
-use Rattle.model.specs.Sound.{Shaped, ShapedLinks, AllLeft}
+use Rattle.model.specs.Sound.{Shaped, ShapedLinks, AllBeside}
 use Rattle.maps.proofs.Darts.{owner-own, is-own-own, own-differs, own-present, helper-present, present-owner}
 use Rattle.maps.proofs.Edges.{length-cut, cut-same, cut-other, length-join, join-first, join-second, join-other}
 use Rattle.maps.proofs.Circuits.{Circuit, circuit-outline}
 use Rattle.maps.proofs.Outline.{outline-circuit, outline-next, circuit-on-outline}
 use Rattle.maps.proofs.Soundness.{sound-with-outline}
 use Rattle.maps.proofs.Points.{point-new, point-old, with-point-sound}
-use Rattle.maps.proofs.Splice.{Splices, arc, splice-next-left, splice-next-new, splice-links, splice-next, splice-circuit, splice-every}
+use Rattle.maps.proofs.Splice.{Splices, Kept, arc, arc-kept, single-kept, splice-next-left, splice-next-new, splice-links, splice-every}
 
 -- ---- the edge links, step by step
 
@@ -182,15 +181,31 @@ module _ {m : Map} (s : Shaped m) (room : m .count < point-limit) (p : Point) (l
               cut-elsewhere s l r d (o .not-right) (o .not-to-left) (o .not-to-right);
         }
 
+-- ---- what is kept of the outline: the corners from r to l, or just one corner, left and right
+
+module _ {m : Map} (s : Shaped m) (room : m .count < point-limit) (p : Point) where
+  pub spliced-arc : (l r : ℕ) (between lost : List ℕ) → Circuit m (r ∷ between ++ l ∷ lost) →
+      Kept m (spliced m p l r) l r (arc r between l)
+  spliced-arc l r between lost c =
+      let left = elem-append-right l (r ∷ between) (l ∷ lost) (elem-head l lost) in
+      let right = elem-head r (between ++ l ∷ lost) in
+      arc-kept s room (c .below l left) (c .below r right)
+      (spliced-splices s room p l r (c .helped l left) (c .helped r right)) between lost c
+
+  pub spliced-single : (f : ℕ) (corners : List ℕ) → Circuit m corners → T (elem f corners) →
+      Kept m (spliced m p f f) f f (f ∷ [])
+  spliced-single f corners c on =
+      single-kept (spliced-splices s room p f f (c .helped f on) (c .helped f on)) corners c on
+
 -- ---- the outline
 
 module _ {m : Map} (s : Shaped m) (two : 2 ≤ m .count) (room : m .count < point-limit) (p : Point) (l r : ℕ)
-    (between lost : List ℕ) (c : Circuit m (r ∷ between ++ l ∷ lost)) where
+    (kept : List ℕ) (K : Kept m (spliced m p l r) l r kept) where
   left-helped : T (has-helper m l)
-  left-helped = c .helped l (elem-append-right l (r ∷ between) (l ∷ lost) (elem-head l lost))
+  left-helped = K .was .helped l (K .kept-was l (K .left-kept))
 
   right-helped : T (has-helper m r)
-  right-helped = c .helped r (elem-head r (between ++ l ∷ lost))
+  right-helped = K .was .helped r (K .kept-was r (K .right-kept))
 
   left-below : l < m .count
   left-below = s .links .owned l left-helped
@@ -204,36 +219,28 @@ module _ {m : Map} (s : Shaped m) (two : 2 ≤ m .count) (room : m .count < poin
   pub spliced-links : ShapedLinks (spliced m p l r)
   spliced-links = splice-links s room left-below right-below between-corners
 
-  pub spliced-circuit : Circuit (spliced m p l r) (m .count ∷ arc r between l)
-  spliced-circuit =
-      splice-circuit s room left-below right-below between-corners between lost c
-
-  pub spliced-outline : outline (spliced m p l r) ≡ m .count ∷ arc r between l
+  pub spliced-outline : outline (spliced m p l r) ≡ m .count ∷ kept
   unfolding spliced with-point
   spliced-outline =
-      circuit-outline (m .count) (arc r between l) spliced-circuit (omega arith) (owner-own (m .count))
+      circuit-outline (m .count) kept (K .new-circuit) (omega arith) (owner-own (m .count))
 
-  -- the corners after the new point, after l, and from r to before l
+  -- the corners after the new point and after l
   pub spliced-next-new : next-corner (spliced m p l r) (m .count) ≡ r
   spliced-next-new = splice-next-new between-corners
 
   pub spliced-next-left : next-corner (spliced m p l r) l ≡ m .count
   spliced-next-left = splice-next-left between-corners
 
-  pub spliced-next : (x : ℕ) → T (elem x (r ∷ between)) → next-corner (spliced m p l r) x ≡ next-corner m x
-  spliced-next =
-      splice-next s room left-below right-below between-corners between lost c
-
   pub spliced-sound : T (in-range p) → ((k : ℕ) → k < m .count → point m k ≢ p) →
-      AllLeft (spliced m p l r) (m .count ∷ arc r between l) → Shaped (spliced m p l r)
+      AllBeside (spliced m p l r) (m .count ∷ kept) → Shaped (spliced m p l r)
   unfolding spliced with-point
   spliced-sound ranged differs left =
       sound-with-outline
       (with-point-sound s room p (set (m .helpers) (m .count) true)
       (join (own (m .count)) (helper r) (left-joined m l r)) (own (m .count)) ranged differs)
-      spliced-links (omega arith) (m .count ∷ arc r between l) spliced-circuit spliced-outline (is-own-own (m .count))
-      (rw (owner-own (m .count)) (elem-head (m .count) (arc r between l)))
-      (splice-every s room left-below right-below between-corners between lost c two
+      spliced-links (omega arith) (m .count ∷ kept) (K .new-circuit) spliced-outline (is-own-own (m .count))
+      (rw (owner-own (m .count)) (elem-head (m .count) kept))
+      (splice-every s room left-below right-below between-corners kept K two
       (spliced-helper-old s room p l r))
       left
 
@@ -256,16 +263,15 @@ module _ {m : Map} (s : Shaped m) (two : 2 ≤ m .count) (room : m .count < poin
 
   -- every point lies beside the outline's edges where the new one lies beside those that stay, and
   -- the old ones beside the edge from l to it and the edge from it to r
-  pub spliced-left :
-      ((a : ℕ) → T (elem a (r ∷ between)) → T (beside (point m a) (point m (next-corner m a)) p)) →
+  pub spliced-beside :
+      ((a : ℕ) → T (elem a kept) → a ≢ l → T (beside (point m a) (point m (next-corner m a)) p)) →
       ((k : ℕ) → k < m .count → k ≢ l → T (beside (point m l) p (point m k))) →
       ((k : ℕ) → k < m .count → k ≢ r → T (beside p (point m r) (point m k))) →
-      AllLeft (spliced m p l r) (m .count ∷ arc r between l)
-  spliced-left stay from-left to-right a k h b not-start not-end =
+      AllBeside (spliced m p l r) (m .count ∷ kept)
+  spliced-beside stay from-left to-right a k h b not-start not-end =
       ⊎-elim at-new
-      (λ o.
-      ⊎-elim at-remaining (λ (i : T (elem a (l ∷ []))). at-left (elem-one a l i)) (elem-append a (r ∷ between) (l ∷ []) o))
-      (elem-cases a (m .count) (arc r between l) h)
+      (λ o. ⊎-elim at-left (at-remaining o) (same-or-not a l))
+      (elem-cases a (m .count) kept h)
     where
       next : ℕ → ℕ
       next = next-corner (spliced m p l r)
@@ -290,16 +296,16 @@ module _ {m : Map} (s : Shaped m) (two : 2 ≤ m .count) (room : m .count < poin
           rw (to, e, spliced-point-old l left-below, spliced-point-new, spliced-point-old k below)
           (from-left k below (λ i. not-start (i ∙ sym e)))
 
-      at-remaining : T (elem a (r ∷ between)) → Beside
-      at-remaining i =
-          let on =
-          circuit-on-outline s two (r ∷ between ++ l ∷ lost) c a (elem-append-left a (r ∷ between) (l ∷ lost) i) in
+      at-remaining : T (elem a kept) → a ≢ l → Beside
+      at-remaining i other =
+          let on = circuit-on-outline s two (K .corners) (K .was) a (K .kept-was a i) in
+          let stays = K .kept-next a i other in
           let here = outline-circuit s two .below a on in
           let there = outline-circuit s two .below (next-corner m a) (outline-next s two a on .1) in
-          rw (spliced-next a i, spliced-point-old a here, spliced-point-old (next-corner m a) there)
+          rw (stays, spliced-point-old a here, spliced-point-old (next-corner m a) there)
           (⊎-elim
-          (λ (e : k ≡ m .count). rw (e, spliced-point-new) (stay a i))
+          (λ (e : k ≡ m .count). rw (e, spliced-point-new) (stay a i other))
           (λ (n : k ≢ m .count).
           rw (spliced-point-old k (old n))
-          (s .outlined two .left a k on (old n) not-start (λ j. not-end (j ∙ sym (spliced-next a i)))))
+          (s .outlined two .others a k on (old n) not-start (λ j. not-end (j ∙ sym stays))))
           (same-or-not k (m .count)))

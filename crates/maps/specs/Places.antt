@@ -1,21 +1,27 @@
 -- Points by their places in a map's arrays, in the order of this page: that the arrays have places for
--- so many; whether a point is new among them; whether a point lies beside an edge.
+-- so many; that all of them, and a point beside them, are in range; whether a point is new among them;
+-- whether a point lies beside an edge.
 use mathlib.Core.Bool.{Bool, not, _&&_}
 use mathlib.Core.List.{List}
 use Prim.Native.Nat.{ℕ, _≤_}
-use lib.Dec.{eqb}
+use lib.Dec.{T, eqb}
 use lib.IntN.{ℤ}
 use lib.ListN.{length}
 use Rattle.finite.specs.Tests.{_⇒_}
 use Rattle.finite.specs.Bounded.{all}
 use Rattle.model.specs.declared.Point.{Point}
-use Rattle.model.specs.Plane.{same-point, beside}
+use Rattle.model.specs.Plane.{in-range, same-point, beside}
 use Rattle.model.specs.Maps.{point-at}
 
 -- arrays that hold the coordinates of n points
 pub record PlacesFor (xs ys : List ℤ) (n : ℕ) : Type 0 where
   pub xs-hold : n ≤ length xs
   pub ys-hold : n ≤ length ys
+
+-- places that hold points in range, as those of a sound map do past its last point too, and a point in range
+pub record RangedQuery (xs ys : List ℤ) (p : Point) : Type 0 where
+  pub places : (k : ℕ) → T (in-range (point-at xs ys k))
+  pub offered : T (in-range p)
 
 -- p is none of the first n points
 abbrev pub new-at : List ℤ → List ℤ → ℕ → Point → Bool

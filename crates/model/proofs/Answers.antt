@@ -20,7 +20,6 @@ number-most Refusal.NotSound = omega arith
 number-most Refusal.Full = omega arith
 number-most Refusal.OutOfRange = omega arith
 number-most Refusal.Repeated = omega arith
-number-most Refusal.InLine = omega arith
 number-most Refusal.NoDart = omega arith
 number-most Refusal.BadFile = omega arith
 number-most Refusal.BadLine = omega arith

@@ -23,7 +23,7 @@ use Rattle.model.specs.declared.Map.{Map}
 use Rattle.model.specs.Plane.{origin, coordinate-in-range, in-range, same-point, beside}
 use Rattle.model.specs.Maps.{point-limit, no-dart, own, owner, is-own, point, has-helper, is-present, edge-link, point-link, dart-bound}
 use Rattle.model.specs.Outline.{next-corner, outline}
-use Rattle.model.specs.Sound.{arrays-whole, count-fits, points-in-range, points-differ, places-vacant, helpers-owned, absent-fixed, links-undo, edges-cross, lone-fixed, one-outline, reference-on-outline, others-left, no-outline, sound, Shaped, ShapedLinks}
+use Rattle.model.specs.Sound.{arrays-whole, count-fits, points-in-range, points-differ, places-vacant, helpers-owned, absent-fixed, links-undo, edges-cross, lone-fixed, one-outline, reference-on-outline, others-beside, no-outline, sound, Shaped, ShapedLinks}
 
 -- equal points, as a test and as an equation
 pub same-point-eq : (p q : Point) → T (same-point p q) → p ≡ q
@@ -90,7 +90,7 @@ record EachTest (m : Map) : Type 0 where
   undone : T (links-undo m)
   crossed : T (edges-cross m)
   lone : T (lone-fixed m)
-  two : T (leb 2 (m .count) ⇒ (one-outline m && reference-on-outline m && others-left m))
+  two : T (leb 2 (m .count) ⇒ (one-outline m && reference-on-outline m && others-beside m))
   fewer : T (ltb (m .count) 2 ⇒ no-outline m)
 
 each-test : (m : Map) → T (sound m) → EachTest m
@@ -173,11 +173,11 @@ module _ (m : Map) (t : EachTest m) where
     record OutlineTests : Type 0 where
       one : T (one-outline m)
       reference : T (reference-on-outline m)
-      left : T (others-left m)
+      others : T (others-beside m)
 
     outline-tests : OutlineTests
     outline-tests =
-        let c = implies-use (leb 2 (m .count)) (one-outline m && reference-on-outline m && others-left m) (t .two) (le→leb 2 (m .count) h) in
+        let c = implies-use (leb 2 (m .count)) (one-outline m && reference-on-outline m && others-beside m) (t .two) (le→leb 2 (m .count) h) in
         search (and-left, and-right)
 
     record Reference : Type 0 where
@@ -189,13 +189,13 @@ module _ (m : Map) (t : EachTest m) where
     unfolding reference-on-outline
     reference-is = let c = outline-tests .reference in search (and-left, and-right)
 
-    strictly-left : (a c : ℕ) → T (elem a (outline m)) → c < m .count → c ≢ a → c ≢ next-corner m a →
+    others-are-beside : (a c : ℕ) → T (elem a (outline m)) → c < m .count → c ≢ a → c ≢ next-corner m a →
         T (beside (point m a) (point m (next-corner m a)) (point m c))
-    unfolding others-left
-    strictly-left a c on l not-start not-end =
+    unfolding others-beside
+    others-are-beside a c on l not-start not-end =
         implies-use (not (eqb c a) && not (eqb c (next-corner m a)))
         (beside (point m a) (point m (next-corner m a)) (point m c))
-        (all-at (m .count) _ (all-elem _ (outline m) (outline-tests .left) a on) c l)
+        (all-at (m .count) _ (all-elem _ (outline m) (outline-tests .others) a on) c l)
         (and-both (not (eqb c a)) (not (eqb c (next-corner m a)))
         (differ-by c a not-start)
         (differ-by c (next-corner m a) not-end))
@@ -264,7 +264,7 @@ sound-holds m s =
             reference-own = reference-is m t h .own-dart;
             reference-present = reference-is m t h .there;
             reference-closed = reference-is m t h .closed;
-            left = strictly-left m t h;
+            others = others-are-beside m t h;
           };
       bare =
           λ h.
@@ -330,9 +330,9 @@ module _ (m : Map) (s : Shaped m) where
       implies-by (not (has-helper m k)) (is-fixed (edge-link m) (own k))
       (λ none. equal-by _ _ (s .links .lone k (T-not (has-helper m k) none))))
 
-  left-by : 2 ≤ m .count → T (others-left m)
-  unfolding others-left
-  left-by h =
+  others-by : 2 ≤ m .count → T (others-beside m)
+  unfolding others-beside
+  others-by h =
       all-of-elem _ (outline m)
       (λ a on.
       all-by (m .count) _
@@ -340,14 +340,14 @@ module _ (m : Map) (s : Shaped m) where
       implies-by (not (eqb c a) && not (eqb c (next-corner m a)))
       (beside (point m a) (point m (next-corner m a)) (point m c))
       (λ p.
-      s .outlined h .left a c on l
+      s .outlined h .others a c on l
       (differ-use c a (and-left (not (eqb c a)) (not (eqb c (next-corner m a))) p))
       (differ-use c (next-corner m a) (and-right (not (eqb c a)) (not (eqb c (next-corner m a))) p)))))
 
-  two-by : T (leb 2 (m .count) ⇒ (one-outline m && reference-on-outline m && others-left m))
-  unfolding one-outline reference-on-outline others-left
+  two-by : T (leb 2 (m .count) ⇒ (one-outline m && reference-on-outline m && others-beside m))
+  unfolding one-outline reference-on-outline others-beside
   two-by =
-      implies-by (leb 2 (m .count)) (one-outline m && reference-on-outline m && others-left m)
+      implies-by (leb 2 (m .count)) (one-outline m && reference-on-outline m && others-beside m)
       (λ c.
       let h = leb→le 2 (m .count) c in
       let one : T (one-outline m) = equal-by _ _ (s .outlined h .one-walk) in
@@ -355,7 +355,7 @@ module _ (m : Map) (s : Shaped m) where
       let b = s .outlined h .reference-present in
       let d = s .outlined h .reference-closed in
       let on : T (reference-on-outline m) = search and-both in
-      let left = left-by h in
+      let others = others-by h in
       search and-both)
 
   bare-by : m .count < 2 → T (all-in not (m .helpers))

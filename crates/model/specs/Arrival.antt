@@ -1,22 +1,23 @@
--- The arrival of a point, in the order of this page: how links are cut and made; the left and the
--- right corner; the map after each arrival; the refusals of a sound map. Offers to any map are specs/Offers.
--- Document 01, "Orientation and arrival".
+-- The arrival of a point, in the order of this page: how links are cut and made; the corners where what
+-- is visible turns; a point in line beyond an outline of two corners; the left and the right corner; the
+-- map after each arrival; the refusals of a sound map. Offers to any map are specs/Offers.
+-- Document 01, "Orientation and arrival", and document 02, request 106.
 use mathlib.Core.Bool.{Bool, true, not, cond, _&&_}
 use mathlib.Core.List.{List, [], _∷_}
 use Prim.Native.Nat.{ℕ, suc}
 use lib.Dec.{leb, eqb}
-use lib.ListN.{getD, set}
+use lib.ListN.{length, getD, set}
 use Rattle.finite.specs.Bounded.{any}
-use Rattle.finite.specs.Lists.{first-in}
+use Rattle.finite.specs.Lists.{any-in, first-in}
 use Rattle.model.specs.declared.Refusal.{Refusal}
 use Rattle.model.specs.declared.Point.{Point}
 use Rattle.model.specs.declared.Map.{Map}
 use Rattle.model.specs.declared.Arrival.{Arrival}
 use Rattle.model.specs.declared.Offered.{Offered}
 use Rattle.model.specs.Refusals.{Rule, _when_, unless}
-use Rattle.model.specs.Plane.{in-range, same-point, in-line}
+use Rattle.model.specs.Plane.{in-range, same-point, strictly-between}
 use Rattle.model.specs.Maps.{point-limit, own, helper, point}
-use Rattle.model.specs.Outline.{previous-corner, outline, sees, visible-edges}
+use Rattle.model.specs.Outline.{next-corner, previous-corner, outline, sees, visible-edges}
 
 -- the edge links with d's partner fixed, and with a and b each other's partner
 unfoldable pub cut : ℕ → List ℕ → List ℕ
@@ -27,11 +28,30 @@ join a b edge = set (set edge a b) b a
 
 -- "The left corner is the one whose entering edge is not visible and whose leaving edge is; the
 -- right corner the reverse."
+unfoldable pub turning-left : Map → Point → ℕ
+turning-left m p = first-in (λ a. not (sees m p (previous-corner m a)) && sees m p a) 0 (outline m)
+
+unfoldable pub turning-right : Map → Point → ℕ
+turning-right m p = first-in (λ a. sees m p (previous-corner m a) && not (sees m p a)) 0 (outline m)
+
+-- the corner after a lies strictly between a and p: of the two, a is the one farther from p
+unfoldable pub is-farther : Map → Point → ℕ → Bool
+is-farther m p a = strictly-between (point m a) p (point m (next-corner m a))
+
+-- "the whole outline is two corners and the new point is in line beyond one of them": all of its edges are
+-- visible then, and none is where what is visible turns
+unfoldable pub is-beyond : Map → Point → Bool
+is-beyond m p = eqb (length (outline m)) 2 && any-in (is-farther m p) (outline m)
+
+-- "left and right are both the corner farther from the new point"
+unfoldable pub farther : Map → Point → ℕ
+farther m p = first-in (is-farther m p) 0 (outline m)
+
 unfoldable pub left-corner : Map → Point → ℕ
-left-corner m p = first-in (λ a. not (sees m p (previous-corner m a)) && sees m p a) 0 (outline m)
+left-corner m p = cond (is-beyond m p) (farther m p) (turning-left m p)
 
 unfoldable pub right-corner : Map → Point → ℕ
-right-corner m p = first-in (λ a. sees m p (previous-corner m a) && not (sees m p a)) 0 (outline m)
+right-corner m p = cond (is-beyond m p) (farther m p) (turning-right m p)
 
 -- the map with p as its next point, and with these helpers, edge links and reference
 unfoldable pub with-point : Map → Point → List Bool → List ℕ → ℕ → Map
@@ -89,17 +109,12 @@ arrive m p =
 unfoldable pub is-repeated : Map → Point → Bool
 is-repeated m p = any (m .count) (λ k. same-point (point m k) p)
 
--- "in line with two accepted points"
-unfoldable pub is-in-line : Map → Point → Bool
-is-in-line m p = any (m .count) (λ j. any j (λ i. in-line (point m i) (point m j) p))
-
 -- why a sound map refuses a point
 abbrev pub admission-rules : Map → Point → List Rule
 admission-rules m p =
     (Refusal.Full when leb point-limit (m .count))
     ∷ (Refusal.OutOfRange when not (in-range p))
     ∷ (Refusal.Repeated when is-repeated m p)
-    ∷ (Refusal.InLine when is-in-line m p)
     ∷ []
 
 -- the map as it was, and the refusal

@@ -1,7 +1,8 @@
 -- Questions of ours, beside document 01's (specs/Questions): one list with the answers that
 -- document 01's sentences give, and one check over it. They pin what no starred question looks at,
 -- in the order of this page: every case of every answer; every limit; what is unsound; the
--- session's two sums, its orbits and walkers; where a point lies; lent lists; files; lines of text.
+-- session's two sums, its orbits and walkers; where a point lies; marks along a rail; lent lists; files;
+-- lines of text.
 use mathlib.Core.Bool.{Bool, true}
 use mathlib.Core.List.{List, [], _∷_, _++_, map, flatMap, flatten}
 use Prim.Native.Nat.{ℕ, _+_, _*_}
@@ -50,11 +51,11 @@ use Rattle.model.specs.Outline.{visible-edges, lowest-corner, corners}
 use Rattle.model.specs.Sound.{arrays-whole, count-fits, points-in-range, points-differ}
 use Rattle.model.specs.Sound.{places-vacant, helpers-owned, absent-fixed, links-undo}
 use Rattle.model.specs.Sound.{edges-cross, lone-fixed, one-outline, reference-on-outline}
-use Rattle.model.specs.Sound.{others-left, no-outline, sound}
+use Rattle.model.specs.Sound.{others-beside, no-outline, sound}
 use Rattle.model.specs.Reading.{links-of, number-of, darts, counts, orbit-set, walker-call}
-use Rattle.model.specs.Arrival.{cut, join, left-corner, right-corner, with-point, alone, pair}
-use Rattle.model.specs.Arrival.{spliced, later-point, arrive, is-repeated, is-in-line}
-use Rattle.model.specs.Arrival.{admission-rules}
+use Rattle.model.specs.Arrival.{cut, join, turning-left, turning-right, is-farther, is-beyond}
+use Rattle.model.specs.Arrival.{farther, left-corner, right-corner, with-point, alone, pair}
+use Rattle.model.specs.Arrival.{spliced, later-point, arrive, is-repeated, admission-rules}
 use Rattle.model.specs.Offers.{offer}
 use Rattle.model.specs.History.{Entry, Run, is-accepted, extended, run-from, run, reported}
 use Rattle.model.specs.History.{reported-edges, is-outside, outside-arrivals, edges-seen}
@@ -86,8 +87,7 @@ short = 10 ∷ bytes "refused 10\n"
 
 refusals : List Refusal
 refusals =
-    Refusal.NotSound ∷ Refusal.Full ∷ Refusal.OutOfRange ∷ Refusal.Repeated ∷ Refusal.InLine
-    ∷ Refusal.NoDart
+    Refusal.NotSound ∷ Refusal.Full ∷ Refusal.OutOfRange ∷ Refusal.Repeated ∷ Refusal.NoDart
     ∷ Refusal.BadFile
     ∷ Refusal.BadLine
     ∷ Refusal.LongText
@@ -106,7 +106,8 @@ walk-to ending = record { last = 1; ending = ending; moves = 2 }
 
 answers : List Question
 answers =
-    (map number refusals is 1 ∷ 2 ∷ 3 ∷ 4 ∷ 5 ∷ 6 ∷ 7 ∷ 8 ∷ 9 ∷ 10 ∷ [])
+    -- 5 is withdrawn
+    (map number refusals is 1 ∷ 2 ∷ 3 ∷ 4 ∷ 6 ∷ 7 ∷ 8 ∷ 9 ∷ 10 ∷ [])
     ∷ (told (oriented-answer (Oriented.Value (negℤ (pos 12)))) is says "orientation -12\n")
     ∷ (told (oriented-answer (Oriented.Refused Refusal.ShortList)) is short)
     ∷ (told (arrival-answer Arrival.First) is says "first\n")
@@ -302,6 +303,43 @@ of-few none one two =
     is 1 ∷ 2 ∷ 0 ∷ [])
     ∷ []
 
+-- ---- marks along a rail
+
+rail : List Point
+rail = at (pos 0) (pos 0) ∷ at (pos 2) (pos 0) ∷ at (pos 4) (pos 0) ∷ []
+
+of-rail : Run → List Question
+of-rail r =
+    -- the edge links 0-5 and 4-1, those of the point between fixed, and reference 4
+    (map (edge-link (r .map)) (0 ∷ 5 ∷ 4 ∷ 1 ∷ 2 ∷ 3 ∷ []) is 5 ∷ 0 ∷ 1 ∷ 4 ∷ 2 ∷ 3 ∷ [])
+    ∷ (r .map .reference ∷ [] is 4 ∷ [])
+    ∷ (sums r is (3 + 4 + 3) ∷ (6 + 2 * 2) ∷ (2 + 2) ∷ (2 * 1 + 2) ∷ [])
+    -- "Placing a point keeps its old count of strictly visible edges"; the point between is on both edges
+    ∷ (flatten
+    (placings (r .map)
+    (at (pos 6) (pos 0) ∷ at (negℤ (pos 1)) (pos 0) ∷ at (pos 2) (pos 0) ∷ at (pos 1) (pos 1) ∷ []))
+    is flatten (says "outside 0\n" ∷ says "outside 0\n" ∷ says "edge 0 2\n" ∷ says "outside 1\n" ∷ []))
+    -- "or zero and lie between the edge's ends": sound, and with the point between moved beyond an end not
+    ∷ (map (λ x. one-if (sound (with-xs (set (r .map .xs) 1 x) (r .map)))) (pos 3 ∷ pos 5 ∷ []) is 1 ∷ 0 ∷ [])
+    ∷ []
+
+rails : List Question
+rails =
+    (report (bytes "0 0\n2 0\n4 0\n")
+    is bytes "OUTLINE 1\n0 first\n1 second\n2 outside 0 0 2\ncorners 0 2\ncounts 6 3 4 3 2\n")
+    -- beyond the other end; on the rail between its ends; beside it
+    ∷ (report (bytes "0 0\n2 0\n4 0\n-2 0\n1 0\n1 1\n")
+    is bytes
+    "OUTLINE 1\n0 first\n1 second\n2 outside 0 0 2\n3 outside 2 2 2\n4 inside\n5 outside 2 3 1\ncorners 3 2 5\ncounts 11 6 8 5 4\n")
+    -- a point on the line of an edge of three or more, beyond its end: the corner there leaves
+    ∷ (report (bytes "0 0\n4 0\n4 4\n0 4\n6 0\n")
+    is bytes
+    "OUTLINE 1\n0 first\n1 second\n2 outside 1 0 1\n3 outside 2 0 1\n4 outside 0 2 2\ncorners 0 4 2 3\ncounts 10 5 6 3 2\n")
+    -- "A point on an edge arrives as inside": of the session's first triangle, and (2,2) after four points
+    ∷ (printed (arrival-answer (offer (after 3) (at (pos 2) (pos 0)) .arrival)) is bytes "inside\n")
+    ∷ (printed (arrival-answer (offer (after 4) (at (pos 2) (pos 2)) .arrival)) is bytes "inside\n")
+    ∷ []
+
 -- ---- lent lists and files
 
 -- the file of one point with a negative coordinate
@@ -380,6 +418,8 @@ pub further-questions : List Question
 further-questions =
     answers ++ limits ++ soundness (after 1) (after 2) five ++ of-session (run session)
     ++ of-few (after 0) (after 1) (after 2)
+    ++ of-rail (run rail)
+    ++ rails
     ++ files (saved (after 2))
     ++ texts
 
@@ -394,14 +434,14 @@ unfolding table-onto all any sum count one-if table elem all-in all-places any-i
     is-present edge-link point-link face-link empty-map next-corner previous-corner corners-from
     outline sees visible-edges lowest-corner corners arrays-whole count-fits points-in-range
     points-differ places-vacant helpers-owned absent-fixed links-undo edges-cross lone-fixed
-    one-outline reference-on-outline others-left no-outline sound links-of number-of darts counts
-    cut join left-corner right-corner with-point alone pair spliced later-point arrive is-repeated
-    is-in-line offer is-accepted extended run-from run reported reported-edges is-outside
-    outside-arrivals edges-seen strictly-visible place-among big-endian number-at
-    complement signed block coordinate header saved-in file-in-form-of map-in is-digit has-minus
+    one-outline reference-on-outline others-beside no-outline sound links-of number-of darts counts
+    cut join turning-left turning-right is-farther is-beyond farther left-corner right-corner
+    with-point alone pair spliced later-point arrive is-repeated offer is-accepted extended run-from
+    run reported reported-edges is-outside outside-arrivals edges-seen strictly-visible place-among
+    big-endian number-at complement signed block coordinate header saved-in file-in-form-of map-in is-digit has-minus
     digits value-after magnitude is-number number-value line-read in-first-line lines one-line spaced printed
     offer-line closing arrivals report session after far same-list told says short refusals
     orbit-with five-counts walk-to answers number-of-rules crowded beyond-far limits five with-xs
     with-links with-reference chained unsound-maps sound-maps soundness orbit-sizes moves placings
-    sums of-session of-few one-point files number-of-line lent-line texts further-questions
+    sums of-session of-few rail of-rail rails one-point files number-of-line lent-line texts further-questions
 further-answers-are-right = tt

@@ -1,6 +1,6 @@
 -- A list of offers from the empty map, in the order of this page: the history and the run; what
 -- its arrivals add up to; every claim of demand 3 about a run, as one record.
--- Document 01, "The oral part, word by word". `(ps : List Point) → Balanced (run ps)` is demand 3.
+-- Document 01, "The oral part, word by word", and document 02, request 106. `(ps : List Point) → Balanced (run ps)` is demand 3.
 use mathlib.Core.Path.{_≡_}
 use mathlib.Core.Logic.{_↔_, _≢_}
 use mathlib.Core.Bool.{Bool, true, false, cond}
@@ -16,7 +16,7 @@ use Rattle.model.specs.declared.Kind.{Kind}
 use Rattle.model.specs.declared.Point.{Point}
 use Rattle.model.specs.declared.Map.{Map}
 use Rattle.model.specs.declared.Arrival.{Arrival}
-use Rattle.model.specs.Plane.{left-of}
+use Rattle.model.specs.Plane.{left-of, beside}
 use Rattle.model.specs.Maps.{own, helper, is-own, point, is-present, edge-link, point-link, dart-bound, empty-map}
 use Rattle.model.specs.Outline.{next-corner, outline, visible-edges}
 use Rattle.model.specs.Reading.{darts, number-of}
@@ -122,10 +122,15 @@ pub record Balanced (r : Run) : Type 0 where
   pub edge-to-next :
       (a : ℕ) → T (elem a (outline (r .map))) →
       edge-link (r .map) (own a) ≡ helper (next-corner (r .map) a)
-  -- "Strictly left of the edge from corner a to corner b means positive orientation with (a, b)."
-  pub others-strictly-left :
+  -- "left of each outline edge or on it": every point but the two ends of the edge
+  pub others-beside :
       (a c : ℕ) → T (elem a (outline (r .map))) → c < r .map .count → c ≢ a → c ≢ next-corner (r .map) a →
-      T (left-of (point (r .map) a) (point (r .map) (next-corner (r .map) a)) (point (r .map) c))
+      T (beside (point (r .map) a) (point (r .map) (next-corner (r .map) a)) (point (r .map) c))
+  -- "three or more corners still turn strictly left": at the corner between a and the one after the next
+  pub corners-turn-left :
+      3 ≤ length (outline (r .map)) → (a : ℕ) → T (elem a (outline (r .map))) →
+      T (left-of (point (r .map) a) (point (r .map) (next-corner (r .map) a))
+      (point (r .map) (next-corner (r .map) (next-corner (r .map) a))))
   -- "Each adds the number of visible edges it reported, which is the number of outline edges visible
   -- from its point in the map before it. Other arrivals add none."
   pub reports-right : map reported-edges (r .history) ≡ map edges-seen (r .history)

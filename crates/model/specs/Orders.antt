@@ -26,7 +26,7 @@ module _ (m : Map) (p q r : Point) (kind : Kind) (link : Link) (d : ℕ) (s lent
   unfolding number
   orientation-order = refl
 
-  pub offer-order : numbers-of (offer-call m p .rules) ≡ 1 ∷ 2 ∷ 3 ∷ 4 ∷ 5 ∷ []
+  pub offer-order : numbers-of (offer-call m p .rules) ≡ 1 ∷ 2 ∷ 3 ∷ 4 ∷ []
   unfolding number
   offer-order = refl
 

@@ -1,8 +1,8 @@
 -- Points of the plane, in the order of this page: the coordinate limit and the range; equal
--- points; orientation, its three cases, what lies beside an edge and what an arrival sees,
--- and the answer of the call; strictly between two points; lower than a point.
--- Document 01, "Orientation and arrival" and the coordinates of "What the engine holds". The
--- numbers are whole numbers without a bound: a `Point` of antt holds two of ℤ.
+-- points; orientation and its three cases; strictly between two points; what lies beside an edge
+-- and what an arrival sees; the answer of the call; lower than a point.
+-- Document 01, "Orientation and arrival" and the coordinates of "What the engine holds"; document 02,
+-- request 106. The numbers are whole numbers without a bound: a `Point` of antt holds two of ℤ.
 use mathlib.Core.Bool.{Bool, not, _&&_, _||_}
 use mathlib.Core.List.{[], _∷_}
 use Prim.Native.Nat.{ℕ, _*_}
@@ -48,7 +48,7 @@ orientation-limit = 4 * (coordinate-limit * coordinate-limit)
 unfoldable pub left-of : Point → Point → Point → Bool
 left-of a b c = ltZ (pos 0) (orientation a b c)
 
--- "negative means edge a to b is visible from c"
+-- "negative means edge a to b is visible from c": strictly visible, as a placed point sees it
 unfoldable pub visible-from : Point → Point → Point → Bool
 visible-from a b c = ltZ (orientation a b c) (pos 0)
 
@@ -56,14 +56,20 @@ visible-from a b c = ltZ (orientation a b c) (pos 0)
 unfoldable pub in-line : Point → Point → Point → Bool
 in-line a b c = not (left-of a b c) && not (visible-from a b c)
 
--- "every point but a and b has positive orientation with (a, b)": c lies beside the edge from a to
--- b, as all other points of a sound map lie beside each outline edge
-unfoldable pub beside : Point → Point → Point → Bool
-beside a b c = left-of a b c
+-- p lies in line with a and b and strictly between them: a and b lie on opposite sides of p
+unfoldable pub strictly-between : Point → Point → Point → Bool
+strictly-between a b p =
+    in-line a b p && ltZ ((a .x -ℤ p .x) *ℤ (b .x -ℤ p .x) +ℤ (a .y -ℤ p .y) *ℤ (b .y -ℤ p .y)) (pos 0)
 
--- "visible" where an arrival goes by it: a point c that arrives sees the edge from a to b
+-- "positive orientation, or zero and lie between the edge's ends": c lies beside the edge from a to b,
+-- left of it or on it, as all other points of a sound map lie beside each outline edge
+unfoldable pub beside : Point → Point → Point → Bool
+beside a b c = left-of a b c || strictly-between a b c
+
+-- "visible also when the point is on its line but not between its ends": a point c that arrives sees the
+-- edge from a to b, which it is not beside
 unfoldable pub sees-edge : Point → Point → Point → Bool
-sees-edge a b c = visible-from a b c
+sees-edge a b c = not (beside a b c)
 
 -- the orientation of three points, or number 3
 abbrev pub orientation-call : Point → Point → Point → Call Oriented
@@ -77,11 +83,6 @@ orientation-call a b c =
 
 unfoldable pub oriented : Point → Point → Point → Oriented
 oriented a b c = answer-of (orientation-call a b c)
-
--- p lies in line with a and b and strictly between them: a and b lie on opposite sides of p
-unfoldable pub strictly-between : Point → Point → Point → Bool
-strictly-between a b p =
-    in-line a b p && ltZ ((a .x -ℤ p .x) *ℤ (b .x -ℤ p .x) +ℤ (a .y -ℤ p .y) *ℤ (b .y -ℤ p .y)) (pos 0)
 
 -- p comes before q in "the smallest y, then the smallest x"
 unfoldable pub lower : Point → Point → Bool

@@ -1,5 +1,6 @@
 -- The starred questions of document 01, "Oral questions", as one list with their expected answers,
--- and the one check over it, which the prover computes from the definitions.
+-- and the one check over it, which the prover computes from the definitions. Request 106 withdraws
+-- number 5 and its case, (2,2) after four points: what that offer gets now is one of our questions.
 use mathlib.Core.Bool.{Bool, true, false, _&&_}
 use mathlib.Core.List.{List, [], _∷_, map, flatMap, flatten}
 use Prim.Native.Nat.{ℕ, _+_, _^_}
@@ -20,10 +21,11 @@ use Rattle.model.specs.Refusals.{number, unless}
 use Rattle.model.specs.Plane.{at, coordinate-in-range, in-range, same-point, orientation, left-of, visible-from, in-line, beside, sees-edge, oriented, strictly-between, lower}
 use Rattle.model.specs.Maps.{other-dart, point, has-helper, is-present, edge-link, point-link, face-link, empty-map}
 use Rattle.model.specs.Outline.{next-corner, previous-corner, corners-from, outline, sees, visible-edges, lowest-corner, corners}
-use Rattle.model.specs.Sound.{arrays-whole, count-fits, points-in-range, points-differ, places-vacant, helpers-owned, absent-fixed, links-undo, edges-cross, lone-fixed, one-outline, reference-on-outline, others-left, no-outline, sound}
+use Rattle.model.specs.Sound.{arrays-whole, count-fits, points-in-range, points-differ, places-vacant, helpers-owned, absent-fixed, links-undo, edges-cross, lone-fixed, one-outline, reference-on-outline, others-beside, no-outline, sound}
 use Rattle.model.specs.Reading.{links-of, number-of, darts, counts, counted, orbit-of, walked}
 use Rattle.model.specs.Answers.{oriented-answer, arrival-answer, counted-answer, walked-answer}
-use Rattle.model.specs.Arrival.{cut, join, left-corner, right-corner, with-point, alone, pair, spliced, later-point, arrive, is-repeated, is-in-line}
+use Rattle.model.specs.Arrival.{cut, join, turning-left, turning-right, is-farther, is-beyond, farther, left-corner, right-corner}
+use Rattle.model.specs.Arrival.{with-point, alone, pair, spliced, later-point, arrive, is-repeated}
 use Rattle.model.specs.Offers.{offer}
 use Rattle.model.specs.History.{is-accepted, extended, run-from, run}
 use Rattle.model.specs.Saved.{big-endian, complement, block, coordinate, header, saved-in, saved}
@@ -91,7 +93,6 @@ questions =
     ∷ (orientation-of (at (negℤ far) (negℤ far)) (at far (negℤ far)) (at far far)
     is bytes "orientation 4000000000000\n")
     -- refusals after four points, and at the end of the range
-    ∷ (offered (after 4) (pos 2) (pos 2) is bytes "refused 5\n")
     ∷ (offered (after 4) (pos 4) (pos 0) is bytes "refused 4\n")
     ∷ (offered (after 0) (pos 1_000_000) (pos 0) is bytes "first\n")
     ∷ (offered (after 0) (pos 1_000_001) (pos 0) is bytes "refused 3\n")
@@ -109,12 +110,11 @@ unfolding table-onto all any sum count one-if table elem all-in all-places any-i
     edge-link point-link face-link empty-map next-corner previous-corner corners-from outline sees visible-edges
     lowest-corner corners arrays-whole count-fits points-in-range points-differ places-vacant
     helpers-owned absent-fixed links-undo edges-cross lone-fixed one-outline
-    reference-on-outline others-left no-outline sound links-of number-of darts counts counted
+    reference-on-outline others-beside no-outline sound links-of number-of darts counts counted
     orbit-of walked oriented-answer arrival-answer counted-answer walked-answer oriented cut join
-    left-corner right-corner with-point alone pair spliced later-point arrive is-repeated
-    is-in-line offer is-accepted extended run-from run big-endian complement block coordinate header
-    saved-in is-digit
-    has-minus digits value-after magnitude is-number number-value line-read in-first-line lines
+    turning-left turning-right is-farther is-beyond farther left-corner right-corner with-point
+    alone pair spliced later-point arrive is-repeated offer is-accepted extended run-from run
+    big-endian complement block coordinate header saved-in is-digit has-minus digits value-after magnitude is-number number-value line-read in-first-line lines
     spaced printed offer-line closing arrivals report session after offered orientation-of counts-of far
     questions same-list
 answers-are-right = tt

@@ -9,13 +9,12 @@ use Prim.Native.Nat.{ℕ}
 use lib.Dec.{T}
 use Rattle.model.specs.declared.Refusal.{Refusal}
 
--- the number of each refusal, as the table has it
+-- the number of each refusal, as the table has it: 5 is withdrawn (request 106) and is not used again
 unfoldable pub number : Refusal → ℕ
 number Refusal.NotSound = 1
 number Refusal.Full = 2
 number Refusal.OutOfRange = 3
 number Refusal.Repeated = 4
-number Refusal.InLine = 5
 number Refusal.NoDart = 6
 number Refusal.BadFile = 7
 number Refusal.BadLine = 8

@@ -88,9 +88,10 @@ reference-on-outline m =
     && is-closed (edge-link m) (point-link m) (dart-bound m) (m .reference)
 
 -- "For each outline edge from corner a to corner b, every point but a and b has positive
--- orientation with (a, b)."
-unfoldable pub others-left : Map → Bool
-others-left m =
+-- orientation with (a, b)", and by request 106 "positive orientation, or zero and lie between the
+-- edge's ends"
+unfoldable pub others-beside : Map → Bool
+others-beside m =
     all-in
     (λ a.
     all (m .count)
@@ -112,7 +113,7 @@ sound m =
     && links-undo m
     && edges-cross m
     && lone-fixed m
-    && (leb 2 (m .count) ⇒ (one-outline m && reference-on-outline m && others-left m))
+    && (leb 2 (m .count) ⇒ (one-outline m && reference-on-outline m && others-beside m))
     && (ltb (m .count) 2 ⇒ no-outline m)
 
 -- ---- the same as statements
@@ -139,8 +140,8 @@ pub record ShapedLinks (m : Map) : Type 0 where
   pub lone : (k : ℕ) → ¬ T (has-helper m k) → edge-link m (own k) ≡ own k
 
 -- every other point lies beside each edge that leaves a corner of the list
-abbrev pub AllLeft : Map → List ℕ → Type 0
-AllLeft m s =
+abbrev pub AllBeside : Map → List ℕ → Type 0
+AllBeside m s =
     (a c : ℕ) → T (elem a s) → c < m .count → c ≢ a → c ≢ next-corner m a →
     T (beside (point m a) (point m (next-corner m a)) (point m c))
 
@@ -150,7 +151,7 @@ pub record ShapedOutline (m : Map) : Type 0 where
   pub reference-own : T (is-own (m .reference))
   pub reference-present : T (is-present m (m .reference))
   pub reference-closed : T (is-closed (edge-link m) (point-link m) (dart-bound m) (m .reference))
-  pub left : AllLeft m (outline m)
+  pub others : AllBeside m (outline m)
 
 -- fewer points
 pub record Bare (m : Map) : Type 0 where

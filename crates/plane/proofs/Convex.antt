@@ -1,8 +1,8 @@
 -- A convex outline, in the order of this page: points numbered below n, and a list of some of them,
--- the corners, round which `next` and `prev` lead, so that all other points lie strictly left of
--- each edge; the list may begin at any corner, and is the ring that `next` makes; `next` and `prev`
--- lead from corner to corner and back; a point that is general of the numbered ones, and the edges it
--- sees, which are not all.
+-- the corners, round which `next` and `prev` lead, so that all other points lie beside each edge, left
+-- of it or on it between its ends; the list may begin at any corner, and is the ring that `next` makes;
+-- `next` and `prev` lead from corner to corner and back; corners lie strictly left of each edge but
+-- their own; of three corners or more no point sees all edges (of two: proofs/Beyond).
 use mathlib.Core.Path.{_≡_, sym, ap, subst, _∙_}
 use mathlib.Core.Logic.{_≢_, ⊎-elim}
 use mathlib.Core.Bool.{Bool, not}
@@ -12,20 +12,20 @@ use native.Mathlib.Omega.{arith}
 use lib.Dec.{T, T-not}
 use lib.IntN.{pos}
 use lib.ListN.{length, length-append}
-use lib.Signed.{_≤ℤ_, _<ℤ_}
-use Rattle.integers.specs.Order.{order, negℤ-splits, <ℤ-weaken, ≡-≤ℤ}
-use Rattle.finite.specs.Tests.{and-left, decide, same-or-not}
-use Rattle.finite.specs.Bounded.{lt-or-ge}
+use lib.Signed.{_≤ℤ_}
+use Rattle.integers.specs.Order.{order, ≡-≤ℤ}
+use Rattle.finite.specs.Tests.{and-left, same-or-not}
 use Rattle.finite.specs.Counting.{count-small}
-use Rattle.finite.specs.Lists.{elem, distinct, ring, all-in}
-use Rattle.finite.specs.ListLaws.{elem-head, elem-tail, all-elem, some-fails, elem-cut, elem-swap}
+use Rattle.finite.specs.Lists.{elem, distinct, ring}
+use Rattle.finite.specs.ListLaws.{elem-head, elem-tail, elem-cut, elem-swap}
 use Rattle.finite.specs.Distinct.{length-distinct, distinct-apart, distinct-swap}
 use Rattle.finite.specs.Cycles.{Chain, Cycle}
 use Rattle.finite.specs.CycleLaws.{cycle-swap, cycle-change, cycle-after, cycle-before, cycle-map, chain-last, ring-of-cycle}
 use Rattle.model.specs.declared.Point.{Point}
-use Rattle.model.specs.Plane.{orientation, left-of, sees-edge, in-line}
-use Rattle.plane.proofs.Orientation.{orientation-cyclic, orientation-swap, orientation-twice, left-positive, visible-negative, in-line-zero, zero-in-line}
-use Rattle.plane.proofs.Fan.{fan-fixed, fan-nonneg, fan-neg}
+use Rattle.model.specs.Plane.{orientation, left-of, beside, sees-edge}
+use Rattle.plane.proofs.Orientation.{orientation-cyclic, orientation-twice, left-positive, positive-left}
+use Rattle.plane.proofs.Fan.{fan-fixed, fan-pos, fan-nonpos}
+use Rattle.plane.proofs.Betweenness.{Between, between-symmetric, between-both-left, between-one-side, beside-between, beside-cases, beside-nonneg, beside-zero, not-both-beside, seen-nonpos}
 
 -- two numbers that cannot differ are the same
 pub same-unless : (a b : ℕ) → ¬ (a ≢ b) → a ≡ b
@@ -40,7 +40,7 @@ pub record Convex (n : ℕ) (P : ℕ → Point) (next prev : ℕ → ℕ) (s : L
   pub below : (a : ℕ) → T (elem a s) → a < n
   pub two : 2 ≤ length s
   pub round : Cycle (Link next prev) s
-  pub left : (a c : ℕ) → T (elem a s) → c < n → c ≢ a → c ≢ next a → T (left-of (P a) (P (next a)) (P c))
+  pub others : (a c : ℕ) → T (elem a s) → c < n → c ≢ a → c ≢ next a → T (beside (P a) (P (next a)) (P c))
 
 module _ {n : ℕ} {P : ℕ → Point} {next prev : ℕ → ℕ} where
   -- the list may begin at any corner
@@ -51,7 +51,7 @@ module _ {n : ℕ} {P : ℕ → Point} {next prev : ℕ → ℕ} where
         below = λ a m. C .below a (elem-swap a t s m);
         two = omega (arith, C .two, length-append s t, length-append t s);
         round = cycle-swap (Link next prev) s t (C .round);
-        left = λ a c m. C .left a c (elem-swap a t s m);
+        others = λ a c m. C .others a c (elem-swap a t s m);
       }
 
   pub convex-from : {s : List ℕ} → Convex n P next prev s → (a : ℕ) → T (elem a s) →
@@ -87,6 +87,12 @@ module _ {n : ℕ} {P : ℕ → Point} {next prev : ℕ → ℕ} where
       distinct-apart (a ∷ b ∷ []) (d ∷ t) (D .all-distinct) b (elem-tail b a (b ∷ []) (elem-head b []))
       (subst (λ (x : ℕ). T (elem x (d ∷ t))) (sym (r .2 .1) ∙ sym e ∙ D .round .0 .0) (r .1))
 
+  first-alternates : (a : ℕ) (t : List ℕ) → Convex n P next prev (a ∷ t) → length (a ∷ t) < 3 → next a ≡ prev a
+  unfolding Cycle Chain
+  first-alternates a [] D h = omega (arith, D .two)
+  first-alternates a (b ∷ []) D h = D .round .0 .0 ∙ sym (D .round .1 .0 .1)
+  first-alternates a (b ∷ d ∷ t) D h = omega arith
+
   module _ {s : List ℕ} (C : Convex n P next prev s) where
     pub next-member : (a : ℕ) → T (elem a s) → T (elem (next a) s)
     next-member a m =
@@ -120,40 +126,88 @@ module _ {n : ℕ} {P : ℕ → Point} {next prev : ℕ → ℕ} where
         let k = convex-from C a m in
         first-between a (k .0) (k .1) (omega (arith, k .2))
 
-    -- the field `left`, of the edge that enters a corner
-    pub entering-left : (a c : ℕ) → T (elem a s) → c < n → c ≢ prev a → c ≢ a →
-        T (left-of (P (prev a)) (P a) (P c))
-    entering-left a c m h d e =
-        subst (λ (x : ℕ). T (left-of (P (prev a)) (P x) (P c))) (next-prev a m)
-        (C .left (prev a) c (prev-member a m) h d (λ k. e (k ∙ next-prev a m)))
+    -- .. and of two they are the same
+    pub next-is-prev : length s < 3 → (a : ℕ) → T (elem a s) → next a ≡ prev a
+    next-is-prev h a m =
+        let k = convex-from C a m in
+        first-alternates a (k .0) (k .1) (omega (arith, k .2))
 
--- ---- a point apart from the numbered ones
+    -- the field `others`, of the edge that enters a corner
+    pub entering-others : (a c : ℕ) → T (elem a s) → c < n → c ≢ prev a → c ≢ a →
+        T (beside (P (prev a)) (P a) (P c))
+    entering-others a c m h d e =
+        subst (λ (x : ℕ). T (beside (P (prev a)) (P x) (P c))) (next-prev a m)
+        (C .others (prev a) c (prev-member a m) h d (λ k. e (k ∙ next-prev a m)))
 
--- in line with no two of them
-abbrev pub GeneralPosition : ℕ → (ℕ → Point) → Point → Type 0
-GeneralPosition n P q = (i j : ℕ) → i < j → j < n → ¬ T (in-line (P i) (P j) q)
+-- ---- corners are strictly left
+
+-- Else a corner c is between the ends a and b of another edge. Let d be the corner after c. If d is a
+-- or b, the other of them is between c and d, against c between a and b. If not, a and b are both
+-- beside the edge from c to d, whose line has them on different sides: so both are on it, between c
+-- and d, and c is not between them.
+module _ {n : ℕ} {P : ℕ → Point} {next prev : ℕ → ℕ} {s : List ℕ} (C : Convex n P next prev s) where
+  module _ (a c : ℕ) (m : T (elem a s)) (k : T (elem c s)) (not-a : c ≢ a) (not-b : c ≢ next a) where
+    abbrev b : ℕ
+    b = next a
+
+    abbrev d : ℕ
+    d = next c
+
+    -- a point other than c and d
+    from-c : (x : ℕ) → x < n → c ≢ x → d ≢ x → T (beside (P c) (P d) (P x))
+    from-c x h e f = C .others c x k h (λ i. e (sym i)) (λ i. f (sym i))
+
+    not-between : ¬ Between (P a) (P b) (P c)
+    not-between h =
+        ⊎-elim
+        (λ (e : d ≡ a).
+        not-both-beside (P c) (P b) (P a)
+        (subst (λ (x : ℕ). T (beside (P c) (P x) (P b))) e (from-c b (next-below C a m) not-b (λ f. next-differs C a m (sym f ∙ e))))
+        (beside-between (P b) (P a) (P c) (between-symmetric (P a) (P b) (P c) h)))
+        (λ (e : d ≢ a).
+        ⊎-elim
+        (λ (f : d ≡ b).
+        not-both-beside (P c) (P a) (P b)
+        (subst (λ (x : ℕ). T (beside (P c) (P x) (P a))) f (from-c a (C .below a m) not-a e))
+        (beside-between (P a) (P b) (P c) h))
+        (λ (f : d ≢ b).
+        let on-a = from-c a (C .below a m) not-a e in
+        let on-b = from-c b (next-below C a m) not-b f in
+        between-one-side (P c) (P d) (P a) (P b)
+        (beside-zero (P c) (P d) (P a) on-a
+        (between-both-left (P a) (P b) (P c) (P d) h (beside-nonneg (P c) (P d) (P a) on-a)
+        (beside-nonneg (P c) (P d) (P b) on-b)))
+        (beside-zero (P c) (P d) (P b) on-b
+        (between-both-left (P b) (P a) (P c) (P d) (between-symmetric (P a) (P b) (P c) h)
+        (beside-nonneg (P c) (P d) (P b) on-b) (beside-nonneg (P c) (P d) (P a) on-a)))
+        h)
+        (same-or-not d b))
+        (same-or-not d a)
+
+    pub corners-strict : T (left-of (P a) (P b) (P c))
+    corners-strict =
+        ⊎-elim (positive-left (P a) (P b) (P c)) (λ h. absurd (not-between h))
+        (beside-cases (P a) (P b) (P c) (C .others a c m (C .below c k) not-a not-b))
+
+  -- three or more corners turn strictly left
+  pub turns-left : 3 ≤ length s → (a : ℕ) → T (elem a s) → T (left-of (P (prev a)) (P a) (P (next a)))
+  turns-left three a m =
+      subst (λ (x : ℕ). T (left-of (P (prev a)) (P x) (P (next a)))) (next-prev C a m)
+      (corners-strict (prev a) (next a) (prev-member C a m) (next-member C a m) (next-not-prev C three a m)
+      (λ e. next-differs C a m (e ∙ next-prev C a m)))
+
+-- ---- the edges that a point sees
 
 -- q sees the edge that leaves a
 abbrev pub sees : (ℕ → Point) → (ℕ → ℕ) → Point → ℕ → Bool
 sees P next q a = sees-edge (P a) (P (next a)) q
 
-in-line-swap : (a b c : Point) → T (in-line a b c) → T (in-line b a c)
-in-line-swap a b c t =
-    zero-in-line b a c
-    (omega (arith, order, in-line-zero a b c t, orientation-swap b a c, negℤ-splits (orientation a b c)))
+-- ---- not all edges of three or more corners are visible from a point
 
-pub general-both : (n : ℕ) (P : ℕ → Point) (q : Point) → GeneralPosition n P q → (i j : ℕ) → i < n → j < n → i ≢ j →
-    ¬ T (in-line (P i) (P j) q)
-general-both n P q general i j h k d =
-    ⊎-elim (λ (l : i < j). general i j l k)
-    (λ (l : j ≤ i) t. general j i (omega arith) h (in-line-swap (P i) (P j) q t)) (lt-or-ge i j)
-
--- ---- not all edges are visible from a point
-
--- Seen from a corner no edge bends right, so the fan is not negative; seen from a point from which
--- all edges are visible it would be. It is one fan.
+-- Seen from a corner no edge bends right and one bends left, so the fan is positive; seen from a point
+-- from which all edges are visible none bends left, so it is not. It is one fan.
 module _ {n : ℕ} {P : ℕ → Point} {next prev : ℕ → ℕ} {s : List ℕ} (C : Convex n P next prev s) where
-  not-right : (c a : ℕ) → c < n → T (elem a s) → pos 0 ≤ℤ orientation (P c) (P a) (P (next a))
+  pub not-right : (c a : ℕ) → c < n → T (elem a s) → pos 0 ≤ℤ orientation (P c) (P a) (P (next a))
   not-right c a h m =
       ⊎-elim
       (λ (e : c ≡ a). ≡-≤ℤ (rw e (sym (orientation-twice (P a) (P (next a))))))
@@ -164,7 +218,7 @@ module _ {n : ℕ} {P : ℕ → Point} {next prev : ℕ → ℕ} {s : List ℕ} 
       (rw (e, ← orientation-cyclic (P (next a)) (P (next a)) (P a))
       (sym (orientation-twice (P (next a)) (P a)))))
       (λ (e : c ≢ next a).
-      rw orientation-cyclic (<ℤ-weaken (left-positive (P a) (P (next a)) (P c) (C .left a c m h d e))))
+      rw orientation-cyclic (beside-nonneg (P a) (P (next a)) (P c) (C .others a c m h d e)))
       (same-or-not c (next a)))
       (same-or-not c a)
 
@@ -177,31 +231,27 @@ module _ {n : ℕ} {P : ℕ → Point} {next prev : ℕ → ℕ} {s : List ℕ} 
       (λ a b i j e. subst (λ (c : ℕ). E (P a) (P c)) (e .0) (f a i)) (C .round))
 
 sees-not-all : {n : ℕ} {P : ℕ → Point} {next prev : ℕ → ℕ} (s : List ℕ) →
-    Convex n P next prev s → (q : Point) → ¬ ((a : ℕ) → T (elem a s) → T (sees P next q a))
-unfolding sees-edge
-sees-not-all [] C q all = omega (arith, C .two)
-sees-not-all {P} {next} (x ∷ s) C q all =
+    Convex n P next prev s → 3 ≤ length s → (q : Point) → ¬ ((a : ℕ) → T (elem a s) → T (sees P next q a))
+unfolding Cycle Chain
+sees-not-all [] C three q all = omega arith
+sees-not-all (x ∷ []) C three q all = omega arith
+sees-not-all (x ∷ y ∷ []) C three q all = omega arith
+sees-not-all {P} {next} {prev} (x ∷ y ∷ z ∷ s) C three q all =
     omega (
       arith,
       order,
-      fan-fixed (P x) q (map P (x ∷ s)),
-      fan-nonneg (P x) (map P (x ∷ s))
+      fan-fixed (P x) q (map P (x ∷ y ∷ z ∷ s)),
+      fan-pos (P x) (P x) (P y) (P z) (map P s)
           (points-round C (λ b c. pos 0 ≤ℤ orientation (P x) b c)
-          (λ a m. not-right C x a (C .below x (elem-head x s)) m)),
-      fan-neg q (P x) (map P s)
-          (points-round C (λ b c. orientation q b c <ℤ pos 0)
-          (λ a m. rw orientation-cyclic (visible-negative (P a) (P (next a)) q (all a m)))),
+          (λ a m. not-right C x a (C .below x (elem-head x (y ∷ z ∷ s))) m))
+          (left-positive (P x) (P y) (P z)
+          (rw (← C .round .0 .1, ← C .round .1 .0 .0)
+          (turns-left C three y (elem-tail y x (y ∷ z ∷ s) (elem-head y (z ∷ s)))))),
+      fan-nonpos q (map P (x ∷ y ∷ z ∷ s))
+          (points-round C (λ b c. orientation q b c ≤ℤ pos 0)
+          (λ a m. rw orientation-cyclic (seen-nonpos (P a) (P (next a)) q (all a m)))),
     )
 
 module _ {n : ℕ} {P : ℕ → Point} {next prev : ℕ → ℕ} {s : List ℕ} (C : Convex n P next prev s) (q : Point) where
-  pub not-all-seen : ¬ ((a : ℕ) → T (elem a s) → T (sees P next q a))
-  not-all-seen = sees-not-all s C q
-
-  -- so the edge of some corner is hidden from it
-  pub some-hidden : (a : ℕ) × T (elem a s) × ¬ T (sees P next q a)
-  some-hidden =
-      ⊎-elim
-      (λ (t : T (all-in (sees P next q) s)). absurd (not-all-seen (all-elem (sees P next q) s t)))
-      (λ (t : T (not (all-in (sees P next q) s))).
-      let r = some-fails (sees P next q) s t in (r .0, r .1, T-not (sees P next q (r .0)) (r .2)))
-      (decide (all-in (sees P next q) s))
+  pub not-all-seen : 3 ≤ length s → ¬ ((a : ℕ) → T (elem a s) → T (sees P next q a))
+  not-all-seen three = sees-not-all s C three q

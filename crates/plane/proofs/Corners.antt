@@ -1,23 +1,28 @@
 -- The left and the right corner of what a point q sees, in the order of this page: the two, over any
 -- test of the corners; how a search finds them; a test that passes somewhere and fails somewhere has
--- both; the lines from q through the two have every other numbered point on one side (tangents); so
--- each is the only one.
+-- both; every other numbered point is beside the edges from the left corner to q and from q to the right
+-- one (tangents); so each is the only one.
 -- Document 01: "The left corner is the one whose entering edge is not visible and whose leaving
 -- edge is; the right corner the reverse."
-use mathlib.Core.Path.{_≡_, sym, subst}
-use mathlib.Core.Logic.{_≢_, ⊎-elim}
+use mathlib.Core.Path.{_≡_, sym, ap, subst}
+use mathlib.Core.Logic.{_≢_, inl, inr, ⊎-elim}
 use mathlib.Core.Bool.{Bool, not, _&&_}
 use mathlib.Core.List.{List}
-use Prim.Native.Nat.{ℕ, _<_}
+use Prim.Native.Nat.{ℕ, _<_, _≤_}
 use lib.Dec.{T, T-not, not-T}
+use lib.ListN.{length}
 use Rattle.finite.specs.Tests.{and-left, and-right, and-both, decide, same-or-not}
+use Rattle.finite.specs.Bounded.{lt-or-ge}
 use Rattle.finite.specs.Lists.{elem, first-in}
 use Rattle.finite.specs.FirstPassing.{first-found}
 use Rattle.finite.specs.CycleLaws.{cycle-switch}
 use Rattle.model.specs.declared.Point.{Point}
-use Rattle.model.specs.Plane.{left-of, sees-edge}
-use Rattle.plane.proofs.Knuth.{cyclic-symmetry, cyclic-back, antisymmetry, within-left, within-right, visible-left, hidden-left}
-use Rattle.plane.proofs.Convex.{Link, Convex, GeneralPosition, sees, same-unless, general-both, entering-left, next-prev, prev-member, next-below, prev-below, next-differs, prev-differs, some-hidden}
+use Rattle.model.specs.Plane.{beside, sees-edge}
+use Rattle.plane.proofs.Orientation.{left-positive}
+use Rattle.plane.proofs.Knuth.{cyclic-symmetry}
+use Rattle.plane.proofs.Betweenness.{hidden-beside, not-both-beside, not-both-beside-to}
+use Rattle.plane.proofs.Convex.{Link, Convex, sees, same-unless, entering-others, next-prev, next-below, prev-below, next-is-prev, turns-left}
+use Rattle.plane.proofs.Tangents.{EndOrBeside, tangent-left, tangent-two, tangent-right, tangent-right-two}
 
 pub record LeftCorner (prev : ℕ → ℕ) (p : ℕ → Bool) (s : List ℕ) (l : ℕ) : Type 0 where
   pub member : T (elem l s)
@@ -85,84 +90,88 @@ module _ {n : ℕ} {P : ℕ → Point} {next prev : ℕ → ℕ} {s : List ℕ} 
 -- ---- the tangents
 
 module _ {n : ℕ} {P : ℕ → Point} {next prev : ℕ → ℕ} {s : List ℕ} (C : Convex n P next prev s) where
-  -- Every other point lies within the angle of a corner a. So a property that both arms of an angle
-  -- at a pass on to all within it, and that the two neighbours of a have, all other points have.
-  corner-angle : (a : ℕ) → T (elem a s) → (O : ℕ → Type 0) →
-      ((v c u : ℕ) → T (left-of (P a) (P v) (P c)) → T (left-of (P a) (P c) (P u)) → T (left-of (P a) (P v) (P u)) →
-      O v → O u → O c) →
-      O (next a) → O (prev a) → (c : ℕ) → c < n → c ≢ a → O c
-  corner-angle a m O within after before c h d =
-      ⊎-elim
-      (λ (e : c ≡ next a). subst O (sym e) after)
-      (λ (not-after : c ≢ next a).
-      ⊎-elim
-      (λ (e : c ≡ prev a). subst O (sym e) before)
-      (λ (not-before : c ≢ prev a).
-      let vc : T (left-of (P a) (P (next a)) (P c)) = C .left a c m h d not-after in
-      let cu : T (left-of (P a) (P c) (P (prev a))) =
-      cyclic-symmetry (P (prev a)) (P a) (P c) (entering-left C a c m h not-before d)
-      in
-      within (next a) c (prev a) vc cu
-      (C .left a (prev a) m (prev-below C a m) (prev-differs C a m)
-      (λ e. antisymmetry (P a) (P (next a)) (P c) vc (subst (λ (x : ℕ). T (left-of (P a) (P c) (P x))) e cu)))
-      after before)
-      (same-or-not c (prev a)))
+  -- every other point is beside the edge that leaves a corner, or its end; and so with the one that enters it
+  leaving : (a : ℕ) → T (elem a s) → (c : ℕ) → c < n → c ≢ a → EndOrBeside (P (next a)) (P a) (P (next a)) (P c)
+  leaving a m c h d =
+      ⊎-elim (λ (e : c ≡ next a). inl (ap P e)) (λ (e : c ≢ next a). inr (C .others a c m h d e))
       (same-or-not c (next a))
 
-  module _ (q : Point) (general : GeneralPosition n P q) where
-    -- the hidden edges have q strictly left
-    pub hidden-edge : (a : ℕ) → T (elem a s) → ¬ T (sees P next q a) → T (left-of (P a) (P (next a)) q)
-    unfolding sees-edge
-    hidden-edge a m h =
-        hidden-left (P a) (P (next a)) q
-        (general-both n P q general a (next a) (C .below a m) (next-below C a m) (λ e. next-differs C a m (sym e))) h
+  entering : (a : ℕ) → T (elem a s) → (c : ℕ) → c < n → c ≢ a → EndOrBeside (P (prev a)) (P (prev a)) (P a) (P c)
+  entering a m c h d =
+      ⊎-elim (λ (e : c ≡ prev a). inl (ap P e)) (λ (e : c ≢ prev a). inr (entering-others C a c m h e d))
+      (same-or-not c (prev a))
 
+  module _ (q : Point) (fresh : (c : ℕ) → c < n → q ≢ P c) where
     pub left-tangent : (l : ℕ) → LeftCorner prev (sees P next q) s l →
-        (c : ℕ) → c < n → c ≢ l → T (left-of (P l) q (P c))
-    unfolding sees-edge
-    left-tangent l L =
-        corner-angle l (L .member) (λ c. T (left-of (P l) q (P c)))
-        (λ v c u. within-left (P l) q (P v) (P c) (P u))
-        (cyclic-symmetry (P (next l)) (P l) q (visible-left (P l) (P (next l)) q (L .leaves)))
-        (cyclic-symmetry (P (prev l)) (P l) q
-        (subst (λ (x : ℕ). T (left-of (P (prev l)) (P x) q)) (next-prev C l (L .member))
-        (hidden-edge (prev l) (prev-member C l (L .member)) (L .enters))))
+        (c : ℕ) → c < n → c ≢ l → T (beside (P l) q (P c))
+    left-tangent l L c h d =
+        ⊎-elim
+        (λ (few : length s < 3).
+        let e = next-is-prev C few l m in
+        tangent-two (P l) (P (next l)) q (P c) (L .leaves) (rw e hidden) (leaving l m c h d)
+        (rw e (entering l m c h d)))
+        (λ (three : 3 ≤ length s).
+        tangent-left (P l) (P (next l)) (P (prev l)) q (P c)
+        (left-positive (P l) (P (next l)) (P (prev l))
+        (cyclic-symmetry (P (prev l)) (P l) (P (next l)) (turns-left C three l m)))
+        (L .leaves) hidden (fresh (next l) (next-below C l m)) (leaving l m c h d) (entering l m c h d))
+        (lt-or-ge (length s) 3)
+      where
+        m : T (elem l s)
+        m = L .member
+
+        hidden : T (beside (P (prev l)) (P l) q)
+        hidden =
+            subst (λ (x : ℕ). T (beside (P (prev l)) (P x) q)) (next-prev C l m)
+            (hidden-beside (P (prev l)) (P (next (prev l))) q (L .enters))
 
     pub right-tangent : (r : ℕ) → RightCorner prev (sees P next q) s r →
-        (c : ℕ) → c < n → c ≢ r → T (left-of q (P r) (P c))
-    unfolding sees-edge
+        (c : ℕ) → c < n → c ≢ r → T (beside q (P r) (P c))
     right-tangent r R c h d =
-        cyclic-back (P r) (P c) q
-        (corner-angle r (R .member) (λ c. T (left-of (P r) (P c) q))
-        (λ v c u. within-right (P r) q (P v) (P c) (P u))
-        (hidden-edge r (R .member) (R .leaves))
-        (subst (λ (x : ℕ). T (left-of (P x) (P (prev r)) q)) (next-prev C r (R .member))
-        (visible-left (P (prev r)) (P (next (prev r))) q (R .enters)))
-        c h d)
+        ⊎-elim
+        (λ (few : length s < 3).
+        let e = next-is-prev C few r m in
+        tangent-right-two (P r) (P (next r)) q (P c) (rw e seen) hidden (leaving r m c h d)
+        (rw e (entering r m c h d)))
+        (λ (three : 3 ≤ length s).
+        tangent-right (P r) (P (next r)) (P (prev r)) q (P c) seen hidden (leaving r m c h d) (entering r m c h d)
+        (left-positive (P r) (P (next r)) (P (prev r))
+        (cyclic-symmetry (P (prev r)) (P r) (P (next r)) (turns-left C three r m)))
+        (fresh (prev r) (prev-below C r m)))
+        (lt-or-ge (length s) 3)
+      where
+        m : T (elem r s)
+        m = R .member
 
-    -- ---- each corner is there where q sees an edge, and is the only one
+        seen : T (sees-edge (P (prev r)) (P r) q)
+        seen = subst (λ (x : ℕ). T (sees-edge (P (prev r)) (P x) q)) (next-prev C r m) (R .enters)
+
+        hidden : T (beside (P r) (P (next r)) q)
+        hidden = hidden-beside (P r) (P (next r)) q (R .leaves)
+
+    -- ---- each corner is the only one
 
     pub left-corner-unique : (x y : ℕ) →
         LeftCorner prev (sees P next q) s x → LeftCorner prev (sees P next q) s y → x ≡ y
     left-corner-unique x y X Y =
         same-unless x y
         (λ d.
-        antisymmetry (P x) q (P y) (left-tangent x X y (C .below y (Y .member)) (λ e. d (sym e)))
-        (cyclic-back (P y) q (P x) (left-tangent y Y x (C .below x (X .member)) d)))
+        not-both-beside (P x) (P y) q (left-tangent x X y (C .below y (Y .member)) (λ e. d (sym e)))
+        (left-tangent y Y x (C .below x (X .member)) d))
 
     pub right-corner-unique : (x y : ℕ) →
         RightCorner prev (sees P next q) s x → RightCorner prev (sees P next q) s y → x ≡ y
     right-corner-unique x y X Y =
         same-unless x y
         (λ d.
-        antisymmetry q (P x) (P y) (right-tangent x X y (C .below y (Y .member)) (λ e. d (sym e)))
+        not-both-beside-to (P x) (P y) q (right-tangent x X y (C .below y (Y .member)) (λ e. d (sym e)))
         (right-tangent y Y x (C .below x (X .member)) d))
 
-  module _ (q : Point) (y : ℕ) (m : T (elem y s)) (seen : T (sees P next q y)) where
+  -- .. and is there where q sees an edge, and some edge is hidden from q
+  module _ (q : Point) (x y : ℕ) (i : T (elem x s)) (j : T (elem y s))
+      (hidden : ¬ T (sees P next q x)) (seen : T (sees P next q y)) where
     pub left-corner-seen : (l : ℕ) × LeftCorner prev (sees P next q) s l
-    left-corner-seen =
-        let h = some-hidden C q in left-corner-of C (sees P next q) (h .0) y (h .1) m (h .2) seen
+    left-corner-seen = left-corner-of C (sees P next q) x y i j hidden seen
 
     pub right-corner-seen : (r : ℕ) × RightCorner prev (sees P next q) s r
-    right-corner-seen =
-        let h = some-hidden C q in right-corner-of C (sees P next q) (h .0) y (h .1) m (h .2) seen
+    right-corner-seen = right-corner-of C (sees P next q) x y i j hidden seen

@@ -8,7 +8,7 @@ use native.Mathlib.Omega.{arith}
 use lib.IntN.{ℤ, pos, _+ℤ_, _-ℤ_, +ℤ-idr}
 use lib.Signed.{_<ℤ_, _≤ℤ_, ≤ℤ-refl}
 use Rattle.integers.specs.Order.{order, +ℤ-splits}
-use Rattle.integers.specs.Sign.{sum-nonneg}
+use Rattle.integers.specs.Sign.{sum-nonneg, sum-pos-left, sum-pos-right}
 use Rattle.integers.specs.Solver.{_⊕_, _⊖_, _≐_, identity}
 use Rattle.finite.specs.Cycles.{Chain, Cycle}
 use Rattle.model.specs.declared.Point.{Point}
@@ -63,27 +63,22 @@ unfolding path-sum Chain
 path-sum-nonneg q a [] c = ≤ℤ-refl (pos 0)
 path-sum-nonneg q a (b ∷ s) c = sum-nonneg (c .0) (path-sum-nonneg q b s (c .1))
 
-pub fan-nonneg : (q : Point) (s : List Point) →
-    Cycle (λ b c. pos 0 ≤ℤ orientation q b c) s → pos 0 ≤ℤ fan q s
-unfolding fan Cycle
-fan-nonneg q [] c = ≤ℤ-refl (pos 0)
-fan-nonneg q (a ∷ s) c = path-sum-nonneg q a (s ++ a ∷ []) c
+-- no term is negative, and the second is positive
+pub fan-pos : (q a b c : Point) (s : List Point) →
+    Cycle (λ b c. pos 0 ≤ℤ orientation q b c) (a ∷ b ∷ c ∷ s) → pos 0 <ℤ orientation q b c → pos 0 <ℤ fan q (a ∷ b ∷ c ∷ s)
+unfolding fan path-sum Cycle Chain
+fan-pos q a b c s h k = sum-pos-right (h .0) (sum-pos-left k (path-sum-nonneg q c (s ++ a ∷ []) (h .1 .1)))
 
-path-sum-neg : (q a b : Point) (s : List Point) →
-    Chain (λ b c. orientation q b c <ℤ pos 0) (a ∷ b ∷ s) → path-sum q a (b ∷ s) <ℤ pos 0
+path-sum-nonpos : (q a : Point) (s : List Point) →
+    Chain (λ b c. orientation q b c ≤ℤ pos 0) (a ∷ s) → path-sum q a s ≤ℤ pos 0
 unfolding path-sum Chain
-path-sum-neg q a b [] c = rw +ℤ-idr (c .0)
-path-sum-neg q a b (d ∷ s) c =
-    omega (
-      arith,
-      order,
-      +ℤ-splits (orientation q a b) (path-sum q b (d ∷ s)),
-      c .0,
-      path-sum-neg q b d s (c .1),
-    )
+path-sum-nonpos q a [] c = ≤ℤ-refl (pos 0)
+path-sum-nonpos q a (b ∷ s) c =
+    omega (arith, order, +ℤ-splits (orientation q a b) (path-sum q b s), c .0, path-sum-nonpos q b s (c .1))
 
-pub fan-neg : (q a : Point) (s : List Point) →
-    Cycle (λ b c. orientation q b c <ℤ pos 0) (a ∷ s) → fan q (a ∷ s) <ℤ pos 0
+-- no term is positive
+pub fan-nonpos : (q : Point) (s : List Point) →
+    Cycle (λ b c. orientation q b c ≤ℤ pos 0) s → fan q s ≤ℤ pos 0
 unfolding fan Cycle
-fan-neg q a [] c = path-sum-neg q a a [] c
-fan-neg q a (b ∷ s) c = path-sum-neg q a b (s ++ a ∷ []) c
+fan-nonpos q [] c = ≤ℤ-refl (pos 0)
+fan-nonpos q (a ∷ s) c = path-sum-nonpos q a (s ++ a ∷ []) c

@@ -1,18 +1,18 @@
 -- Knuth's five axioms of a counterclockwise system ("Axioms and Hulls", 1992) for the strict test
 -- `left-of`, in his order and letters: cyclic symmetry, antisymmetry, nondegeneracy, interiority,
 -- transitivity; then the dual of the fifth. Three points may be in line here, so the third has one
--- case more. Then a point within an angle: what both arms of the angle have on one side, it has.
+-- case more.
 use mathlib.Core.Path.{_≡_, sym, ap, _∙_}
 use mathlib.Core.Logic.{_⊎_, inl, inr, ⊎-elim}
 use native.Mathlib.Omega.{arith}
 use lib.Dec.{T}
-use lib.IntN.{ℤ, pos, negℤ, _+ℤ_, _*ℤ_, *ℤ-comm}
+use lib.IntN.{ℤ, pos, negℤ, _+ℤ_, _*ℤ_}
 use lib.Signed.{_<ℤ_}
 use Rattle.integers.specs.Order.{order, signs, +ℤ-splits, negℤ-splits}
-use Rattle.integers.specs.Sign.{pos-pos, neg-pos, second-pos-pos, second-pos-neg, second-neg-neg}
+use Rattle.integers.specs.Sign.{pos-pos, neg-pos, second-pos-pos, second-neg-neg}
 use Rattle.model.specs.declared.Point.{Point}
-use Rattle.model.specs.Plane.{orientation, left-of, visible-from, in-line}
-use Rattle.plane.proofs.Orientation.{orientation-cyclic, orientation-swap, orientation-split, orientation-exchange, left-positive, positive-left, visible-negative, negative-visible, zero-in-line}
+use Rattle.model.specs.Plane.{orientation, left-of, in-line}
+use Rattle.plane.proofs.Orientation.{orientation-cyclic, orientation-swap, orientation-split, orientation-exchange, left-positive, positive-left, zero-in-line}
 
 -- to swap the last two points reverses the sign
 pub orientation-opposite : (p q r : Point) → orientation p q r ≡ negℤ (orientation p r q)
@@ -91,42 +91,3 @@ dual-transitivity p q r s t a b c d e =
     below : (x : Point) → T (left-of s t x) → orientation t s x <ℤ pos 0
     below x h =
         omega (arith, order, left-positive s t x h, orientation-swap s t x, negℤ-splits (orientation t s x))
-
--- ---- c within the angle at t from v to u
-
-module _ (t q v c u : Point) (vc : T (left-of t v c)) (cu : T (left-of t c u)) (vu : T (left-of t v u)) where
-  -- both arms left of t → q
-  pub within-left : T (left-of t q v) → T (left-of t q u) → T (left-of t q c)
-  within-left a b =
-      positive-left t q c
-      (second-pos-pos (left-positive t v u vu)
-      (rw (*ℤ-comm (orientation t v u) (orientation t q c), orientation-exchange)
-      (sum-positive (orientation t q v) (orientation t c u) (orientation t q u) (orientation t v c)
-      (left-positive t q v a) (left-positive t c u cu) (left-positive t q u b) (left-positive t v c vc))))
-
-  -- both arms right of t → q
-  pub within-right : T (left-of t v q) → T (left-of t u q) → T (left-of t c q)
-  within-right a b =
-      negative-left t c q
-      (second-pos-neg (left-positive t v u vu)
-      (rw (*ℤ-comm (orientation t v u) (orientation t q c), orientation-exchange)
-      (sum-negative (orientation t q v) (orientation t c u) (orientation t q u) (orientation t v c)
-      (left-negative t v q a) (left-positive t c u cu) (left-negative t u q b) (left-positive t v c vc))))
-
--- ---- visible is left of the reversed edge, and not visible, not in line, is left
-
-pub visible-left : (a b c : Point) → T (visible-from a b c) → T (left-of b a c)
-visible-left a b c t =
-    positive-left b a c
-    (omega (arith, order, visible-negative a b c t, orientation-swap a b c, negℤ-splits (orientation b a c)))
-
-pub left-visible : (a b c : Point) → T (left-of b a c) → T (visible-from a b c)
-left-visible a b c t =
-    negative-visible a b c
-    (omega (arith, order, left-positive b a c t, orientation-swap a b c, negℤ-splits (orientation b a c)))
-
-pub hidden-left : (a b c : Point) → ¬ T (in-line a b c) → ¬ T (visible-from a b c) → T (left-of a b c)
-hidden-left a b c n v =
-    ⊎-elim (λ t. t)
-    (⊎-elim (λ t. absurd (v (left-visible a b c (cyclic-back a c b t)))) (λ t. absurd (n t)))
-    (nondegeneracy a b c)

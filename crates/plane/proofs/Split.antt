@@ -1,12 +1,12 @@
 -- The visible edges are one run of the outline, in the order of this page: an outline cut at its
 -- right corner and rotated, so that the hidden edges come first and the visible ones follow from the
 -- left corner on; its lengths, members and count; that there is such a cut where just one corner is
--- left and just one right, and so where a point that is general sees an edge.
+-- left and just one right, and so where a point other than the numbered ones sees some edges, not all.
 use mathlib.Core.Path.{_≡_, sym, ap, subst, _∙_}
-use mathlib.Core.Logic.{⊎-elim}
+use mathlib.Core.Logic.{_≢_, ⊎-elim}
 use mathlib.Core.Bool.{Bool, not}
 use mathlib.Core.List.{List, [], _∷_, _++_, append-assoc}
-use Prim.Native.Nat.{ℕ, suc, _+_}
+use Prim.Native.Nat.{ℕ, suc, _+_, _<_}
 use native.Mathlib.Omega.{arith}
 use lib.Dec.{T, T-not}
 use lib.ListN.{length, length-append}
@@ -19,7 +19,7 @@ use Rattle.finite.specs.Distinct.{count-in-none}
 use Rattle.finite.specs.Cycles.{Chain, Cycle, chain-cut}
 use Rattle.finite.specs.CycleLaws.{chain-front, chain-carry}
 use Rattle.model.specs.declared.Point.{Point}
-use Rattle.plane.proofs.Convex.{Link, Convex, GeneralPosition, sees, convex-swap}
+use Rattle.plane.proofs.Convex.{Link, Convex, sees, convex-swap}
 use Rattle.plane.proofs.Corners.{LeftCorner, RightCorner, left-not-right, left-corner-unique, right-corner-unique}
 
 -- s rotated is `r ∷ middle`, where the test p fails, then `l ∷ inner`, where it passes
@@ -170,10 +170,10 @@ module _ {n : ℕ} {P : ℕ → Point} {next prev : ℕ → ℕ} {s : List ℕ} 
 -- ---- the visible edges are one run
 
 module _ {n : ℕ} {P : ℕ → Point} {next prev : ℕ → ℕ} {s : List ℕ} (C : Convex n P next prev s)
-    (q : Point) (general : GeneralPosition n P q) where
+    (q : Point) (fresh : (c : ℕ) → c < n → q ≢ P c) where
   pub visible-split : (l r : ℕ) →
       LeftCorner prev (sees P next q) s l → RightCorner prev (sees P next q) s r →
       Split next prev (sees P next q) s l r
   visible-split l r L R =
-      split-between C (sees P next q) l r L R (λ a A. left-corner-unique C q general a l A L)
-      (λ a A. right-corner-unique C q general a r A R)
+      split-between C (sees P next q) l r L R (λ a A. left-corner-unique C q fresh a l A L)
+      (λ a A. right-corner-unique C q fresh a r A R)

@@ -3,13 +3,14 @@
 pub mod between;
 pub mod lower;
 
+use crate::between::are_opposite;
 use model::Oriented;
 use model::Point;
 use model::Refusal;
 ghost use mathlib.Core.Path.{_≡_};
 ghost use mathlib.Core.Bool.{_&&_};
 ghost use lib.Dec.{T};
-ghost use Rattle.model.specs.Plane.{at, beside, coordinate-in-range, in-line, in-range, left-of, orientation, same-point, sees-edge, visible-from};
+ghost use Rattle.model.specs.Plane.{at, beside, coordinate-in-range, in-range, orientation, same-point, sees-edge};
 ghost use Rattle.plane.specs.OrientedAnswer.{RangedCoordinates, OrientedAnswer};
 
 // Coordinates run from -COORDINATE_LIMIT to COORDINATE_LIMIT.
@@ -53,48 +54,29 @@ pub fn is_same(p: Point, q: Point) -> bool
     p.x == q.x && p.y == q.y
 }
 
-// Whether c is strictly left of the edge from a to b, for points that are in range.
-pub fn is_left_of(a: Point, b: Point, c: Point) -> bool
-    requires { ⌜ T (in-range a && in-range b && in-range c) ⌝ }
-    ensures { λ r. ⌜ r ≡ left-of a b c ⌝ }
-{
-    let z = orientation_in_range(a, b, c);
-    0 < z
-}
-
-// Whether c lies beside the edge from a to b, as all other points of a sound map lie beside each
-// outline edge, for points that are in range.
+// Whether c lies beside the edge from a to b, left of it or on it between its ends, as all other
+// points of a sound map lie beside each outline edge, for points that are in range.
 pub fn is_beside(a: Point, b: Point, c: Point) -> bool
     requires { ⌜ T (in-range a && in-range b && in-range c) ⌝ }
     ensures { λ r. ⌜ r ≡ beside a b c ⌝ }
 {
-    is_left_of(a, b, c)
-}
-
-// Whether the edge from a to b is visible from c, for points that are in range.
-pub fn is_visible_from(a: Point, b: Point, c: Point) -> bool
-    requires { ⌜ T (in-range a && in-range b && in-range c) ⌝ }
-    ensures { λ r. ⌜ r ≡ visible-from a b c ⌝ }
-{
     let z = orientation_in_range(a, b, c);
-    z < 0
+    if 0 < z {
+        return true;
+    }
+    if z < 0 {
+        return false;
+    }
+    are_opposite(a, b, c)
 }
 
-// Whether a point c that arrives sees the edge from a to b, for points that are in range.
+// Whether a point c that arrives sees the edge from a to b, which it is not beside, for points that
+// are in range.
 pub fn sees_edge(a: Point, b: Point, c: Point) -> bool
     requires { ⌜ T (in-range a && in-range b && in-range c) ⌝ }
     ensures { λ r. ⌜ r ≡ sees-edge a b c ⌝ }
 {
-    is_visible_from(a, b, c)
-}
-
-// Whether three points that are in range are in line.
-pub fn are_in_line(a: Point, b: Point, c: Point) -> bool
-    requires { ⌜ T (in-range a && in-range b && in-range c) ⌝ }
-    ensures { λ r. ⌜ r ≡ in-line a b c ⌝ }
-{
-    let z = orientation_in_range(a, b, c);
-    z == 0
+    !is_beside(a, b, c)
 }
 
 // The orientation of three points that are in range, for callers that know it.

@@ -108,7 +108,7 @@ pub extern "C" fn reach_check(map: &[u8]) -> u32
     }
 }
 
-// A point offered to a map: numbers 7, 1, 2 to 5 and 10.
+// A point offered to a map: numbers 7, 1, 2 to 4 and 10.
 #[no_mangle]
 pub extern "C" fn reach_offer(
     map: &[u8],

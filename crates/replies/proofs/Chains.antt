@@ -41,7 +41,6 @@ number-some Refusal.NotSound e = omega arith
 number-some Refusal.Full e = omega arith
 number-some Refusal.OutOfRange e = omega arith
 number-some Refusal.Repeated e = omega arith
-number-some Refusal.InLine e = omega arith
 number-some Refusal.NoDart e = omega arith
 number-some Refusal.BadFile e = omega arith
 number-some Refusal.BadLine e = omega arith

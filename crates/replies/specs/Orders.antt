@@ -46,7 +46,7 @@ module _ (short : Bool) where
     reach-check-order = refl
 
     pub reach-offer-order :
-        with-10 (of-file s (λ m. offer-call m p .rules)) ≡ 7 ∷ 1 ∷ 2 ∷ 3 ∷ 4 ∷ 5 ∷ 10 ∷ []
+        with-10 (of-file s (λ m. offer-call m p .rules)) ≡ 7 ∷ 1 ∷ 2 ∷ 3 ∷ 4 ∷ 10 ∷ []
     unfolding number
     reach-offer-order = refl
 

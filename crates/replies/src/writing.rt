@@ -93,7 +93,7 @@ pub fn write_darts(orbit: DartSet, out: &mut [u64]) -> u32
 }
 
 // Offers a point to a sound map, and writes the bytes of the map after it and the arrival:
-// numbers 2 to 5 and 10.
+// numbers 2 to 4 and 10.
 pub fn write_admitted(map: Map, p: Point, out: &mut [u8], arrival: &mut [u64]) -> u32
     requires { ⌜ Shaped map ⌝ }
     ensures { λ r. ⌜ ServedBoth (admission-rules map p) (saved (arrive map p .map))

@@ -26,12 +26,13 @@ use Rattle.survey.specs.Places.{line-at, read-at}
 use Rattle.survey.proofs.Texts.{line-at-refused}
 use Rattle.admission.specs.Admission.{rules-by, admission-by}
 use Rattle.hull.proofs.Admissions.{admission-refused, admission-served, admission-accepted, visible-most, corners-below}
-use Rattle.hull.proofs.Outcomes.{Accepted, Arrives, first, second, inside, outside, arrive-arrives}
+use Rattle.hull.specs.Requires.{Accepted}
+use Rattle.hull.proofs.Outcomes.{Arrives, first, second, inside, outside, arrive-arrives}
 use Rattle.hull.proofs.Arrivals.{arrival-sound}
 use Rattle.reports.specs.declared.deciding.Verdict.{Verdict}
 use Rattle.reports.specs.Verdicts.{verdict-on, verdict-by}
 use Rattle.lines.specs.Packing as packing
-use Rattle.lines.specs.Packing.{OfLine, full, out-of-range, repeated, in-line, bad-line, Packable}
+use Rattle.lines.specs.Packing.{OfLine, full, out-of-range, repeated, bad-line, Packable}
 
 outcome-refused : (p : Point) (r : Refusal) (o : Outcome) → Verdict.Refused r ≡ verdict-on p o →
     Outcome.Refused r ≡ o
@@ -71,7 +72,6 @@ module _ (xs ys : List ℤ) (count : ℕ) (p : Point) where
   rule-refusal (at-once t e) = subst OfLine e full
   rule-refusal (later n (at-once t e)) = subst OfLine e out-of-range
   rule-refusal (later n (later m (at-once t e))) = subst OfLine e repeated
-  rule-refusal (later n (later m (later l (at-once t e)))) = subst OfLine e in-line
 
   point-refusal : (r : Refusal) → Outcome.Refused r ≡ admission-by xs ys count p → OfLine r
   unfolding admission-by

@@ -14,7 +14,8 @@ use model::Refusal;
 use survey::lines::at_end;
 use survey::reader::read_from;
 ghost use mathlib.Core.Path.{_≡_};
-ghost use Rattle.admission.specs.Admission.{RangedPlaces};
+ghost use Rattle.model.specs.Maps.{point-limit};
+ghost use Rattle.maps.specs.Places.{PlacesFor};
 ghost use Rattle.reports.specs.Verdicts.{verdict-by};
 ghost use Rattle.reports.specs.Deciding.{Readable, ReportsSome, StopsAll, Surveys};
 
@@ -45,7 +46,7 @@ pub struct Surveyed {
 
 // Whether what a line names is accepted by a map with these coordinates.
 pub(crate) fn verdict_on<'a>(xs: &'a [i64], ys: &'a [i64], count: usize, line: Line) -> Verdict
-    requires { ⌜ RangedPlaces (now xs) (now ys) ⌝ }
+    requires { ⌜ PlacesFor (now xs) (now ys) point-limit ⌝ }
     ensures { λ r. ⌜ r ≡ verdict-by (now (xs .entry)) (now (ys .entry)) count line ⌝ }
 {
     match line {

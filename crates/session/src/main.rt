@@ -7,7 +7,8 @@
 //     walk           the last dart, the moves made
 //     move_walker    the dart that the walker has reached
 //     place          the corner; the ends of the edge; the visible edges
-// A refused call prints `refused` and the number of document 01's table; every number from 1 to 10 is seen.
+// A refused call prints `refused` and the number of document 01's table; every number that is in use is
+// seen.
 
 mod calls;
 mod telling;
@@ -24,6 +25,7 @@ ghost use lib.ListN.{length};
 fn main() {
     orientations();
     let map = survey();
+    rail();
     readings(map);
     queries(map);
     lists(map);
@@ -64,9 +66,19 @@ fn survey() -> Map {
     let four = calls::offer(three, at(5, 4));
     let kept = calls::offer(four, at(1000001, 0));
     let kept = calls::offer(kept, at(4, 0));
-    let kept = calls::offer(kept, at(2, 2));
     let five = calls::offer(kept, at(2, 1));
     calls::offer(five, at(6, 7))
+}
+
+// Marks along a rail: the third is in line beyond the second, and its left and right corner are both
+// the first, which is farther from it. A mark on an edge is inside; one beyond the rail is outside.
+fn rail() {
+    let one = calls::offer(engine::empty_map(), at(0, 0));
+    let two = calls::offer(one, at(2, 0));
+    let three = calls::offer(two, at(4, 0));
+    calls::counts(three);
+    calls::place(three, at(6, 0));
+    calls::offer(three, at(1, 0));
 }
 
 // What is read from the map of six points.
@@ -156,7 +168,7 @@ fn unsound(map: Map) {
     calls::save(map, &mut file);
 }
 
-// As many points as a map has, along a parabola: no three are in line.
+// As many points as a map has, along a parabola.
 fn full_map() -> Map {
     let mut map = engine::empty_map();
     for k in 0..POINT_LIMIT {

@@ -14,7 +14,7 @@ use Rattle.model.specs.declared.Map.{Map}
 use Rattle.model.specs.Plane.{in-range, coordinate-in-range}
 use Rattle.model.specs.Maps.{point, point-limit}
 use Rattle.model.specs.Sound.{arrays-whole, count-fits, points-in-range, places-vacant, links-undo}
-use Rattle.model.specs.Sound.{one-outline, reference-on-outline, others-left, no-outline, sound}
+use Rattle.model.specs.Sound.{one-outline, reference-on-outline, others-beside, no-outline, sound}
 use Rattle.model.proofs.Sound.{zero-from}
 use Rattle.soundness.specs.Checks.{points-sound, links-sound, outline-sound}
 
@@ -64,5 +64,5 @@ pub outline-of-few : (m : Map) → m .count < 2 → outline-sound m ≡ no-outli
 outline-of-few m h = rw (lt-leb 2 (m .count) h, lt-ltb (m .count) 2 h)
 
 pub outline-of-many : (m : Map) → 2 ≤ m .count →
-    outline-sound m ≡ (one-outline m && reference-on-outline m && others-left m)
+    outline-sound m ≡ (one-outline m && reference-on-outline m && others-beside m)
 outline-of-many m h = rw (le-leb 2 (m .count) h, le-ltb (m .count) 2 h) (and-true _)

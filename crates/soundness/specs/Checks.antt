@@ -16,7 +16,7 @@ use Rattle.model.specs.Maps.{point-at}
 use Rattle.maps.specs.Places.{new-at}
 use Rattle.model.specs.Sound.{count-fits, points-in-range, points-differ, places-vacant}
 use Rattle.model.specs.Sound.{helpers-owned, absent-fixed, links-undo, edges-cross, lone-fixed}
-use Rattle.model.specs.Sound.{one-outline, reference-on-outline, others-left, no-outline}
+use Rattle.model.specs.Sound.{one-outline, reference-on-outline, others-beside, no-outline}
 
 -- no earlier point equals point k
 abbrev pub first-at : List ℤ → List ℤ → ℕ → Bool
@@ -36,5 +36,5 @@ links-sound m = helpers-owned m && absent-fixed m && links-undo m && edges-cross
 
 abbrev pub outline-sound : Map → Bool
 outline-sound m =
-    (leb 2 (m .count) ⇒ (one-outline m && reference-on-outline m && others-left m))
+    (leb 2 (m .count) ⇒ (one-outline m && reference-on-outline m && others-beside m))
     && (ltb (m .count) 2 ⇒ no-outline m)

@@ -20,7 +20,7 @@ ghost use Rattle.finite.specs.Bounded.{all};
 ghost use Rattle.orbits.specs.Sets.{dart-limit};
 ghost use Rattle.model.specs.Plane.{in-range};
 ghost use Rattle.model.specs.Maps.{point, point-limit};
-ghost use Rattle.model.specs.Sound.{links-undo, no-outline, one-outline, others-left, reference-on-outline};
+ghost use Rattle.model.specs.Sound.{links-undo, no-outline, one-outline, others-beside, reference-on-outline};
 ghost use Rattle.soundness.specs.Checks.{moved-at, outline-sound};
 
 // All of these tests: the last sentences go by the number of points.
@@ -32,14 +32,14 @@ pub fn outline_sound(m: Map) -> bool
     if m.count < 2 {
         return no_outline(m);
     }
-    one_outline(m) && reference_on_outline(m) && others_left(m)
+    one_outline(m) && reference_on_outline(m) && others_beside(m)
 }
 
 // For each outline edge from corner a to corner b, every point but a and b has positive orientation
 // with (a, b).
-fn others_left(m: Map) -> bool
+fn others_beside(m: Map) -> bool
     requires { ⌜ ((k : ℕ) → T (in-range (point m k))) ⌝ }
-    ensures { λ r. ⌜ r ≡ others-left m ⌝ }
+    ensures { λ r. ⌜ r ≡ others-beside m ⌝ }
 {
     let n = m.count;
     if n < 2 {

@@ -22,7 +22,6 @@ impl Comparison {
             ("REACH_FULL", Refusal::Full, refusal::FULL),
             ("REACH_OUT_OF_RANGE", Refusal::OutOfRange, refusal::OUT_OF_RANGE),
             ("REACH_REPEATED", Refusal::Repeated, refusal::REPEATED),
-            ("REACH_IN_LINE", Refusal::InLine, refusal::IN_LINE),
             ("REACH_NO_DART", Refusal::NoDart, refusal::NO_DART),
             ("REACH_BAD_FILE", Refusal::BadFile, refusal::BAD_FILE),
             ("REACH_BAD_LINE", Refusal::BadLine, refusal::BAD_LINE),

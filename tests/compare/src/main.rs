@@ -89,7 +89,7 @@ fn arguments() -> Result<Arguments, String> {
 }
 
 /// What is compared whatever the seed: the header's constants, short lines, the ends of the range,
-/// a full map, long texts.
+/// rails across it, full maps, long texts.
 fn fixed(c: &mut Comparison) -> Outcome {
     c.header()?;
     c.null_lists()?;
@@ -107,13 +107,20 @@ fn fixed(c: &mut Comparison) -> Outcome {
             }
         }
     }
-    let mut full: Vec<Point> = (0..POINT_LIMIT as i64).map(|i| Point::new(i, i * i)).collect();
+    for rail in rails() {
+        let map = c.survey(&rail)?;
+        c.file(&map.save(), 20)?;
+    }
+    let convex = (0..POINT_LIMIT as i64).map(|i| Point::new(i, i * i));
+    // each beyond an end, twice in turn beyond the same
+    let rail = (0..POINT_LIMIT as i64).map(|i| Point::new(if i % 4 < 2 { i } else { -i }, 0));
     let refused =
         [Point::new(512, 512 * 512), Point::new(0, 0), Point::new(1, 2), Point::new(LIMIT + 1, 0)];
-    full.extend(refused);
     c.is_on_small_stacks = true;
-    let map = c.survey(&full)?;
-    c.file(&map.save(), 4)?;
+    for full in [convex.collect::<Vec<_>>(), rail.collect()] {
+        let map = c.survey(&[&full[..], &refused].concat())?;
+        c.file(&map.save(), 4)?;
+    }
     for n in [POINT_LIMIT + 1, 65_535] {
         c.file(&maps::oversized(n), 1)?;
     }
@@ -125,6 +132,20 @@ fn fixed(c: &mut Comparison) -> Outcome {
     }
     c.is_on_small_stacks = false;
     Ok(())
+}
+
+/// Rails from one end of the range to the other, level, upright and slanted: marks beyond the end
+/// that came last and beyond the other, up to the ends of the range, and marks between.
+fn rails() -> [[Point; 12]; 5] {
+    let steps = [0, 1, 3, -1, -3, 2, LIMIT - 1, LIMIT, 1 - LIMIT, -LIMIT, LIMIT + 1, -2];
+    let marks: [fn(i64) -> Point; 5] = [
+        |z| Point::new(z, 0),
+        |z| Point::new(z, LIMIT),
+        |z| Point::new(-LIMIT, z),
+        |z| Point::new(z, z),
+        |z| Point::new(z, -z),
+    ];
+    marks.map(|mark| steps.map(mark))
 }
 
 /// Every line of so many bytes that matter.
@@ -155,10 +176,11 @@ impl Session {
             comparison.fixed_program(program)?;
         }
         let draw = &mut comparison.draw;
-        let pool = [100, 200, 300, 511, 512, 700, 1500]
+        let mut pool: Vec<Map> = [100, 200, 300, 511, 512, 700, 1500]
             .into_iter()
             .map(|offers| maps::built(&points::survey(draw, offers)))
             .collect();
+        pool.push(maps::built(&points::rail(draw, 700)));
         Ok(Session { comparison, pool, program: arguments.program.clone() })
     }
 

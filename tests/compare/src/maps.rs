@@ -36,7 +36,7 @@ fn renumbered(draw: &mut Draw, map: &Map) -> Map {
 }
 
 /// A map that offers may not build, but most often sound: another reference, other inner chains,
-/// inner points in line, points in another order.
+/// points in line inside and on edges, points in another order.
 pub fn rearranged(draw: &mut Draw, mut map: Map) -> Map {
     for _ in 0..draw.below(5) {
         let n = map.points.len();
@@ -86,7 +86,7 @@ pub fn changed(draw: &mut Draw, mut map: Map) -> Map {
         }
         let dart = draw.below(2 * n);
         let other = draw.below(2 * n + 3);
-        match draw.below(10) {
+        match draw.below(12) {
             0 => {
                 let i = draw.below(n);
                 let limits =
@@ -114,6 +114,16 @@ pub fn changed(draw: &mut Draw, mut map: Map) -> Map {
             6 => map.join(dart, other.min(2 * n - 1)),
             7 => map.set_edge(dart, draw.pick(&[dart, dart ^ 1, 1023, 1024, 1025, 65_535])),
             8 => map.reference = draw.pick(&[dart, dart & !1, 2 * n, 1023, NO_DART, 65_535]),
+            // in line with an edge: between its ends an inner point may lie, beyond them none
+            9 | 10 => {
+                let i = draw.below(n);
+                let a = draw.pick(&map.corners());
+                let b = (map.edge_link(2 * a) / 2).min(n - 1);
+                let moved = points::on_line(draw, map.points[a], map.points[b]);
+                if moved.in_range() {
+                    map.points[i] = moved;
+                }
+            }
             _ => {
                 let most = i64::from(i32::MAX);
                 map.points.iter_mut().for_each(|p| p.x = (-p.x).min(most));

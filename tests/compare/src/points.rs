@@ -39,13 +39,9 @@ pub fn any_point(draw: &mut Draw) -> Point {
 pub fn survey(draw: &mut Draw, offers: usize) -> Vec<Point> {
     let far =
         |draw: &mut Draw| Point::new(draw.between(-LIMIT, LIMIT), draw.between(-LIMIT, LIMIT));
-    match draw.below(8) {
+    match draw.below(10) {
         0 => (0..offers).map(|_| far(draw)).collect(),
-        1 => {
-            let width = draw.pick(&[2, 5, 10, 40, 1000]);
-            let mut coordinate = || draw.between(-width, width);
-            (0..offers).map(|_| Point::new(coordinate(), coordinate())).collect()
-        }
+        1 => grid(draw, offers),
         2 => convex(draw, offers),
         3 => collinear(draw, offers),
         4 => clustered(draw, offers),
@@ -64,6 +60,8 @@ pub fn survey(draw: &mut Draw, offers: usize) -> Vec<Point> {
                 })
                 .collect()
         }
+        7 => rail(draw, offers),
+        8 => aligned(draw, offers),
         _ => spiral(draw, offers),
     }
 }
@@ -87,6 +85,77 @@ pub fn convex(draw: &mut Draw, offers: usize) -> Vec<Point> {
         .collect();
     if mix {
         shuffle(draw, &mut points);
+    }
+    points
+}
+
+/// Points of a grid, many of which are in line. The grid may reach the ends of the range.
+fn grid(draw: &mut Draw, offers: usize) -> Vec<Point> {
+    let width = draw.pick(&[1, 2, 3, 5, 10, 40, 1000]);
+    let space = draw.pick(&[1, 1, 1, 7, LIMIT / width]);
+    let mut coordinate = || space * draw.between(-width, width);
+    (0..offers).map(|_| Point::new(coordinate(), coordinate())).collect()
+}
+
+/// Marks along one rail that is level, upright or slanted: near its start, or all the way to where
+/// it leaves the range. They come in any order, from one end to the other, or from the middle on,
+/// so that each is beyond an end. A few may lie beside the rail.
+pub fn rail(draw: &mut Draw, offers: usize) -> Vec<Point> {
+    let (across, up) =
+        draw.pick(&[(1, 0), (0, 1), (-1, 0), (0, -1), (1, 1), (1, -1), (2, 3), (-999, 7)]);
+    let mut start = || match draw.below(3) {
+        0 => draw.between(-20, 20),
+        1 => draw.between(-LIMIT, LIMIT),
+        _ => draw.pick(&[-LIMIT, -LIMIT + 1, LIMIT - 1, LIMIT]),
+    };
+    let start = Point::new(start(), start());
+    let steps_in_range = |z: i64, step: i64| match step {
+        0 => i64::MAX,
+        1.. => (LIMIT - z) / step,
+        _ => (LIMIT + z) / -step,
+    };
+    let most = steps_in_range(start.x, across).min(steps_in_range(start.y, up));
+    let last = if draw.one_in(2) { most } else { most.min(2 * offers as i64) };
+    let mut steps: Vec<i64> = (0..offers)
+        .map(|_| match draw.below(8) {
+            0 => draw.pick(&[-1, 0, 1, last - 1, last, last + 1]),
+            _ => draw.between(0, last),
+        })
+        .collect();
+    match draw.below(3) {
+        0 => {}
+        1 => steps.sort_unstable(),
+        _ => steps.sort_unstable_by_key(|step| (2 * step - last).abs()),
+    }
+    let beside = draw.pick(&[usize::MAX, usize::MAX, 30, 5]);
+    steps
+        .into_iter()
+        .map(|step| {
+            let mut point = Point::new(start.x + step * across, start.y + step * up);
+            if draw.one_in(beside) {
+                point.x += draw.between(-1, 1);
+            }
+            point
+        })
+        .collect()
+}
+
+/// Points on the lines of two earlier ones, between them or beyond: they come to lie on outline
+/// edges, on the lines of these, and in line inside.
+fn aligned(draw: &mut Draw, offers: usize) -> Vec<Point> {
+    let (width, space) = draw.pick(&[(2, 6), (20, 60), (8, LIMIT / 8)]);
+    let mut points: Vec<Point> = Vec::new();
+    for _ in 0..offers {
+        let mut coordinate = || space * draw.between(-width, width);
+        let mut point = Point::new(coordinate(), coordinate());
+        if points.len() > 2 && !draw.one_in(4) {
+            let [a, b] = [0; 2].map(|_| draw.pick(&points));
+            let other = on_line(draw, a, b);
+            if other.in_range() {
+                point = other;
+            }
+        }
+        points.push(point);
     }
     points
 }
@@ -157,7 +226,7 @@ pub fn query(draw: &mut Draw, map: &Map) -> Point {
 }
 
 /// A point with whole coordinates on the line of two points, between them or beyond.
-fn on_line(draw: &mut Draw, a: Point, b: Point) -> Point {
+pub fn on_line(draw: &mut Draw, a: Point, b: Point) -> Point {
     let (mut x, mut y) = (b.x - a.x, b.y - a.y);
     let (mut divisor, mut rest) = (x.abs(), y.abs());
     while rest != 0 {

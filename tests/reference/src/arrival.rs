@@ -1,8 +1,7 @@
 //! Offering a point: "Orientation and arrival".
 
-use crate::plane::{cross, hull};
+use crate::plane::{cross, hull, is_beside};
 use crate::{Answer, Map, POINT_LIMIT, Point, refusal};
-use std::collections::HashSet;
 
 /// What an accepted point does.
 #[derive(Clone, Copy, Debug, PartialEq, Eq)]
@@ -13,15 +12,9 @@ pub enum Arrival {
     Outside { left: usize, right: usize, visible: usize },
 }
 
-fn gcd(a: i64, b: i64) -> i64 {
-    if b == 0 { a.abs() } else { gcd(b, a % b) }
-}
-
-/// The direction of the line from p through q: opposite ways have one direction.
-fn direction(p: Point, q: Point) -> (i64, i64) {
-    let (x, y) = (q.x - p.x, q.y - p.y);
-    let divisor = if (x, y) < (0, 0) { -gcd(x, y) } else { gcd(x, y) };
-    (x / divisor, y / divisor)
+fn squared_distance(p: Point, q: Point) -> i128 {
+    let [across, up] = [q.x - p.x, q.y - p.y].map(i128::from);
+    across * across + up * up
 }
 
 impl Map {
@@ -35,10 +28,6 @@ impl Map {
         }
         if self.points.contains(&p) {
             return Err(refusal::REPEATED);
-        }
-        let mut directions = HashSet::new();
-        if !self.points.iter().all(|&q| directions.insert(direction(p, q))) {
-            return Err(refusal::IN_LINE);
         }
         Ok(())
     }
@@ -77,22 +66,27 @@ impl Map {
         Ok(arrival)
     }
 
-    /// The arrival of a point after two or more: the outline is the hull of the points.
+    /// The arrival of a point after two or more: the outline is the hull of the points, and an edge
+    /// is visible unless the point is left of it or on it.
     fn later(&self, p: Point) -> Arrival {
         let corners = hull(&self.points);
         let h = corners.len();
         let at = |i: usize| self.points[corners[i % h]];
-        let is_visible = |i: usize| cross(at(i), at(i + 1), p) < 0;
+        let is_visible = |i: usize| !is_beside(at(i), at(i + 1), p);
         let starts: Vec<usize> = (0..h).filter(|&i| is_visible(i)).collect();
-        let Some(first) = starts.iter().find(|&&i| !is_visible(i + h - 1)) else {
+        let visible = starts.len();
+        if visible == 0 {
             return Arrival::Inside;
-        };
-        let last =
-            starts.iter().find(|&&i| !is_visible(i + 1)).expect("visible edges end somewhere");
-        Arrival::Outside {
-            left: corners[*first],
-            right: corners[(last + 1) % h],
-            visible: starts.len(),
         }
+        // in line beyond one of two corners
+        if h == 2 && cross(at(0), at(1), p) == 0 {
+            let distance = |k: &&usize| squared_distance(self.points[**k], p);
+            let farther = *corners.iter().max_by_key(distance).expect("two corners");
+            return Arrival::Outside { left: farther, right: farther, visible };
+        }
+        let first = starts.iter().find(|&&i| !is_visible(i + h - 1));
+        let last = starts.iter().find(|&&i| !is_visible(i + 1));
+        let [first, last] = [first, last].map(|start| start.expect("some edge is not visible"));
+        Arrival::Outside { left: corners[*first], right: corners[(last + 1) % h], visible }
     }
 }

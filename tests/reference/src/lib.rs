@@ -3,8 +3,8 @@
 //! Nothing here is shared with the engine, and where there is a choice another way is taken:
 //! orientations are 128-bit, an outline is computed from the coordinates alone (Andrew's monotone
 //! chain) instead of being read from the links, links stand in a hash map, orbits are sets that
-//! grow until they are closed, parts are a union-find, points in line are found by their
-//! directions.
+//! grow until they are closed, parts are a union-find, a point in line with two others is between
+//! them by the order of the coordinates, and the farther of two corners by squared distances.
 //!
 //! Every function answers its value or the number of its refusal. A [`Map`] that comes out of
 //! [`Map::load`] or was built by [`Map::offer`] from [`Map::empty`] is sound, and the functions

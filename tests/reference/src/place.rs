@@ -1,6 +1,6 @@
 //! Placing a query point, and listing the corners.
 
-use crate::plane::{cross, hull};
+use crate::plane::{cross, hull, is_strictly_between};
 use crate::{Answer, Map, Point, refusal};
 
 /// Where a query point lies.
@@ -11,17 +11,8 @@ pub enum Placed {
     Corner(usize),
     Edge(usize, usize),
     Inside,
+    /// With the number of strictly visible edges: one on whose line the point lies is not counted.
     Outside(usize),
-}
-
-/// p lies on the segment from a to b and is neither end.
-fn is_strictly_between(a: Point, b: Point, p: Point) -> bool {
-    let lies_between = |u: i64, v: i64, z: i64| u.min(v) <= z && z <= u.max(v);
-    cross(a, b, p) == 0
-        && p != a
-        && p != b
-        && lies_between(a.x, b.x, p.x)
-        && lies_between(a.y, b.y, p.y)
 }
 
 impl Map {

@@ -1,4 +1,5 @@
-//! Points of the plane: the range, orientation, and the hull computed from coordinates alone.
+//! Points of the plane: the range, orientation, what lies between two points and beside an edge,
+//! and the hull computed from coordinates alone.
 
 use crate::{Answer, refusal};
 
@@ -36,8 +37,25 @@ pub fn orientation(a: Point, b: Point, c: Point) -> Answer<i64> {
     Ok(i64::try_from(cross(a, b, c)).expect("an orientation has 43 bits"))
 }
 
+/// p lies on the segment from a to b and is neither end.
+pub fn is_strictly_between(a: Point, b: Point, p: Point) -> bool {
+    let lies_between = |u: i64, v: i64, z: i64| u.min(v) <= z && z <= u.max(v);
+    cross(a, b, p) == 0
+        && p != a
+        && p != b
+        && lies_between(a.x, b.x, p.x)
+        && lies_between(a.y, b.y, p.y)
+}
+
+/// "positive orientation, or zero and lie between the edge's ends": p is left of the edge from a to
+/// b or on it.
+pub fn is_beside(a: Point, b: Point, p: Point) -> bool {
+    cross(a, b, p) > 0 || is_strictly_between(a, b, p)
+}
+
 /// The corners of the convex hull as indices, anticlockwise from the lowest, of these the one with
-/// the smallest x. A point in line with two corners is no corner.
+/// the smallest x. A point in line with two corners is no corner: of points on one rail the two
+/// ends are the corners.
 pub fn hull(points: &[Point]) -> Vec<usize> {
     let mut order: Vec<usize> = (0..points.len()).collect();
     order.sort_by_key(|&i| (points[i].y, points[i].x));

@@ -1,15 +1,25 @@
-//! The session and the questions of the requirements.
+//! The session and the questions of the requirements, and questions of ours.
 
+use crate::plane::{cross, is_beside};
+use crate::sound::is_sound;
 use crate::*;
 
 const SESSION: [(i64, i64); 6] = [(0, 0), (4, 0), (1, 3), (5, 4), (2, 1), (6, 7)];
 
-fn after(points: usize) -> Map {
+fn built(points: &[(i64, i64)]) -> Map {
     let mut m = Map::empty();
-    for (x, y) in &SESSION[..points] {
-        m.offer(Point::new(*x, *y)).expect("the session is accepted");
+    for (x, y) in points {
+        m.offer(Point::new(*x, *y)).expect("an accepted point");
     }
     m
+}
+
+fn after(points: usize) -> Map {
+    built(&SESSION[..points])
+}
+
+fn printed(text: &[u8]) -> String {
+    String::from_utf8(report(text)).unwrap()
 }
 
 fn numbers(c: Counts) -> [usize; 5] {
@@ -18,10 +28,10 @@ fn numbers(c: Counts) -> [usize; 5] {
 
 #[test]
 fn the_session() {
-    let printed = "OUTLINE 1\n0 first\n1 second\n2 outside 1 0 1\n3 outside 1 2 1\n4 inside\n\
-                   5 outside 1 2 2\ncorners 0 1 5 2\ncounts 11 6 7 4 3\n";
+    let expected = "OUTLINE 1\n0 first\n1 second\n2 outside 1 0 1\n3 outside 1 2 1\n4 inside\n\
+                    5 outside 1 2 2\ncorners 0 1 5 2\ncounts 11 6 7 4 3\n";
     for text in ["0 0\n4 0\n1 3\n5 4\n2 1\n6 7\n", "0 0\n4 0\n1 3\n5 4\n2 1\n6 7"] {
-        assert_eq!(String::from_utf8(report(text.as_bytes())).unwrap(), printed);
+        assert_eq!(printed(text.as_bytes()), expected);
     }
     let m = after(6);
     assert_eq!([2, 11, 10, 5, 6, 7].map(|d| m.edge_link(d)), [11, 2, 5, 10, 6, 7]);
@@ -69,7 +79,6 @@ fn orientations() {
 #[test]
 fn refused_points() {
     let mut m = after(4);
-    assert_eq!(m.offer(Point::new(2, 2)), Err(5));
     assert_eq!(m.offer(Point::new(4, 0)), Err(4));
     assert_eq!(m, after(4));
     assert_eq!(Map::empty().offer(Point::new(LIMIT, 0)), Ok(Arrival::First));
@@ -122,6 +131,104 @@ fn placing() {
     assert_eq!(after(1).place(Point::new(0, 0)), Ok(Placed::NoOutline));
 }
 
+const RAIL: [(i64, i64); 3] = [(0, 0), (2, 0), (4, 0)];
+
+#[test]
+fn a_rail() {
+    let m = built(&RAIL);
+    assert_eq!([0, 5, 4, 1, 2, 3].map(|d| m.edge_link(d)), [5, 0, 1, 4, 2, 3]);
+    assert_eq!(m.reference, 4);
+    let place = |x, y| m.place(Point::new(x, y));
+    assert_eq!(place(6, 0), Ok(Placed::Outside(0)));
+    assert_eq!(place(-1, 0), Ok(Placed::Outside(0)));
+    assert_eq!(place(1, 1), Ok(Placed::Outside(1)));
+    assert_eq!(place(4, 0), Ok(Placed::Corner(2)));
+    assert_eq!(place(2, 0), Ok(Placed::Edge(0, 2)));
+    let with_middle = |x, y| {
+        let mut m = m.clone();
+        m.points[1] = Point::new(x, y);
+        is_sound(&m)
+    };
+    assert!(with_middle(2, 0) && with_middle(1, 0) && with_middle(3, 0));
+    for (x, y) in [(5, 0), (-1, 0), (2, 1), (2, -1), (0, 0), (4, 0)] {
+        assert!(!with_middle(x, y), "{x} {y}");
+    }
+}
+
+#[test]
+fn points_on_edges() {
+    for (points, x, y) in [(3, 2, 0), (4, 2, 0), (4, 2, 2)] {
+        assert_eq!(after(points).offer(Point::new(x, y)), Ok(Arrival::Inside), "{x} {y}");
+    }
+    let mut m = after(3);
+    m.offer(Point::new(2, 0)).unwrap();
+    assert_eq!(m.place(Point::new(2, 0)), Ok(Placed::Edge(0, 1)));
+    let is_sound_with = |x, y| {
+        let mut m = m.clone();
+        m.points[3] = Point::new(x, y);
+        is_sound(&m)
+    };
+    assert!(is_sound_with(1, 0) && !is_sound_with(5, 0) && !is_sound_with(-1, 0));
+}
+
+#[test]
+fn reports_on_rails() {
+    assert_eq!(
+        printed(b"0 0\n2 0\n4 0\n"),
+        "OUTLINE 1\n0 first\n1 second\n2 outside 0 0 2\ncorners 0 2\ncounts 6 3 4 3 2\n"
+    );
+    assert_eq!(
+        printed(b"0 0\n2 0\n4 0\n-2 0\n1 0\n1 1\n"),
+        "OUTLINE 1\n0 first\n1 second\n2 outside 0 0 2\n3 outside 2 2 2\n4 inside\n\
+         5 outside 2 3 1\ncorners 3 2 5\ncounts 11 6 8 5 4\n"
+    );
+    // on the line of an edge, beyond its end: the corner there leaves the outline
+    assert_eq!(
+        printed(b"0 0\n4 0\n4 4\n0 4\n6 0\n"),
+        "OUTLINE 1\n0 first\n1 second\n2 outside 1 0 1\n3 outside 2 0 1\n4 outside 0 2 2\n\
+         corners 0 4 2 3\ncounts 10 5 6 3 2\n"
+    );
+    // from one end of the range to the other
+    assert_eq!(
+        printed(b"1000000 -1000000\n-1000000 1000000\n0 0\n999999 -999999\n0 0\n"),
+        "OUTLINE 1\n0 first\n1 second\n2 inside\n3 inside\n4 refused 4\n\
+         corners 0 1\ncounts 6 4 4 4 3\n"
+    );
+}
+
+/// "left of each outline edge or on it", "three or more corners still turn strictly left", and the
+/// two sums, after every survey of up to five points of a grid.
+#[test]
+fn every_short_survey_of_a_small_grid() {
+    /// The map after a survey, what its outside arrivals add up to, and how many points may follow.
+    fn every(grid: &[Point], map: &Map, outside: usize, visible: usize, more: usize) {
+        let corners = map.corners();
+        let h = corners.len();
+        let at = |i: usize| map.points[corners[i % h]];
+        assert!(is_sound(map));
+        for i in 0..h {
+            let others = map.points.iter().filter(|&&p| p != at(i) && p != at(i + 1));
+            assert!(h < 2 || others.clone().all(|&p| is_beside(at(i), at(i + 1), p)));
+            assert!(h < 3 || cross(at(i), at(i + 1), at(i + 2)) > 0);
+            assert!(h < 2 || map.edge_link(2 * corners[i]) == 2 * corners[(i + 1) % h] + 1);
+        }
+        let c = map.counts();
+        assert_eq!(c.vertices + c.edges + c.faces, c.darts + 2 * c.parts);
+        assert!(h < 2 || visible + h == 2 * outside + 2);
+        for &p in grid.iter().filter(|p| more > 0 && !map.points.contains(p)) {
+            let mut map = map.clone();
+            match map.offer(p).expect("a new point is accepted") {
+                Arrival::Outside { visible: edges, .. } => {
+                    every(grid, &map, outside + 1, visible + edges, more - 1);
+                }
+                _ => every(grid, &map, outside, visible, more - 1),
+            }
+        }
+    }
+    let grid: Vec<Point> = (0..9).map(|i| Point::new(i % 3, i / 3)).collect();
+    every(&grid, &Map::empty(), 0, 0, 5);
+}
+
 #[test]
 fn lines() {
     for (line, x, y) in [("0 0", 0, 0), ("-1 9999999", -1, 9_999_999), ("1 0\n", 1, 0)] {
@@ -159,7 +266,6 @@ fn lines() {
 
 #[test]
 fn reports() {
-    let printed = |text: &[u8]| String::from_utf8(report(text)).unwrap();
     let none = "corners\ncounts 0 0 0 0 0\n";
     assert_eq!(printed(b""), format!("OUTLINE 1\n{none}"));
     assert_eq!(printed(b"\n"), format!("OUTLINE 1\n0 refused 8\n{none}"));

@@ -1,7 +1,7 @@
 //! "A sound map", one function for each sentence.
 
 use crate::orbits::Partition;
-use crate::plane::cross;
+use crate::plane::is_beside;
 use crate::{DART_LIMIT, Map, NO_DART, POINT_LIMIT};
 use std::collections::HashSet;
 
@@ -68,13 +68,13 @@ fn reference_on_outline(m: &Map, outline: &[usize]) -> bool {
     m.reference < DART_LIMIT && m.reference.is_multiple_of(2) && outline.contains(&m.reference)
 }
 
-/// "Its edge from corner a to corner b links a's own dart with b's helper. For each outline edge
-/// from corner a to corner b, every point but a and b has positive orientation with (a, b)."
-fn others_left(m: &Map, outline: &[usize]) -> bool {
+/// "Its edge from corner a to corner b links a's own dart with b's helper." The "other points now
+/// have positive orientation, or zero and lie between the edge's ends."
+fn others_beside(m: &Map, outline: &[usize]) -> bool {
     outline.iter().filter(|&&d| d % 2 == 0).all(|&d| {
         let (a, b) = (d / 2, m.edge_link(d) / 2);
         (0..m.points.len())
-            .all(|c| c == a || c == b || cross(m.points[a], m.points[b], m.points[c]) > 0)
+            .all(|c| c == a || c == b || is_beside(m.points[a], m.points[b], m.points[c]))
     })
 }
 
@@ -97,7 +97,7 @@ pub fn is_sound(m: &Map) -> bool {
             no_outline(m)
         } else {
             the_outline(m).is_some_and(|outline| {
-                reference_on_outline(m, &outline) && others_left(m, &outline)
+                reference_on_outline(m, &outline) && others_beside(m, &outline)
             })
         }
 }

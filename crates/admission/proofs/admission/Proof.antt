@@ -2,10 +2,9 @@
 use borrow.Author.Needs.{needs}
 use mathlib.Core.Path.{_≡_, sym, ap, _∙_}
 use mathlib.Core.Bool.{false, not}
-use borrow.Author.Tests.{le-leb, lt-leb, not-false}
+use borrow.Author.Tests.{le-leb, lt-leb}
 use denote.Ref.{now}
 use lib.Dec.{leb}
-use Rattle.finite.specs.Tests.{of-true}
 use Rattle.finite.specs.Bounded.{any, some-not-none}
 use Rattle.model.specs.declared.Outcome.{Outcome}
 use Rattle.model.specs.Plane.{in-range, same-point}
@@ -48,39 +47,13 @@ returns-3 c =
     (rule-applies Outcome.Refused _ _ _
     (sym (some-not-none _ _) ∙ ap not (sym (d .is-new .ensures)) ∙ c .if3 .taken)))
 
-is-in-line-among-requires : tie.Need-is-in-line-among-requires
-is-in-line-among-requires c κs =
-    let e = c .before .before in
-    let s = e .before .before .before in
-    record {
-      ranged =
-          record {
-            places = s .pre .places;
-            offered = of-true _ (sym (e .before .in-range .ensures) ∙ not-false _ (e .if2 .left));
-          };
-      new = fresh c;
-    }
-
 returns-4 : tie.Need-returns-4
 unfolding admission-by
 returns-4 c =
-    let d = c .before in
-    let e = d .before .before .before in
+    let e = c .before .before in
     rule-passes Outcome.Refused _ _ _ (room (e .before .before))
     (rule-passes Outcome.Refused _ _ _ (ranged e)
-    (rule-passes Outcome.Refused _ _ _ (fresh (d .before))
-    (rule-applies Outcome.Refused _ _ _ (sym (d .is-in-line-among .ensures) ∙ c .if4 .taken))))
-
-returns-5 : tie.Need-returns-5
-unfolding admission-by
-returns-5 c =
-    let d = c .before in
-    let e = d .before .before .before in
-    rule-passes Outcome.Refused _ _ _ (room (e .before .before))
-    (rule-passes Outcome.Refused _ _ _ (ranged e)
-    (rule-passes Outcome.Refused _ _ _ (fresh (d .before))
-    (rule-passes Outcome.Refused _ _ _ (sym (d .is-in-line-among .ensures) ∙ c .if4 .left)
-    (no-rule Outcome.Refused _))))
+    (rule-passes Outcome.Refused _ _ _ (fresh c) (no-rule Outcome.Refused _)))
 
 pub admission-spec : {M : Type 1} → statement M
 admission-spec =
@@ -91,6 +64,4 @@ admission-spec =
     returns-2
     (λ c κs. search needs)
     returns-3
-    is-in-line-among-requires
-    returns-4
-    returns-5)
+    returns-4)

@@ -3,10 +3,10 @@
 use borrow.Author.Needs.{needs}
 use mathlib.Core.Path.{sym, _∙_}
 use Rattle.model.specs.Maps.{point}
-use Rattle.model.specs.Arrival.{arrive, refusing, admission-rules, is-repeated, is-in-line, admitted}
+use Rattle.model.specs.Arrival.{arrive, refusing, admission-rules, is-repeated, admitted}
 use Rattle.model.proofs.Answers.{outcome-refuses, outcome-serves}
 use Rattle.admission.specs.Admission.{admission-by}
-use Rattle.hull.proofs.Admissions.{ranged-places, admission-accepted, accepted-room}
+use Rattle.hull.proofs.Admissions.{whole-places, admission-accepted}
 use Rattle.hull.proofs.admitted.Statement.{statement}
 use Rattle.hull.proofs.admitted.Tie as tie
 
@@ -15,17 +15,16 @@ abbrev at-start : tie.After-admission → tie.Start
 at-start c = c .before .before .before .before .before .before
 
 admission-requires : tie.Need-admission-requires
-admission-requires c κs = ranged-places (c .before .before .before .before .before .pre)
+admission-requires c κs = whole-places (c .before .before .before .before .before .pre)
 
 arrive-requires : tie.Need-arrive-requires
 arrive-requires c κs =
     let d = c .before .before in
     let s = at-start d in
-    accepted-room
-    (admission-accepted (s .pre) (s .args .p) (sym (c .enum-told .given .1) ∙ d .admission .ensures))
+    admission-accepted (s .pre) (s .args .p) (sym (c .enum-told .given .1) ∙ d .admission .ensures)
 
 returns : tie.Need-returns
-unfolding admission-by is-repeated is-in-line point admitted
+unfolding admission-by is-repeated point admitted
 returns c =
     let d = c .before .before .before .before in
     let s = at-start d .args in
@@ -34,7 +33,7 @@ returns c =
     (sym (c .before .before .decided .given .1) ∙ d .admission .ensures)
 
 returns-2 : tie.Need-returns-2
-unfolding admission-by is-repeated is-in-line point admitted
+unfolding admission-by is-repeated point admitted
 returns-2 c =
     let d = c .before .before .before in
     let s = at-start d .args in

@@ -7,10 +7,10 @@ use Rattle.model.specs.declared.Map.{Map}
 use Rattle.model.specs.declared.Arrival.{Arrival}
 use Rattle.model.specs.declared.Offered.{Offered}
 use Rattle.model.specs.Maps.{own, map-lent}
-use Rattle.model.specs.Outline.{visible-edges}
-use Rattle.model.specs.Arrival.{left-corner, right-corner, arrived, alone, spliced}
+use Rattle.model.specs.Arrival.{arrived, alone, spliced}
 use Rattle.hull.specs.declared.sight.Seen.{Seen}
 use Rattle.hull.specs.Requires.{Spliceable}
+use Rattle.hull.specs.Sight.{seen}
 use Rattle.hull.proofs.Indices.{spliceable}
 use Rattle.hull.proofs.Seeing.{seen-by-arrays}
 use Rattle.hull.proofs.Cases.{inside, outside, grown}
@@ -32,16 +32,13 @@ at-seen c = c .before .before .before
 seen-from-requires : tie.Need-seen-from-requires
 seen-from-requires c κs =
     let s = c .before .before .before .before .before .before in
-    record {
-      rest = lent s;
-      outline = record { is-sound = s .pre .0 .is-sound; two = s .pre .1; offered = s .pre .0 .offered };
-    }
+    record { rest = lent s; outline = record { accepted = s .pre .0; two = s .pre .1 } }
 
 -- what is seen of the map
 seen-is : (c : tie.After-seen-from) →
     let m = lent (at-start c) in
     let p = at-start c .args .p in
-    c .seen-from .result ≡ record { left = left-corner m p; right = right-corner m p; visible = visible-edges m p }
+    c .seen-from .result ≡ seen m p
 seen-is c = c .seen-from .ensures ∙ sym (seen-by-arrays (lent (at-start c)) (at-start c .args .p))
 
 returns : tie.Need-returns

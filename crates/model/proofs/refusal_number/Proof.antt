@@ -41,15 +41,10 @@ returns-9 : tie.Need-returns-9
 unfolding number
 returns-9 c = sym (ap number (c .enum-told9 .given .1))
 
-returns-10 : tie.Need-returns-10
-unfolding number
-returns-10 c = sym (ap number (c .enum-told10 .given .1))
-
 pub refusal-number-spec : {M : Type 1} → statement M
 refusal-number-spec =
     tie.close
     (tie.spec
-    (λ c. search needs)
     (λ c. search needs)
     (λ c. search needs)
     (λ c. search needs)
@@ -67,5 +62,4 @@ refusal-number-spec =
     returns-6
     returns-7
     returns-8
-    returns-9
-    returns-10)
+    returns-9)

@@ -3,7 +3,7 @@
 use borrow.Author.Needs.{needs}
 use mathlib.Core.Path.{_∙_, ap₂}
 use Rattle.corners.specs.Viewing.{side-of}
-use Rattle.admission.proofs.Ranges.{three-ranged}
+use Rattle.maps.proofs.Ranges.{three-ranged}
 use Rattle.corners.proofs.query.side_at.Statement.{statement}
 use Rattle.corners.proofs.query.side_at.Tie as tie
 

@@ -3,7 +3,7 @@
 use borrow.Author.Needs.{needs}
 use mathlib.Core.Path.{_∙_, ap₂}
 use Rattle.model.specs.Plane.{sees-edge}
-use Rattle.admission.proofs.Ranges.{three-ranged}
+use Rattle.maps.proofs.Ranges.{three-ranged}
 use Rattle.hull.proofs.sight.is_visible.Statement.{statement}
 use Rattle.hull.proofs.sight.is_visible.Tie as tie
 

@@ -1,165 +1,82 @@
--- `hull::sight::seen_from` meets its contract: an iteration passes one corner of the outline.
+-- `hull::sight::seen_from` meets its contract: where what is visible turns at two corners, and where
+-- nothing is visible, p is not beyond; else it is.
 use borrow.Author.Needs.{needs}
-use mathlib.Core.Path.{_≡_, sym, subst, _∙_}
-use mathlib.Core.Logic.{⊎-elim}
-use mathlib.Core.Bool.{false, _&&_}
-use Prim.Native.Nat.{_-_}
-use native.Mathlib.Nat.{sub-zero}
-use native.Mathlib.Omega.{arith}
+use mathlib.Core.Path.{_≡_, sym, ap, _∙_}
 use denote.Ref.{now}
 use lib.Dec.{T}
-use Rattle.finite.specs.Tests.{and-both}
 use Rattle.model.specs.declared.Map.{Map}
-use Rattle.model.specs.Plane.{in-range, sees-edge}
-use Rattle.model.specs.Maps.{point-at, edge-link, with-outline}
-use Rattle.model.specs.Outline.{next-corner, previous-corner}
-use Rattle.hull.specs.Requires.{OutlineIn, visible-at}
-use Rattle.hull.specs.Sight.{sought-at}
-use Rattle.hull.proofs.Indices.{ranged}
-use Rattle.hull.proofs.Seeing.{tests-agree, unsought, SightAhead, at-first, passed-last, passed-one, at-end}
+use Rattle.model.specs.Maps.{with-outline}
+use Rattle.model.specs.Arrival.{is-beyond, farther}
+use Rattle.hull.specs.declared.sight.Seen.{Seen}
+use Rattle.hull.specs.Sight.{turning, seen}
+use Rattle.hull.proofs.Beyond.{beyond-by-turning, not-beyond-by-turning, not-beyond-unseen, seen-turning, seen-beyond}
+use Rattle.hull.proofs.Seeing.{by-arrays, turning-by-arrays, farther-by-arrays, seen-by-arrays}
 use Rattle.hull.proofs.sight.seen_from.Statement.{statement}
 use Rattle.hull.proofs.sight.seen_from.Tie as tie
 
-abbrev Inv-loop : tie.InvT-loop
-Inv-loop xs ys edge count reference p start last entering₀ left₀ right₀ visible₀ a₀ from₀ counter₀ entering left right visible a from counter =
-    (o : OutlineIn xs ys edge count reference p)
-    × SightAhead (with-outline (o .rest) xs ys edge count reference) p entering left right visible a
-    (count - counter)
-    × (from ≡ point-at xs ys a)
+-- the map whose arrays are lent
+abbrev lent : tie.Start → Map
+lent s =
+    with-outline (s .pre .rest) (now (s .args .xs)) (now (s .args .ys)) (now (s .args .edge)) (s .args .count) (s .args .reference)
 
-abbrev μ-loop : tie.MeasureT-loop
-μ-loop xs ys edge count reference p start last entering₀ left₀ right₀ visible₀ a₀ from₀ counter₀ entering left right visible a from counter =
-    count - counter
+-- what is seen round its outline
+module _ (c : tie.After-turning-from) where
+  abbrev s : tie.Start
+  s = c .before .before
 
-is-visible-requires : tie.Need-is-visible-requires Inv-loop μ-loop
-is-visible-requires c κs = ranged (c .before .before .pre .outline)
+  round-is : c .turning-from .result ≡ turning (lent s) (s .args .p)
+  round-is = c .turning-from .ensures ∙ sym (turning-by-arrays (lent s) (s .args .p))
 
--- where the function starts, and a map with the arrays that are lent
-abbrev at-start : tie.After-point-at Inv-loop μ-loop → tie.Start Inv-loop μ-loop
-at-start c = c .before .before .before .before
+-- what is returned, where p is not beyond
+module _ (c : tie.After-turning-from) where
+  as-turning : ¬ T (is-beyond (lent (s c)) (s c .args .p)) →
+      c .turning-from .result ≡ seen (by-arrays (lent (s c)) (s c .args .p)) (s c .args .p)
+  as-turning n =
+      let o = s c .pre .outline in
+      round-is c ∙ seen-turning (o .accepted) (o .two) n ∙ seen-by-arrays (lent (s c)) (s c .args .p)
 
-abbrev lent : tie.Start Inv-loop μ-loop → Map → Map
-lent s rest =
-    with-outline rest (now (s .args .xs)) (now (s .args .ys)) (now (s .args .edge)) (s .args .count) (s .args .reference)
-
-abbrev started : tie.In-loop Inv-loop μ-loop → tie.Start Inv-loop μ-loop
-started c = at-start (c .before .before)
-
-loop-holds : tie.Need-loop-holds Inv-loop μ-loop
-unfolding previous-corner edge-link
-loop-holds c =
-    let s = at-start c in (
-      s .pre,
-      at-first (lent s (s .pre .rest)) (s .args .p) (s .pre .outline) (sub-zero _)
-          (c .before .before .previous-corner .ensures) (c .before .is-visible .ensures),
-      c .point-at .ensures,
-    )
-
-sees-edge-requires : tie.Need-sees-edge-requires Inv-loop μ-loop
-sees-edge-requires c κs =
-    let t = c .before .before in
-    let at = t .before .loop in
-    let r = ranged (at .inv .0 .outline) in
-    let from : T (in-range (at .from)) = subst (λ q. T (in-range q)) (sym (at .inv .2)) (r .places (at .a)) in
-    let to : T (in-range (c .point-at2 .result)) =
-    subst (λ q. T (in-range q)) (sym (c .point-at2 .ensures)) (r .places (c .before .next-corner .result)) in
-    and-both (in-range (at .from) && in-range (c .point-at2 .result)) (in-range (started t .args .p))
-    (and-both (in-range (at .from)) (in-range (c .point-at2 .result)) from to) (r .offered)
-
--- where the edge that leaves corner a was looked at, and where it is settled whether a is sought
-module _ (e : tie.After-sees-edge Inv-loop μ-loop) where
-  abbrev in-loop : tie.In-loop Inv-loop μ-loop
-  in-loop = e .before .before .before
-
-  leaving-is : e .sees-edge .result
-      ≡ visible-at (now (started in-loop .args .xs)) (now (started in-loop .args .ys)) (in-loop .before .loop .a)
-      (e .before .before .next-corner .result) (started in-loop .args .p)
-  leaving-is =
-      e .sees-edge .ensures
-      ∙ (λ i. sees-edge (in-loop .before .loop .inv .2 i) (e .before .point-at2 .ensures i) (started in-loop .args .p))
-
-module _ (c : tie.Joined1 Inv-loop μ-loop) where
-  abbrev at-loop : tie.At-loop Inv-loop μ-loop
-  at-loop = in-loop (c .before .before) .before
-
-  agree : c .before .differ .result ≡ false → at-loop .loop .entering ≡ c .before .before .sees-edge .result
-  agree e = tests-agree _ _ (sym (c .before .differ .ensures) ∙ e)
-
-  left-sought : c .if1 .left
-      ≡ sought-at (at-loop .loop .left) (at-loop .loop .entering) (c .before .before .sees-edge .result) (at-loop .loop .a)
-  left-sought =
-      ⊎-elim (λ w. w .3 ∙ w .1 .ensures)
-      (λ w. w .1 ∙ unsought (at-loop .loop .left) (at-loop .loop .a) (agree (w .0 .left))) (c .if1 .came)
-
-  right-sought : c .if1 .right
-      ≡ sought-at (at-loop .loop .right) (c .before .before .sees-edge .result) (at-loop .loop .entering) (at-loop .loop .a)
-  right-sought =
-      ⊎-elim (λ w. w .4 ∙ w .2 .ensures)
-      (λ w. w .2 ∙ unsought (at-loop .loop .right) (at-loop .loop .a) (sym (agree (w .0 .left)))) (c .if1 .came)
-
-plus-one-if-requires : tie.Need-plus-one-if-requires Inv-loop μ-loop
-plus-one-if-requires c κs =
-    let t = in-loop (c .before .before) in
-    let inv = t .before .loop .inv in
-    omega (arith, inv .1 .few, inv .0 .outline .is-sound .links .fits, t .loop-test .taken)
-
--- a corner was passed: the next one is not the first ..
-loop-again : tie.Need-loop-again Inv-loop μ-loop
-unfolding next-corner edge-link
-loop-again c =
-    let d = c .before in
-    let e = d .before .before .before in
-    let t = in-loop e in
-    let s = started t in
-    let inv = t .before .loop .inv in (
-      inv .0,
-      passed-one (lent s (inv .0 .rest)) (s .args .p) (inv .0 .outline) (inv .1)
-          (omega (arith, t .loop-test .taken)) (e .before .before .next-corner .ensures) (leaving-is e)
-          (left-sought (d .before)) (right-sought (d .before)) (d .plus-one-if .ensures) (omega arith) (c .if2 .left),
-      e .before .point-at2 .ensures,
-    )
-
-returns : tie.Need-returns Inv-loop μ-loop
+returns : tie.Need-returns
 returns c =
-    let s = at-start (c .before .before) in
-    let inv = c .before .loop .inv in
-    at-end (lent s (inv .0 .rest)) (s .args .p) (inv .0 .outline) (inv .1) (omega (arith, c .loop-test .left))
-
--- .. or it is, and all is found
-returns-2 : tie.Need-returns-2 Inv-loop μ-loop
-unfolding next-corner edge-link
-returns-2 c =
     let d = c .before in
-    let e = d .before .before .before in
-    let t = in-loop e in
-    let s = started t in
-    let inv = t .before .loop .inv in
-    let m = lent s (inv .0 .rest) in
-    at-end m (s .args .p) (inv .0 .outline)
-    (passed-last m (s .args .p) (inv .0 .outline) (inv .1) (omega (arith, t .loop-test .taken))
-    (e .before .before .next-corner .ensures) (leaving-is e)
-    (left-sought (d .before)) (right-sought (d .before)) (d .plus-one-if .ensures) (c .if2 .taken))
-    (omega arith)
+    let o = s d .pre .outline in
+    as-turning d
+    (not-beyond-unseen (o .accepted) (o .two) (sym (ap (λ (t : Seen). t .visible) (round-is d)) ∙ c .if1 .taken))
+
+returns-2 : tie.Need-returns-2
+returns-2 c =
+    let d = c .before .before .before in
+    let o = s d .pre .outline in
+    as-turning d
+    (not-beyond-by-turning (o .accepted) (o .two)
+    (λ e. c .if2 .taken (ap (λ (t : Seen). t .left) (round-is d) ∙ e ∙ sym (ap (λ (t : Seen). t .right) (round-is d)))))
+
+-- some edge is visible, and that turns nowhere
+found-beyond : (c : tie.Else2) →
+    let d = c .before .before .before in T (is-beyond (lent (s d)) (s d .args .p))
+found-beyond c =
+    let d = c .before .before .before in
+    let o = s d .pre .outline in
+    beyond-by-turning (o .accepted) (o .two)
+    (λ e. c .before .before .if1 .left (ap (λ (t : Seen). t .visible) (round-is d) ∙ e))
+    (sym (ap (λ (t : Seen). t .left) (round-is d)) ∙ c .if2 .left ∙ ap (λ (t : Seen). t .right) (round-is d))
+
+farther-corner-requires : tie.Need-farther-corner-requires
+farther-corner-requires c κs =
+    let q = s (c .before .before .before) .pre in
+    record { rest = q .rest; outline = q .outline; beyond = found-beyond c }
+
+returns-3 : tie.Need-returns-3
+returns-3 c =
+    let d = c .before .before .before .before in
+    let m = lent (s d) in
+    let p = s d .args .p in
+    let o = s d .pre .outline in
+    let far : c .farther-corner .result ≡ farther m p = c .farther-corner .ensures ∙ sym (farther-by-arrays m p) in
+    let count = ap (λ (t : Seen). t .visible) (round-is d) in
+    (λ i. record { left = far i; right = far i; visible = count i })
+    ∙ seen-beyond (o .accepted) (o .two) (found-beyond (c .before))
+    ∙ seen-by-arrays m p
 
 pub seen-from-spec : {M : Type 1} → statement M
 seen-from-spec =
-    tie.close
-    (tie.spec
-    Inv-loop
-    μ-loop
-    (λ c κs. search needs)
-    is-visible-requires
-    (λ c κs. search needs)
-    loop-holds
-    (λ c κs. search needs)
-    (λ c κs. search needs)
-    sees-edge-requires
-    (λ c κs. search needs)
-    (λ c κs. search needs)
-    (λ c κs. search needs)
-    plus-one-if-requires
-    (λ c. search needs)
-    (λ c. search needs)
-    loop-again
-    returns
-    returns-2)
+    tie.close (tie.spec (λ c κs. search needs) returns returns-2 farther-corner-requires returns-3)

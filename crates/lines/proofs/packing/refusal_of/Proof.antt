@@ -30,21 +30,10 @@ returns-4 : tie.Need-returns-4
 unfolding refusal-of
 returns-4 c =
     rw (
-      ne-eqb _ 2 (c .before .before .before .if1 .left),
-      ne-eqb _ 3 (c .before .before .if2 .left),
-      ne-eqb _ 4 (c .before .if3 .left),
-      eq-eqb _ 5 (c .if4 .taken),
-    )
-
-returns-5 : tie.Need-returns-5
-unfolding refusal-of
-returns-5 c =
-    rw (
-      ne-eqb _ 2 (c .before .before .before .if1 .left),
-      ne-eqb _ 3 (c .before .before .if2 .left),
-      ne-eqb _ 4 (c .before .if3 .left),
-      ne-eqb _ 5 (c .if4 .left),
+      ne-eqb _ 2 (c .before .before .if1 .left),
+      ne-eqb _ 3 (c .before .if2 .left),
+      ne-eqb _ 4 (c .if3 .left),
     )
 
 pub refusal-of-spec : {M : Type 1} → statement M
-refusal-of-spec = tie.close (tie.spec returns returns-2 returns-3 returns-4 returns-5)
+refusal-of-spec = tie.close (tie.spec returns returns-2 returns-3 returns-4)

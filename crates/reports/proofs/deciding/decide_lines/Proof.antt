@@ -12,8 +12,7 @@ use Rattle.model.specs.declared.Map.{Map}
 use Rattle.model.specs.declared.Offered.{Offered}
 use Rattle.model.specs.Maps.{map-of}
 use Rattle.model.specs.Sound.{Shaped}
-use Rattle.hull.proofs.Outcomes.{Accepted}
-use Rattle.hull.proofs.Admissions.{accepted-room}
+use Rattle.hull.specs.Requires.{Accepted}
 use Rattle.lines.specs.Packing.{Packable}
 use Rattle.reports.specs.Deciding.{Reports, Stopped}
 use Rattle.reports.proofs.Verdicts.{arrive-sound, arrive-packable}
@@ -88,7 +87,7 @@ loop-holds c =
     c .refuse-lines .ensures .stops (at-empty (c .before .before) .empty-map .result) (begun (at-empty (c .before .before)))
 
 grow-requires : tie.Need-grow-requires Inv-loop μ-loop
-grow-requires c κs = accepted-room (accepted (c .before .before .before .before .before))
+grow-requires c κs = accepted (c .before .before .before .before .before)
 
 add-count : tie.Need-add-count Inv-loop μ-loop
 add-count c = omega (arith, accepted (in-loop c) .room)

@@ -12,7 +12,7 @@ use Rattle.model.specs.declared.Map.{Map}
 use Rattle.model.specs.Maps.{with-coordinates}
 use Rattle.survey.specs.declared.lines.Read.{Read}
 use Rattle.survey.specs.Places.{at-end, next-line}
-use Rattle.hull.proofs.Admissions.{ranged-places}
+use Rattle.hull.proofs.Admissions.{whole-places}
 use Rattle.reports.specs.Deciding.{Reports}
 use Rattle.reports.proofs.Verdicts.{refusal-packable}
 use Rattle.reports.proofs.Decisions.{place-free, place-further, refuse-next, stops-before, stops-at-end}
@@ -50,7 +50,7 @@ there : (c : tie.Then1 Inv-loop μ-loop) →
 there c = sym (c .before .at-end .ensures) ∙ not-true _ (c .if1 .taken)
 
 verdict-on-requires : tie.Need-verdict-on-requires Inv-loop μ-loop
-verdict-on-requires c κs = ranged-places (report (in-loop c .before .before) .is-sound)
+verdict-on-requires c κs = whole-places (report (in-loop c .before .before) .is-sound)
 
 returns : tie.Need-returns Inv-loop μ-loop
 returns c =

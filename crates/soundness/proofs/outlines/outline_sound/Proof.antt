@@ -26,7 +26,7 @@ first-two c =
 returns-2 : tie.Need-returns-2
 returns-2 c =
     let two = c .before .before in
-    both-asked (first-two two) (c .before .if3 .taken) (c .others-left .ensures)
+    both-asked (first-two two) (c .before .if3 .taken) (c .others-beside .ensures)
     ∙ sym (outline-of-many _ (two .before .before .if1 .left))
 
 returns-3 : tie.Need-returns-3

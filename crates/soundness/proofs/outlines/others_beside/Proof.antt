@@ -1,4 +1,4 @@
--- `soundness::outlines::others_left` meets its contract: the loop tests every corner from the
+-- `soundness::outlines::others_beside` meets its contract: the loop tests every corner from the
 -- reference round.
 use borrow.Author.Needs.{needs}
 use mathlib.Core.Path.{_≡_, sym, ap, _∙_}
@@ -14,11 +14,11 @@ use Rattle.model.specs.declared.Map.{Map}
 use Rattle.model.specs.Plane.{beside}
 use Rattle.model.specs.Maps.{owner, point, edge-link}
 use Rattle.model.specs.Outline.{next-corner, corners-from, outline}
-use Rattle.model.specs.Sound.{others-left}
+use Rattle.model.specs.Sound.{others-beside}
 use Rattle.maps.specs.Places.{aside-at}
 use Rattle.finite.specs.Loops.{Round, Corner, round-begun, corner-failed, came-round, corner-passed, all-round}
-use Rattle.soundness.proofs.outlines.others_left.Statement.{statement}
-use Rattle.soundness.proofs.outlines.others_left.Tie as tie
+use Rattle.soundness.proofs.outlines.others_beside.Statement.{statement}
+use Rattle.soundness.proofs.outlines.others_beside.Tie as tie
 
 -- every point is an end of the edge that leaves corner a, or lies beside it
 abbrev here : Map → ℕ → Bool
@@ -29,19 +29,19 @@ here m a =
     beside (point m a) (point m (next-corner m a)) (point m c))
 
 begun : (m : Map) → 2 ≤ m .count →
-    Round (here m) (next-corner m) (owner (m .reference)) (m .count) 0 (owner (m .reference)) (others-left m)
-unfolding others-left outline corners-from
+    Round (here m) (next-corner m) (owner (m .reference)) (m .count) 0 (owner (m .reference)) (others-beside m)
+unfolding others-beside outline corners-from
 begun m h = round-begun (sym (rw (le-ltb (m .count) 2 h)))
 
 abbrev Inv-loop : tie.InvT-loop
 Inv-loop m n start a₀ counter₀ a counter =
-    Round (here m) (next-corner m) (owner (m .reference)) (m .count) counter a (others-left m)
+    Round (here m) (next-corner m) (owner (m .reference)) (m .count) counter a (others-beside m)
 
 abbrev μ-loop : tie.MeasureT-loop
 μ-loop m n start a₀ counter₀ a counter = n - counter
 
 returns : tie.Need-returns Inv-loop μ-loop
-unfolding others-left outline all-in
+unfolding others-beside outline all-in
 returns c = rw (lt-ltb _ _ (c .if1 .taken))
 
 loop-holds : tie.Need-loop-holds Inv-loop μ-loop
@@ -68,7 +68,7 @@ module _ (c : tie.After-is-supporting-edge Inv-loop μ-loop) where
   led = at-next-corner .next-corner .ensures
 
   corner : Corner (here map) (next-corner map) (owner (map .reference)) (map .count) (at-loop .loop .counter)
-      (at-loop .loop .a) (others-left map) (c .is-supporting-edge .result) (at-next-corner .next-corner .result)
+      (at-loop .loop .a) (others-beside map) (c .is-supporting-edge .result) (at-next-corner .next-corner .result)
   unfolding point
   corner =
       record {
@@ -92,8 +92,8 @@ loop-again c = corner-passed (corner (c .before .before)) (c .before .if2 .left)
 returns-4 : tie.Need-returns-4 Inv-loop μ-loop
 returns-4 c = all-round (c .before .loop .inv) (omega arith)
 
-pub others-left-spec : {M : Type 1} → statement M
-others-left-spec =
+pub others-beside-spec : {M : Type 1} → statement M
+others-beside-spec =
     tie.close
     (tie.spec
     Inv-loop

@@ -4,7 +4,8 @@
 //! every call. Points and links stand in arrays, products are 64-bit, and the loops over points
 //! have no branches: the compiler vectorises those that compare coordinates, while products are
 //! taken one by one. As in the engine, soundness compares every outline edge with every point, and
-//! a later arrival looks at every outline edge once. A map grows in place.
+//! a later arrival looks at every outline edge once, going from own dart to own dart. A map grows in
+//! place. Other than in the engine, a new point is compared with all points, four at a time.
 
 const POINT_LIMIT: usize = 512;
 const DART_LIMIT: usize = 2 * POINT_LIMIT;
@@ -337,12 +338,16 @@ impl Map {
         let p = self.point(k);
         let start = self.reference / 2;
         let (mut left, mut right, mut visible) = (start, start, 0);
-        let mut corner = start;
+        let (mut corner, mut from) = (start, self.point(start));
+        // an own dart stands before the helper that leads to it: the next link waits for no division
+        let mut own = 2 * start;
         let mut first = false;
         let mut entering = false;
         loop {
-            let next = self.next(corner);
-            let leaving = !is_beside(self.point(corner), self.point(next), p);
+            let helper = usize::from(self.edge[own % DART_LIMIT]);
+            let next = helper / 2;
+            let to = self.point(next);
+            let leaving = !is_beside(from, to, p);
             if corner == start {
                 first = leaving;
             } else if leaving != entering {
@@ -355,6 +360,8 @@ impl Map {
             visible += usize::from(leaving);
             entering = leaving;
             corner = next;
+            from = to;
+            own = helper.wrapping_sub(1);
             if corner == start {
                 break;
             }

@@ -1,3 +1,5 @@
--- What the function of this crate answers. Nothing is assumed.
+-- What the functions of this crate require and answer. Nothing is assumed.
 --     Admission    why a sound map refuses a point, by its coordinates
+--     Marks        the mark of a point, by which it is told from most others at once
 pub mod Admission
+pub mod Marks

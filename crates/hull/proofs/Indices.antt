@@ -1,11 +1,11 @@
 -- What the code reads from a sound map and takes for an index lies within the arrays, in the order of
--- this page: edge links, also where one of them was cut; the points, also past the last one; the left
--- and the right corner.
+-- this page: edge links, also where one of them was cut; the points, also past the last one; the
+-- corners; the left and the right corner.
 use mathlib.Core.Path.{_≡_, sym, subst}
 use mathlib.Core.Logic.{_≢_, ⊎-elim}
 use mathlib.Core.Bool.{Bool, true, false, cond}
 use mathlib.Core.List.{List, [], _∷_}
-use Prim.Native.Nat.{ℕ, _≤_, _<_}
+use Prim.Native.Nat.{ℕ, _+_, _≤_, _<_}
 use native.Mathlib.Omega.{arith}
 use lib.Dec.{T, T-not}
 use lib.ListN.{length, getD, set}
@@ -17,13 +17,13 @@ use Rattle.finite.specs.ListLaws.{elem-head, elem-tail}
 use Rattle.orbits.specs.Sets.{dart-limit}
 use Rattle.model.specs.declared.Point.{Point}
 use Rattle.model.specs.declared.Map.{Map}
-use Rattle.model.specs.Maps.{point-limit, point, is-present, edge-link}
+use Rattle.model.specs.Maps.{point-limit, own, point, is-present, edge-link}
 use Rattle.model.specs.Outline.{outline}
 use Rattle.model.specs.Sound.{Shaped}
 use Rattle.model.specs.Arrival.{cut, turning-left, turning-right, farther, left-corner, right-corner}
 use Rattle.model.proofs.Sound.{place-ranged, present-below}
 use Rattle.maps.proofs.Outline.{outline-circuit}
-use Rattle.maps.specs.Places.{RangedQuery}
+use Rattle.maps.specs.Places.{PlacesFor, RangedQuery}
 use Rattle.hull.specs.Requires.{Accepted, OutlineFor, Spliceable}
 use Rattle.hull.proofs.Beyond.{by-beyond}
 
@@ -67,6 +67,22 @@ unfolding point
 ranged o = record { places = place-ranged (o .accepted .is-sound); offered = o .accepted .ranged }
 
 -- ---- corners
+
+-- a corner has its places: its own dart among the edge links, and its point
+module _ {m : Map} {p : Point} (o : OutlineFor m p) (a : ℕ) (on : T (elem a (outline m))) where
+  abbrev s : Shaped m
+  s = o .accepted .is-sound
+
+  pub corner-linked : own a < length (m .edge)
+  corner-linked = omega (arith, outline-circuit s (o .two) .below a on, s .links .fits, s .links .edge-whole)
+
+  pub corner-held : PlacesFor (m .xs) (m .ys) (a + 1)
+  corner-held =
+      let below = outline-circuit s (o .two) .below a on in
+      record {
+        xs-hold = omega (arith, s .links .fits, s .points .xs-whole);
+        ys-hold = omega (arith, s .links .fits, s .points .ys-whole);
+      }
 
 -- the first member that passes, or else 0, is below a bound of all
 first-below : (n : ℕ) (test : ℕ → Bool) (t : List ℕ) → 0 < n → ((a : ℕ) → T (elem a t) → a < n) →

@@ -1,5 +1,7 @@
 // What is seen of an outline from a point.
 
+use maps::places::partner;
+use maps::places::point_held;
 use maps::reading::next_corner;
 use maps::reading::point_at;
 use maps::reading::previous_corner;
@@ -79,7 +81,9 @@ fn farther_corner<'a>(
     if ahead { a } else { b }
 }
 
-// What is seen from p once round the outline, with the corners where what is visible turns.
+// What is seen from p once round the outline, with the corners where what is visible turns. The loop
+// goes from own dart to own dart, which stands before the helper that it is linked with, and tests no
+// length, since the arrays have a place for every corner.
 fn turning_from<'a>(
     xs: &'a [i64],
     ys: &'a [i64],
@@ -105,10 +109,12 @@ fn turning_from<'a>(
     };
     let mut visible = 0;
     let mut a = start;
+    let mut own = 2 * start;
     let mut from = point_at(xs, ys, start);
     for _ in 0..count {
-        let b = next_corner(edge, a);
-        let to = point_at(xs, ys, b);
+        let helper = partner(edge, own);
+        let b = helper / 2;
+        let to = point_held(xs, ys, b);
         let leaving = sees_edge(from, to, p);
         if differ(entering, leaving) {
             left = sought_at(left, entering, leaving, a);
@@ -117,6 +123,7 @@ fn turning_from<'a>(
         visible = plus_one_if(visible, leaving);
         entering = leaving;
         a = b;
+        own = helper - 1;
         from = to;
         if b == start {
             break;

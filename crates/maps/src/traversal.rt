@@ -15,7 +15,6 @@ use orbits::composed;
 use orbits::orbit;
 use orbits::orbit_count;
 use orbits::part;
-use orbits::part_counts;
 use orbits::steps::walk;
 ghost use mathlib.Core.Path.{_≡_};
 ghost use Prim.Native.Nat.{_≤_};
@@ -46,7 +45,8 @@ pub fn orbit_of(m: Map, kind: Kind, d: usize) -> DartSet
     }
 }
 
-// The numbers of darts, vertices, edges, faces and connected parts.
+// The numbers of darts, vertices, edges, faces and connected parts. Since the numbers balance, vertices +
+// edges + faces - darts = 2 × parts, no part has to be visited for its own sake.
 pub fn counts_of(m: Map) -> Counts
     requires { ⌜ Shaped m ⌝ }
     ensures { λ r. ⌜ r ≡ counts m ⌝ }
@@ -56,13 +56,16 @@ pub fn counts_of(m: Map) -> Counts
     let point = point_links(&m.helpers);
     let face = composed(&edge, &point);
     let present = present_darts(&m.helpers, n);
-    let parts = part_counts(&edge, &point, 2 * n, &present);
+    let darts = dart_count(&m.helpers, n);
+    let vertices = orbit_count(&point, 2 * n, &present);
+    let edges = orbit_count(&edge, 2 * n, &present);
+    let faces = orbit_count(&face, 2 * n, &present);
     Counts {
-        darts: dart_count(&m.helpers, n),
-        vertices: orbit_count(&point, 2 * n, &present),
-        edges: orbit_count(&edge, 2 * n, &present),
-        faces: orbit_count(&face, 2 * n, &present),
-        parts: parts.parts,
+        darts,
+        vertices,
+        edges,
+        faces,
+        parts: (vertices + edges + faces - darts) / 2,
     }
 }
 

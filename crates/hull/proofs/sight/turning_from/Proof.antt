@@ -1,6 +1,6 @@
 -- `hull::sight::turning_from` meets its contract: an iteration passes one corner of the outline.
 use borrow.Author.Needs.{needs}
-use mathlib.Core.Path.{_≡_, sym, subst, _∙_}
+use mathlib.Core.Path.{_≡_, refl, sym, ap, subst, _∙_}
 use mathlib.Core.Logic.{⊎-elim}
 use mathlib.Core.Bool.{false, _&&_}
 use Prim.Native.Nat.{_-_}
@@ -9,26 +9,29 @@ use native.Mathlib.Omega.{arith}
 use denote.Ref.{now}
 use lib.Dec.{T}
 use Rattle.finite.specs.Tests.{and-both}
+use Rattle.finite.specs.Lists.{elem}
 use Rattle.model.specs.declared.Map.{Map}
 use Rattle.model.specs.Plane.{in-range, sees-edge}
-use Rattle.model.specs.Maps.{point-at, edge-link, with-outline}
-use Rattle.model.specs.Outline.{next-corner, previous-corner}
+use Rattle.model.specs.Maps.{own, helper, owner, point-at, edge-link, with-outline}
+use Rattle.model.specs.Outline.{next-corner, previous-corner, outline}
+use Rattle.maps.proofs.Outline.{outline-next}
 use Rattle.hull.specs.Requires.{OutlineIn, visible-at}
 use Rattle.hull.specs.Sight.{sought-at}
-use Rattle.hull.proofs.Indices.{ranged}
+use Rattle.hull.proofs.Indices.{ranged, corner-linked, corner-held}
 use Rattle.hull.proofs.Seeing.{tests-agree, unsought, SightAhead, at-first, passed-last, passed-one, at-end}
 use Rattle.hull.proofs.sight.turning_from.Statement.{statement}
 use Rattle.hull.proofs.sight.turning_from.Tie as tie
 
 abbrev Inv-loop : tie.InvT-loop
-Inv-loop xs ys edge count reference p start last entering₀ left₀ right₀ visible₀ a₀ from₀ counter₀ entering left right visible a from counter =
+Inv-loop xs ys edge count reference p start last entering₀ left₀ right₀ visible₀ a₀ dart₀ from₀ counter₀ entering left right visible a dart from counter =
     (o : OutlineIn xs ys edge count reference p)
     × SightAhead (with-outline (o .rest) xs ys edge count reference) p entering left right visible a
     (count - counter)
     × (from ≡ point-at xs ys a)
+    × (dart ≡ own a)
 
 abbrev μ-loop : tie.MeasureT-loop
-μ-loop xs ys edge count reference p start last entering₀ left₀ right₀ visible₀ a₀ from₀ counter₀ entering left right visible a from counter =
+μ-loop xs ys edge count reference p start last entering₀ left₀ right₀ visible₀ a₀ dart₀ from₀ counter₀ entering left right visible a dart from counter =
     count - counter
 
 is-visible-requires : tie.Need-is-visible-requires Inv-loop μ-loop
@@ -53,7 +56,44 @@ loop-holds c =
       at-first (lent s (s .pre .rest)) (s .args .p) (s .pre .outline) (sub-zero _)
           (c .before .before .previous-corner .ensures) (c .before .is-visible .ensures),
       c .point-at .ensures,
+      refl,
     )
+
+mul-own : tie.Need-mul-own Inv-loop μ-loop
+mul-own c = record { fits = omega (arith, c .before .before .before .fits .reference .fits) }
+
+partner-requires : tie.Need-partner-requires Inv-loop μ-loop
+partner-requires c κs =
+    let inv = c .before .loop .inv in rw (inv .3) (corner-linked (inv .0 .outline) _ (inv .1 .on))
+
+-- the dart that is read is the helper of the next corner
+module _ (c : tie.After-partner Inv-loop μ-loop) where
+  abbrev at-corner : tie.At-loop Inv-loop μ-loop
+  at-corner = c .before .before
+
+  abbrev m : Map
+  m = lent (started (c .before)) (at-corner .loop .inv .0 .rest)
+
+  linked-is : c .partner .result ≡ edge-link m (own (at-corner .loop .a))
+  unfolding edge-link
+  linked-is = c .partner .ensures ∙ ap (edge-link m) (at-corner .loop .inv .3)
+
+  next-is : owner (c .partner .result) ≡ next-corner m (at-corner .loop .a)
+  unfolding next-corner
+  next-is = ap owner linked-is
+
+  next-on : (edge-link m (own (at-corner .loop .a)) ≡ helper (next-corner m (at-corner .loop .a)))
+      × T (elem (next-corner m (at-corner .loop .a)) (outline m))
+  next-on =
+      let o = at-corner .loop .inv .0 .outline in
+      outline-next (o .accepted .is-sound) (o .two) (at-corner .loop .a) (at-corner .loop .inv .1 .on)
+
+  helper-is : c .partner .result ≡ helper (next-corner m (at-corner .loop .a))
+  helper-is = linked-is ∙ next-on .0
+
+point-held-requires : tie.Need-point-held-requires Inv-loop μ-loop
+point-held-requires c κs =
+    rw (next-is c) (corner-held (at-corner c .loop .inv .0 .outline) _ (next-on c .1))
 
 sees-edge-requires : tie.Need-sees-edge-requires Inv-loop μ-loop
 sees-edge-requires c κs =
@@ -61,10 +101,10 @@ sees-edge-requires c κs =
     let at = t .before .loop in
     let r = ranged (at .inv .0 .outline) in
     let from : T (in-range (at .from)) = subst (λ q. T (in-range q)) (sym (at .inv .2)) (r .places (at .a)) in
-    let to : T (in-range (c .point-at2 .result)) =
-    subst (λ q. T (in-range q)) (sym (c .point-at2 .ensures)) (r .places (c .before .next-corner .result)) in
-    and-both (in-range (at .from) && in-range (c .point-at2 .result)) (in-range (started t .args .p))
-    (and-both (in-range (at .from)) (in-range (c .point-at2 .result)) from to) (r .offered)
+    let to : T (in-range (c .point-held .result)) =
+    subst (λ q. T (in-range q)) (sym (c .point-held .ensures)) (r .places (owner (c .before .partner .result))) in
+    and-both (in-range (at .from) && in-range (c .point-held .result)) (in-range (started t .args .p))
+    (and-both (in-range (at .from)) (in-range (c .point-held .result)) from to) (r .offered)
 
 -- where the edge that leaves corner a was looked at, and where it is settled whether a is sought
 module _ (e : tie.After-sees-edge Inv-loop μ-loop) where
@@ -73,10 +113,10 @@ module _ (e : tie.After-sees-edge Inv-loop μ-loop) where
 
   leaving-is : e .sees-edge .result
       ≡ visible-at (now (started in-loop .args .xs)) (now (started in-loop .args .ys)) (in-loop .before .loop .a)
-      (e .before .before .next-corner .result) (started in-loop .args .p)
+      (owner (e .before .before .partner .result)) (started in-loop .args .p)
   leaving-is =
       e .sees-edge .ensures
-      ∙ (λ i. sees-edge (in-loop .before .loop .inv .2 i) (e .before .point-at2 .ensures i) (started in-loop .args .p))
+      ∙ (λ i. sees-edge (in-loop .before .loop .inv .2 i) (e .before .point-held .ensures i) (started in-loop .args .p))
 
 module _ (c : tie.Joined1 Inv-loop μ-loop) where
   abbrev at-loop : tie.At-loop Inv-loop μ-loop
@@ -103,6 +143,9 @@ plus-one-if-requires c κs =
     let inv = t .before .loop .inv in
     omega (arith, inv .1 .few, inv .0 .outline .accepted .is-sound .links .fits, t .loop-test .taken)
 
+sub-own : tie.Need-sub-own Inv-loop μ-loop
+sub-own c = omega (arith, helper-is (c .before .before .before .before .before))
+
 -- a corner was passed: the next one is not the first ..
 loop-again : tie.Need-loop-again Inv-loop μ-loop
 unfolding next-corner edge-link
@@ -114,9 +157,10 @@ loop-again c =
     let inv = t .before .loop .inv in (
       inv .0,
       passed-one (lent s (inv .0 .rest)) (s .args .p) (inv .0 .outline) (inv .1)
-          (omega (arith, t .loop-test .taken)) (e .before .before .next-corner .ensures) (leaving-is e)
+          (omega (arith, t .loop-test .taken)) (next-is (e .before .before)) (leaving-is e)
           (left-sought (d .before)) (right-sought (d .before)) (d .plus-one-if .ensures) (omega arith) (c .if2 .left),
-      e .before .point-at2 .ensures,
+      e .before .point-held .ensures,
+      omega (arith, helper-is (e .before .before)),
     )
 
 returns : tie.Need-returns Inv-loop μ-loop
@@ -137,7 +181,7 @@ returns-2 c =
     let m = lent s (inv .0 .rest) in
     at-end m (s .args .p) (inv .0 .outline)
     (passed-last m (s .args .p) (inv .0 .outline) (inv .1) (omega (arith, t .loop-test .taken))
-    (e .before .before .next-corner .ensures) (leaving-is e)
+    (next-is (e .before .before)) (leaving-is e)
     (left-sought (d .before)) (right-sought (d .before)) (d .plus-one-if .ensures) (c .if2 .taken))
     (omega arith)
 
@@ -149,15 +193,17 @@ turning-from-spec =
     μ-loop
     (λ c κs. search needs)
     is-visible-requires
+    mul-own
     (λ c κs. search needs)
     loop-holds
-    (λ c κs. search needs)
-    (λ c κs. search needs)
+    partner-requires
+    point-held-requires
     sees-edge-requires
     (λ c κs. search needs)
     (λ c κs. search needs)
     (λ c κs. search needs)
     plus-one-if-requires
+    sub-own
     (λ c. search needs)
     (λ c. search needs)
     loop-again

@@ -1,35 +1,34 @@
 -- `maps::traversal::counts_of` meets its contract: the lists that the code fills hold the links and the
--- present darts, and permute these, so that each number is that of the definition.
+-- present darts, and permute these, so that each number of orbits is that of the definition; the number of
+-- parts follows from the others, since they balance.
 use borrow.Author.Needs.{needs}
 use mathlib.Core.Path.{_≡_, sym, ap, subst, _∙_}
-use mathlib.Core.Bool.{Bool}
+use mathlib.Core.Bool.{Bool, _&&_}
 use mathlib.Core.List.{List}
-use Prim.Native.Nat.{ℕ}
+use Prim.Native.Nat.{ℕ, _+_, _-_, _*_, _/_, _≤_}
 use native.Mathlib.Omega.{arith}
 use lib.ListN.{length}
 use Rattle.finite.specs.Bounded.{table}
-use Rattle.orbits.specs.declared.PartCounts.{PartCounts}
-use Rattle.orbits.specs.Reach.{by-one, by-two}
+use Rattle.finite.specs.Counting.{count-small}
+use Rattle.orbits.specs.Reach.{by-one}
 use Rattle.orbits.specs.Sets.{dart-limit}
-use Rattle.orbits.specs.Classes.{classes}
-use Rattle.orbits.specs.Links.{Permuted, link-of, test-of, part-counts}
+use Rattle.orbits.specs.Classes.{is-least, classes}
+use Rattle.orbits.specs.Links.{Permuted, link-of, test-of}
 use Rattle.orbits.proofs.Links.{permuted-first, permuted-second, permuted-composed}
+use Rattle.model.specs.declared.Kind.{Kind}
 use Rattle.model.specs.declared.Map.{Map}
 use Rattle.model.specs.Maps.{point-limit, has-helper, is-present, edge-link, point-link, face-link, dart-bound}
 use Rattle.model.specs.Reading.{links-of, number-of, darts, counts}
 use Rattle.model.specs.Sound.{Shaped}
-use Rattle.maps.proofs.Links.{sound-linked, edge-involutes}
+use Rattle.maps.proofs.Links.{sound-linked, edge-involutes, counts-balance}
 use Rattle.maps.proofs.Tables.{point-table, present-table, tables-permuted}
 use Rattle.maps.proofs.traversal.counts_of.Statement.{statement}
 use Rattle.maps.proofs.traversal.counts_of.Tie as tie
 
 -- where the lists are filled
-module _ (c : tie.After-present) where
-  abbrev told : tie.After-present-darts
-  told = c .before .before .before
-
+module _ (c : tie.After-present-darts) where
   abbrev composed : tie.After-composed
-  composed = told .before .before .before .before
+  composed = c .before .before .before .before
 
   abbrev filled : tie.After-point-links
   filled = composed .before .before .before
@@ -53,9 +52,9 @@ module _ (c : tie.After-present) where
   unfolding point-link has-helper
   points-are = filled .point-links .ensures
 
-  presence-is : told .present-darts .result ≡ table dart-limit (is-present map)
+  presence-is : c .present-darts .result ≡ table dart-limit (is-present map)
   unfolding is-present has-helper
-  presence-is = told .present-darts .ensures
+  presence-is = c .present-darts .ensures
 
   points : link-of (filled .point-links .result) ≡ point-link map
   points = ap link-of points-are ∙ point-table map helpers-whole
@@ -64,10 +63,10 @@ module _ (c : tie.After-present) where
   unfolding face-link edge-link
   faces = composed .composed .ensures .leads ∙ (λ i d. points i (edge-link map d))
 
-  presence : test-of (told .present-darts .result) ≡ is-present map
+  presence : test-of (c .present-darts .result) ≡ is-present map
   presence = ap test-of presence-is ∙ present-table map (sound .links .fits)
 
-  permuted : Permuted (dart-bound map) (test-of (told .present-darts .result)) (map .edge) (filled .point-links .result)
+  permuted : Permuted (dart-bound map) (test-of (c .present-darts .result)) (map .edge) (filled .point-links .result)
   permuted =
       subst (λ (p : List Bool). Permuted (dart-bound map) (test-of p) (map .edge) (filled .point-links .result))
       (sym presence-is)
@@ -76,17 +75,14 @@ module _ (c : tie.After-present) where
       (tables-permuted map helpers-whole edge-whole (sound .links .fits) (edge-involutes (sound-linked sound))))
 
 -- the same from where the orbits of each link are counted: points, edges, faces
-abbrev from-points : tie.After-present2 → tie.After-present
-from-points c = c .before .before .before .before .before .before .before
+abbrev from-points : tie.After-present → tie.After-present-darts
+from-points c = c .before .before .before .before .before .before
 
-abbrev from-edges : tie.After-present3 → tie.After-present
+abbrev from-edges : tie.After-present2 → tie.After-present-darts
 from-edges c = from-points (c .before .before .before)
 
-abbrev from-faces : tie.After-present4 → tie.After-present
+abbrev from-faces : tie.After-present3 → tie.After-present-darts
 from-faces c = from-edges (c .before .before .before)
-
-part-counts-requires : tie.Need-part-counts-requires
-part-counts-requires c κs = permuted c
 
 orbit-count-requires : tie.Need-orbit-count-requires
 orbit-count-requires c κs = permuted-second (permuted (from-points c))
@@ -101,30 +97,85 @@ orbit-count-requires-3 : tie.Need-orbit-count-requires-3
 orbit-count-requires-3 c κs =
     let a = from-faces c in permuted-composed (permuted a) (composed a .composed .ensures)
 
-returns : tie.Need-returns
-unfolding counts number-of links-of darts is-present has-helper edge-link part-counts
-returns c =
-    let third = c .before .before .before in
-    let second = third .before .before .before in
-    let first = second .before .before .before in
-    let lists = from-faces (c .before) in
-    let m = map lists in
-    let vertices = second .orbit-count .ensures
-    ∙ (λ i. classes (by-one (points lists i)) (dart-bound m) (presence lists i)) in
-    let edges = third .orbit-count2 .ensures
-    ∙ (λ i. classes (by-one (edge-link m)) (dart-bound m) (presence lists i)) in
-    let around = c .orbit-count3 .ensures
-    ∙ (λ i. classes (by-one (faces lists i)) (dart-bound m) (presence lists i)) in
-    let parts = ap (λ (k : PartCounts). k .parts) (first .before .before .before .before .part-counts .ensures)
-    ∙ (λ i. classes (by-two (edge-link m) (points lists i)) (dart-bound m) (presence lists i)) in
-    λ i.
+-- the numbers that are counted
+module _ (c : tie.After-orbit-count3) where
+  abbrev lists : tie.After-present-darts
+  lists = from-faces (c .before)
+
+  abbrev second : tie.After-orbit-count2
+  second = c .before .before .before
+
+  abbrev first : tie.After-orbit-count
+  first = second .before .before .before
+
+  abbrev m : Map
+  m = map lists
+
+  darts-are : first .before .before .before .dart-count .result ≡ darts m
+  unfolding darts is-present has-helper
+  darts-are = first .before .before .before .dart-count .ensures
+
+  vertices-are : first .orbit-count .result ≡ number-of m Kind.Vertex
+  unfolding number-of links-of
+  vertices-are =
+      first .orbit-count .ensures ∙ (λ i. classes (by-one (points lists i)) (dart-bound m) (presence lists i))
+
+  edges-are : second .orbit-count2 .result ≡ number-of m Kind.Edge
+  unfolding number-of links-of edge-link
+  edges-are =
+      second .orbit-count2 .ensures ∙ (λ i. classes (by-one (edge-link m)) (dart-bound m) (presence lists i))
+
+  faces-are : c .orbit-count3 .result ≡ number-of m Kind.Face
+  unfolding number-of links-of
+  faces-are =
+      c .orbit-count3 .ensures ∙ (λ i. classes (by-one (faces lists i)) (dart-bound m) (presence lists i))
+
+  -- of each kind there are at most as many as places
+  few : (kind : Kind) → number-of m kind ≤ dart-limit
+  unfolding number-of classes
+  few kind =
+      omega (
+        arith,
+        count-small (dart-bound m) (λ a. is-present m a && is-least (links-of m kind) (dart-bound m) a),
+        sound lists .links .fits,
+      )
+
+  balanced : number-of m Kind.Vertex + number-of m Kind.Edge + number-of m Kind.Face ≡ darts m + 2 * number-of m Kind.Part
+  balanced = counts-balance (sound lists)
+
+add-t23 : tie.Need-add-t23
+add-t23 c = record { fits = omega (arith, vertices-are c, edges-are c, few c Kind.Vertex, few c Kind.Edge) }
+
+add-t29 : tie.Need-add-t29
+add-t29 c =
     record {
-      darts = first .dart-count .ensures i;
-      vertices = vertices i;
-      edges = edges i;
-      faces = around i;
-      parts = parts i;
+      fits =
+          omega (
+            arith,
+            vertices-are c,
+            edges-are c,
+            faces-are c,
+            few c Kind.Vertex,
+            few c Kind.Edge,
+            few c Kind.Face,
+          );
     }
+
+sub-t30 : tie.Need-sub-t30
+sub-t30 c = omega (arith, darts-are c, vertices-are c, edges-are c, faces-are c, balanced c)
+
+returns : tie.Need-returns
+unfolding counts
+returns c =
+    let vertices = vertices-are c in
+    let edges = edges-are c in
+    let around = faces-are c in
+    let present = darts-are c in
+    let parts :
+    (first c .orbit-count .result + second c .orbit-count2 .result + c .orbit-count3 .result
+    - first c .before .before .before .dart-count .result) / 2 ≡ number-of (m c) Kind.Part =
+    omega (arith, balanced c) in
+    λ i. record { darts = present i; vertices = vertices i; edges = edges i; faces = around i; parts = parts i }
 
 pub counts-of-spec : {M : Type 1} → statement M
 counts-of-spec =
@@ -133,8 +184,6 @@ counts-of-spec =
     (λ c κs. search needs)
     (λ c κs. search needs)
     (λ c κs. search needs)
-    (λ c. search needs)
-    part-counts-requires
     (λ c κs. search needs)
     (λ c. search needs)
     orbit-count-requires
@@ -142,4 +191,7 @@ counts-of-spec =
     orbit-count-requires-2
     mul-orbit-count-3
     orbit-count-requires-3
+    add-t23
+    add-t29
+    sub-t30
     returns)

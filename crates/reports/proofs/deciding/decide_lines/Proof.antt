@@ -1,37 +1,39 @@
 -- `reports::deciding::decide_lines` meets its contract. The loop's invariant: the refused lines are
--- decided up to a stop. The measure is what is left of the text.
+-- decided up to a stop, and the accepted points are marked. The measure is what is left of the text.
 use borrow.Author.Needs.{needs}
 use mathlib.Core.Path.{_≡_, sym, subst}
 use mathlib.Core.Bool.{false}
-use Prim.Native.Nat.{_+_, _-_}
+use Prim.Native.Nat.{ℕ, _+_, _-_, _<_}
 use native.Mathlib.Omega.{arith}
 use borrow.Author.Tests.{not-true, not-false}
 use denote.Ref.{now}
 use lib.ListN.{length, set}
 use Rattle.model.specs.declared.Map.{Map}
 use Rattle.model.specs.declared.Offered.{Offered}
-use Rattle.model.specs.Maps.{map-of}
+use Rattle.model.specs.Maps.{point, empty-map, map-of}
 use Rattle.model.specs.Sound.{Shaped}
+use Rattle.admission.specs.Marks.{AllMarked}
+use Rattle.admission.proofs.Marking.{none-marked, one-marked}
 use Rattle.hull.specs.Requires.{Accepted}
 use Rattle.lines.specs.Packing.{Packable}
 use Rattle.reports.specs.Deciding.{Reports, Stopped}
-use Rattle.reports.proofs.Verdicts.{arrive-sound, arrive-packable}
+use Rattle.reports.proofs.Verdicts.{arrive-points, arrive-sound, arrive-packable}
 use Rattle.reports.proofs.Decisions.{reports-begin, stop-free, stop-further, stop-accepted}
 use Rattle.reports.proofs.Decisions.{accept-next, stopped-onwards, surveys}
 use Rattle.reports.proofs.deciding.decide_lines.Statement.{statement}
 use Rattle.reports.proofs.deciding.decide_lines.Tie as tie
 
 abbrev Inv-loop : tie.InvT-loop
-Inv-loop text answers₀ xs₀ ys₀ helpers₀ edge₀ count₀ reference₀ stop₀ answers xs ys helpers edge count reference stop =
-    Stopped text (map-of xs ys helpers edge count reference) answers 0 stop
+Inv-loop text answers₀ xs₀ ys₀ helpers₀ edge₀ count₀ reference₀ marks₀ stop₀ answers xs ys helpers edge count reference marks stop =
+    Stopped text (map-of xs ys helpers edge count reference) answers 0 stop × AllMarked xs ys count marks
 
 abbrev μ-loop : tie.MeasureT-loop
-μ-loop text answers₀ xs₀ ys₀ helpers₀ edge₀ count₀ reference₀ stop₀ answers xs ys helpers edge count reference stop =
+μ-loop text answers₀ xs₀ ys₀ helpers₀ edge₀ count₀ reference₀ marks₀ stop₀ answers xs ys helpers edge count reference marks stop =
     length text - stop .at
 
 -- where the empty map is made, seen from where its coordinates are lent
-abbrev at-empty : tie.After-ys2 Inv-loop μ-loop → tie.After-empty-map Inv-loop μ-loop
-at-empty c = c .before .before .before .before .before .before
+abbrev at-empty : tie.After-marks Inv-loop μ-loop → tie.After-empty-map Inv-loop μ-loop
+at-empty c = c .before .before .before .before .before .before .before .before
 
 -- the map at the head of the loop
 abbrev at-head : tie.At-loop Inv-loop μ-loop → Map
@@ -47,7 +49,7 @@ more c = not-true _ (c .if1 .taken)
 
 accepted : (c : tie.Then1 Inv-loop μ-loop) →
     let l = c .before .before in Accepted (at-head l) (l .loop .stop .p)
-accepted c = stop-accepted (c .before .before .loop .inv) (more c)
+accepted c = stop-accepted (c .before .before .loop .inv .0) (more c)
 
 -- the map after an arrival
 abbrev grown : tie.After-grow Inv-loop μ-loop → Map
@@ -67,9 +69,34 @@ grown-reports : (c : tie.After-packed Inv-loop μ-loop) →
     (set (l .loop .answers) (l .loop .stop .line) (c .packed .result)) (l .loop .stop .line + 1) (l .loop .stop .next)
 grown-reports c =
     let test = in-loop (c .before) in
-    accept-next (test .before .before .loop .inv) (more test) (c .before .grow .ensures) (c .packed .ensures)
+    accept-next (test .before .before .loop .inv .0) (more test) (c .before .grow .ensures) (c .packed .ensures)
 
--- nothing is decided at first
+-- .. and the marks with that of the point
+grown-marked : (c : tie.After-put-mark Inv-loop μ-loop) →
+    let g = c .before .before .before in
+    AllMarked (grown g .xs) (grown g .ys) (grown g .count) (c .put-mark .last .0)
+unfolding point
+grown-marked c =
+    let g = c .before .before .before in
+    let l = in-loop g .before .before in
+    let m = at-head l in
+    let p = l .loop .stop .p in
+    let put =
+    subst
+    (λ (o : Offered).
+    ((k : ℕ) → k < m .count → point (o .map) k ≡ point m k) × (point (o .map) (m .count) ≡ p))
+    (sym (g .grow .ensures)) (arrive-points (accepted (in-loop g))) in
+    rw (c .put-mark .ensures) (one-marked p (l .loop .inv .1) (put .0) (put .1))
+
+-- nothing is marked at first
+unmarked : (c : tie.After-no-marks Inv-loop μ-loop) →
+    let m = c .before .before .before .before .before .empty-map .result in
+    AllMarked (m .xs) (m .ys) (m .count) (c .no-marks .result)
+unfolding empty-map
+unmarked c =
+    rw (c .before .before .before .before .before .empty-map .ensures) (none-marked _ _ (c .no-marks .ensures))
+
+-- .. and nothing decided
 begun : (c : tie.After-empty-map Inv-loop μ-loop) →
     let s = c .before .before in
     Reports (now (s .args .text)) (c .empty-map .result) (now (s .args .answers)) 0 0
@@ -80,11 +107,11 @@ begun c =
 refuse-lines-requires : tie.Need-refuse-lines-requires Inv-loop μ-loop
 refuse-lines-requires c κs =
     let made = at-empty (c .before) in
-    record { rest = made .empty-map .result; reports = begun made }
+    record { rest = made .empty-map .result; reports = begun made; all-marked = unmarked (c .before .before .before .before) }
 
 loop-holds : tie.Need-loop-holds Inv-loop μ-loop
 loop-holds c =
-    c .refuse-lines .ensures .stops (at-empty (c .before .before) .empty-map .result) (begun (at-empty (c .before .before)))
+    (c .refuse-lines .ensures .stops (at-empty (c .before .before) .empty-map .result) (begun (at-empty (c .before .before))), unmarked (c .before .before .before .before .before))
 
 grow-requires : tie.Need-grow-requires Inv-loop μ-loop
 grow-requires c κs = accepted (c .before .before .before .before .before)
@@ -100,46 +127,57 @@ packed-requires c κs =
 mul-answers : tie.Need-mul-answers Inv-loop μ-loop
 mul-answers c =
     let test = in-loop (c .before) in
-    omega (arith, stop-free (test .before .before .loop .inv) (more test))
+    omega (arith, stop-free (test .before .before .loop .inv .0) (more test))
 
 element-write-answers : tie.Need-element-write-answers Inv-loop μ-loop
 element-write-answers c =
     let test = in-loop (c .before) in
-    omega (arith, stop-free (test .before .before .loop .inv) (more test))
+    omega (arith, stop-free (test .before .before .loop .inv .0) (more test))
 
 add-refuse-lines : tie.Need-add-refuse-lines Inv-loop μ-loop
 add-refuse-lines c =
-    let test = in-loop (c .before) in
-    omega (arith, stop-free (test .before .before .loop .inv) (more test))
+    let test = in-loop (c .before .before .before) in
+    omega (arith, stop-free (test .before .before .loop .inv .0) (more test))
 
 slice-aggregate-refuse-lines-3 : tie.Need-slice-aggregate-refuse-lines-3 Inv-loop μ-loop
-slice-aggregate-refuse-lines-3 c =
-    sym (grown-sound (c .before .before) .points .xs-whole)
+slice-aggregate-refuse-lines-3 c = c .before .before .before .no-marks .ensures
 
 slice-aggregate-refuse-lines-4 : tie.Need-slice-aggregate-refuse-lines-4 Inv-loop μ-loop
 slice-aggregate-refuse-lines-4 c =
-    sym (grown-sound (c .before .before .before) .points .ys-whole)
+    sym (grown-sound (c .before .before .before .before) .points .xs-whole)
+
+slice-aggregate-refuse-lines-5 : tie.Need-slice-aggregate-refuse-lines-5 Inv-loop μ-loop
+slice-aggregate-refuse-lines-5 c =
+    sym (grown-sound (c .before .before .before .before .before) .points .ys-whole)
+
+slice-aggregate-refuse-lines-6 : tie.Need-slice-aggregate-refuse-lines-6 Inv-loop μ-loop
+slice-aggregate-refuse-lines-6 c = sym (grown-marked (c .before .before .before) .whole)
+
+put-mark-requires : tie.Need-put-mark-requires Inv-loop μ-loop
+put-mark-requires c κs = accepted (in-loop (c .before .before)) .ranged
 
 refuse-lines-requires-2 : tie.Need-refuse-lines-requires-2 Inv-loop μ-loop
 refuse-lines-requires-2 c κs =
-    let next = c .before .before .before in
-    record { rest = grown (next .before); reports = grown-reports next }
+    let put = c .before .before .before .before in
+    let next = put .before .before in
+    record { rest = grown (next .before); reports = grown-reports next; all-marked = grown-marked put }
 
 loop-less : tie.Need-loop-less Inv-loop μ-loop
 loop-less c =
-    let next = c .before .before .before .before in
+    let next = c .before .before .before .before .before .before .before in
     let test = in-loop (next .before) in
-    let on = stop-further (test .before .before .loop .inv) (more test) in
+    let on = stop-further (test .before .before .loop .inv .0) (more test) in
     let stopped = c .refuse-lines2 .ensures .stops (grown (next .before)) (grown-reports next) in
     omega (arith, on .0, on .1, stopped .further)
 
 loop-again : tie.Need-loop-again Inv-loop μ-loop
 loop-again c =
-    let next = c .before .before .before .before in
-    stopped-onwards (c .refuse-lines2 .ensures .stops (grown (next .before)) (grown-reports next))
+    let put = c .before .before .before .before .before in
+    let next = put .before .before in
+    (stopped-onwards (c .refuse-lines2 .ensures .stops (grown (next .before)) (grown-reports next)), grown-marked put)
 
 returns : tie.Need-returns Inv-loop μ-loop
-returns c = surveys (c .before .before .loop .inv) (not-false _ (c .if1 .left))
+returns c = surveys (c .before .before .loop .inv .0) (not-false _ (c .if1 .left))
 
 pub decide-lines-spec : {M : Type 1} → statement M
 decide-lines-spec =
@@ -148,8 +186,10 @@ decide-lines-spec =
     Inv-loop
     μ-loop
     (λ c κs. search needs)
+    (λ c κs. search needs)
     (λ c. search needs)
     (λ c. search needs)
+    slice-aggregate-refuse-lines-3
     refuse-lines-requires
     loop-holds
     grow-requires
@@ -157,9 +197,11 @@ decide-lines-spec =
     packed-requires
     mul-answers
     element-write-answers
+    put-mark-requires
     add-refuse-lines
-    slice-aggregate-refuse-lines-3
     slice-aggregate-refuse-lines-4
+    slice-aggregate-refuse-lines-5
+    slice-aggregate-refuse-lines-6
     refuse-lines-requires-2
     loop-less
     loop-again

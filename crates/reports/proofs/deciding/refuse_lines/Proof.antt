@@ -20,24 +20,24 @@ use Rattle.reports.proofs.deciding.refuse_lines.Statement.{statement}
 use Rattle.reports.proofs.deciding.refuse_lines.Tie as tie
 
 abbrev Inv-loop : tie.InvT-loop
-Inv-loop text at line xs ys count answers₀ place₀ number₀ answers place number =
+Inv-loop text at line xs ys count marks answers₀ place₀ number₀ answers place number =
     ((rest : Map) → Reports text (with-coordinates rest xs ys count) answers₀ line at →
     Reports text (with-coordinates rest xs ys count) answers number place)
     × (at ≤ place)
 
 abbrev μ-loop : tie.MeasureT-loop
-μ-loop text at line xs ys count answers₀ place₀ number₀ answers place number = length text - place
+μ-loop text at line xs ys count marks answers₀ place₀ number₀ answers place number = length text - place
 
 loop-holds : tie.Need-loop-holds Inv-loop μ-loop
 loop-holds c = (λ rest r. r, omega arith)
 
 -- the report of the map that there is
 report : (l : tie.At-loop Inv-loop μ-loop) →
-    let s = l .before .before in
+    let s = l .before .before .before in
     Reports (now (s .args .text))
     (with-coordinates (s .pre .rest) (now (s .args .xs)) (now (s .args .ys)) (s .args .count))
     (l .loop .answers) (l .loop .number) (l .loop .place)
-report l = let pre = l .before .before .pre in l .loop .inv .0 (pre .rest) (pre .reports)
+report l = let pre = l .before .before .before .pre in l .loop .inv .0 (pre .rest) (pre .reports)
 
 -- where an iteration begins
 abbrev in-loop : tie.After-read-from Inv-loop μ-loop → tie.Then1 Inv-loop μ-loop
@@ -45,12 +45,13 @@ in-loop c = c .before
 
 -- there is a line
 there : (c : tie.Then1 Inv-loop μ-loop) →
-    let l = c .before .before in at-end (now (l .before .before .args .text)) (l .loop .place)
+    let l = c .before .before in at-end (now (l .before .before .before .args .text)) (l .loop .place)
     ≡ false
 there c = sym (c .before .at-end .ensures) ∙ not-true _ (c .if1 .taken)
 
 verdict-on-requires : tie.Need-verdict-on-requires Inv-loop μ-loop
-verdict-on-requires c κs = whole-places (report (in-loop c .before .before) .is-sound)
+verdict-on-requires c κs =
+    let l = in-loop c .before .before in (whole-places (report l .is-sound), l .before .before .before .pre .all-marked)
 
 returns : tie.Need-returns Inv-loop μ-loop
 returns c =
@@ -93,7 +94,7 @@ add-number c =
 -- where the next line begins
 next-is : (c : tie.After-read-from Inv-loop μ-loop) →
     let l = in-loop c .before .before in
-    c .read-from .result .next ≡ next-line (now (l .before .before .args .text)) (l .loop .place)
+    c .read-from .result .next ≡ next-line (now (l .before .before .before .args .text)) (l .loop .place)
 next-is c = ap (λ (q : Read). q .next) (c .read-from .ensures)
 
 loop-less : tie.Need-loop-less Inv-loop μ-loop

@@ -16,7 +16,7 @@ use mir.Syntax.{w64}
 use Rattle.integers.specs.Order.{order, +ℤ-splits}
 use Rattle.integers.specs.Sign.{nonneg-nonneg}
 use Rattle.integers.specs.Range.{Number, bounded-splits, literal, add, mul, back}
-use Rattle.finite.specs.Tests.{is-false, of-true, same-or-not}
+use Rattle.finite.specs.Tests.{is-false, same-or-not}
 use Rattle.finite.specs.Bounded.{any, any-at, below-suc}
 use Rattle.model.specs.declared.Point.{Point}
 use Rattle.model.specs.Plane.{coordinate-limit, same-point}

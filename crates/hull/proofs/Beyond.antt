@@ -11,6 +11,7 @@ use Prim.Native.Nat.{ℕ, _≤_, _<_}
 use native.Mathlib.Omega.{arith}
 use lib.Dec.{T, T-not, eqb, eqb→eq}
 use lib.ListN.{length}
+use lib.Signed.{_<ℤ_}
 use Rattle.finite.specs.Tests.{and-left, and-right, and-both, decide, is-true, is-false, equal-by}
 use Rattle.finite.specs.Bounded.{lt-or-ge}
 use Rattle.finite.specs.Lists.{elem, all-in, any-in}
@@ -24,8 +25,8 @@ use Rattle.model.specs.Maps.{owner, point}
 use Rattle.model.specs.Outline.{next-corner, previous-corner, outline, sees, visible-edges}
 use Rattle.model.specs.Sound.{Shaped}
 use Rattle.model.specs.Arrival.{turning-left, turning-right, is-farther, is-beyond, farther, left-corner, right-corner}
-use Rattle.plane.specs.Between.{opposite}
-use Rattle.plane.proofs.Betweenness.{between-of, of-between, between-symmetric, orientation-zero-last, not-both-between}
+use Rattle.plane.specs.Between.{dot, opposite}
+use Rattle.plane.proofs.Betweenness.{between-of, of-between, between-nearer, between-symmetric, orientation-zero-last, not-both-between}
 use Rattle.plane.proofs.Convex.{Convex, next-below, next-differs, prev-member}
 use Rattle.plane.proofs.Beyond.{two-corners, all-visible, all-visible-two, farther-corner, farther-only}
 use Rattle.plane.proofs.Corners.{LeftCorner, RightCorner, left-not-right, left-corner-seen, right-corner-seen, left-corner-first, right-corner-first}
@@ -81,6 +82,15 @@ module _ {m : Map} {p : Point} (a : Accepted m p) (two : 2 ≤ m .count) where
     pub farther-ahead : T (strictly-between (point m (farther m p)) p (point m (next-corner m (farther m p))))
     unfolding is-farther
     farther-ahead = farther-found .1
+
+    -- by squared distances
+    pub farther-from-point :
+        dot (point m (next-corner m (farther m p))) (point m (next-corner m (farther m p))) p
+        <ℤ dot (point m (farther m p)) (point m (farther m p)) p
+    farther-from-point =
+        let far = point m (farther m p) in
+        let near = point m (next-corner m (farther m p)) in
+        between-nearer far p near (between-of far p near farther-ahead)
 
     pub all-seen : AllSeen m p
     unfolding sees

@@ -82,8 +82,8 @@ fn farther_corner<'a>(
 }
 
 // What is seen from p once round the outline, with the corners where what is visible turns. The loop
-// goes from own dart to own dart, which stands before the helper that it is linked with, and tests no
-// length, since the arrays have a place for every corner.
+// goes from own dart to own dart: one is linked with the helper of the next corner, before which that
+// corner's own dart stands. It tests no length, since the arrays have a place for every corner.
 fn turning_from<'a>(
     xs: &'a [i64],
     ys: &'a [i64],

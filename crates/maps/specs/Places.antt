@@ -1,6 +1,7 @@
 -- Points by their places in a map's arrays, in the order of this page: that the arrays have places for
 -- so many; that all of them, and a point beside them, are in range; whether a point is new among them;
 -- whether a point lies beside an edge.
+use mathlib.Core.Path.{_≡_}
 use mathlib.Core.Bool.{Bool, not, _&&_}
 use mathlib.Core.List.{List}
 use Prim.Native.Nat.{ℕ, _≤_}
@@ -26,6 +27,12 @@ pub record RangedQuery (xs ys : List ℤ) (p : Point) : Type 0 where
 -- p is none of the first n points
 abbrev pub new-at : List ℤ → List ℤ → ℕ → Point → Bool
 new-at xs ys n p = all n (λ j. not (same-point (point-at xs ys j) p))
+
+-- places that hold points in range, and the ends of the edge from a to b read from them
+pub record EdgeRead (xs ys : List ℤ) (a b : ℕ) (from to : Point) : Type 0 where
+  pub places : (k : ℕ) → T (in-range (point-at xs ys k))
+  pub from-is : from ≡ point-at xs ys a
+  pub to-is : to ≡ point-at xs ys b
 
 -- point c is an end of the edge from a to b, or lies beside it
 abbrev pub aside-at : List ℤ → List ℤ → ℕ → ℕ → ℕ → Bool

@@ -38,8 +38,8 @@ turning-right m p = first-in (λ a. sees m p (previous-corner m a) && not (sees 
 unfoldable pub is-farther : Map → Point → ℕ → Bool
 is-farther m p a = strictly-between (point m a) p (point m (next-corner m a))
 
--- "the whole outline is two corners and the new point is in line beyond one of them": all of its edges are
--- visible then, and none is where what is visible turns
+-- "the whole outline is two corners and the new point is in line beyond one of them": both edges are
+-- visible then, and what is visible turns at no corner
 unfoldable pub is-beyond : Map → Point → Bool
 is-beyond m p = eqb (length (outline m)) 2 && any-in (is-farther m p) (outline m)
 
@@ -47,6 +47,7 @@ is-beyond m p = eqb (length (outline m)) 2 && any-in (is-farther m p) (outline m
 unfoldable pub farther : Map → Point → ℕ
 farther m p = first-in (is-farther m p) 0 (outline m)
 
+-- the two corners between which a point is put that sees some edge
 unfoldable pub left-corner : Map → Point → ℕ
 left-corner m p = cond (is-beyond m p) (farther m p) (turning-left m p)
 

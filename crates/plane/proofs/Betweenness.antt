@@ -48,6 +48,14 @@ module _ (a b p : Point) where
   dot-at-end =
       identity 4 (λ bx by px py. dotted px py bx by px py ≐ con (pos 0)) tt (b .x) (b .y) (p .x) (p .y)
 
+  law-of-cosines : dot a a b ≡ dot a a p +ℤ dot p p b -ℤ (dot a b p +ℤ dot a b p)
+  law-of-cosines =
+      identity 6
+      (λ ax ay bx by px py.
+      dotted ax ay ax ay bx by
+      ≐ dotted ax ay ax ay px py ⊕ dotted px py px py bx by ⊖ (dotted ax ay bx by px py ⊕ dotted ax ay bx by px py))
+      tt (a .x) (a .y) (b .x) (b .y) (p .x) (p .y)
+
   area-square :
       dot a b p *ℤ dot a p b +ℤ dot a p b *ℤ dot b p a +ℤ dot a b p *ℤ dot b p a ≡ orientation a b p *ℤ orientation a b p
   unfolding orientation
@@ -268,6 +276,20 @@ between-symmetric a b p h =
     record { line = orientation-zero-swap a b p (h .line); within = rw (dot-swap b a p) (h .within) }
 
 module _ (a b p : Point) (h : Between a b p) where
+  -- p is nearer to b than a is, by squared distances
+  pub between-nearer : dot p p b <ℤ dot a a b
+  between-nearer =
+      omega (
+        arith,
+        order,
+        h .within,
+        square-side a p,
+        law-of-cosines a b p,
+        +ℤ-splits (dot a a p) (dot p p b),
+        +ℤ-splits (dot a b p) (dot a b p),
+        -ℤ-splits (dot a a p +ℤ dot p p b) (dot a b p +ℤ dot a b p),
+      )
+
   pub between-start-differs : p ≢ a
   between-start-differs e =
       <ℤ-≢ (h .within) (ap (λ (x : Point). dot x b p) (sym e) ∙ dot-at-end a b p)

@@ -17,24 +17,19 @@ returns-2 c = rw (ne-eqb _ _ (c .before .if1 .left), eq-eqb _ _ (c .if2 .taken))
 
 is-beside-requires : tie.Need-is-beside-requires
 is-beside-requires c κs =
-    let pa = c .before .before .point-at in
-    let pb = c .before .point-at2 in
-    let pc = c .point-at3 in
-    let s = c .before .before .before .before .before in
-    let ra = subst (λ (p : Point). T (in-range p)) (sym (pa .ensures)) (s .pre (s .args .a)) in
-    let rb = subst (λ (p : Point). T (in-range p)) (sym (pb .ensures)) (s .pre (s .args .b)) in
-    let rc = subst (λ (p : Point). T (in-range p)) (sym (pc .ensures)) (s .pre (s .args .c)) in
+    let s = c .before .before .before in
+    let ra = subst (λ (p : Point). T (in-range p)) (sym (s .pre .from-is)) (s .pre .places (s .args .a)) in
+    let rb = subst (λ (p : Point). T (in-range p)) (sym (s .pre .to-is)) (s .pre .places (s .args .b)) in
+    let rc = subst (λ (p : Point). T (in-range p)) (sym (c .point-at .ensures)) (s .pre .places (s .args .c)) in
     search and-both
 
 returns-3 : tie.Need-returns-3
 returns-3 c =
-    let third = c .before in
-    let second = third .before in
-    let first = second .before in
-    let s = first .before in
-    rw (ne-eqb _ _ (s .before .if1 .left), ne-eqb _ _ (s .if2 .left))
-    (c .is-beside .ensures
-    ∙ (λ i. beside (first .point-at .ensures i) (second .point-at2 .ensures i) (third .point-at3 .ensures i)))
+    let read = c .before in
+    let other = read .before in
+    let pre = other .before .before .pre in
+    rw (ne-eqb _ _ (other .before .if1 .left), ne-eqb _ _ (other .if2 .left))
+    (c .is-beside .ensures ∙ (λ i. beside (pre .from-is i) (pre .to-is i) (read .point-at .ensures i)))
 
 pub is-end-or-beside-spec : {M : Type 1} → statement M
 is-end-or-beside-spec =
@@ -42,8 +37,6 @@ is-end-or-beside-spec =
     (tie.spec
     returns
     returns-2
-    (λ c κs. search needs)
-    (λ c κs. search needs)
     (λ c κs. search needs)
     is-beside-requires
     returns-3)

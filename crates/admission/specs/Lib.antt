@@ -1,5 +1,5 @@
 -- What the functions of this crate require and answer. Nothing is assumed.
 --     Admission    why a sound map refuses a point, by its coordinates
---     Marks        the mark of a point, by which it is told from most others at once
+--     Hashes       the hash of a point, by which it is told from most others at once
 pub mod Admission
-pub mod Marks
+pub mod Hashes

@@ -1,8 +1,7 @@
 // Why a sound map refuses a point, asked of the map's coordinates: no map is copied for it.
 
-pub mod marks;
+pub mod hashes;
 
-use crate::marks::is_marked;
 use maps::places::is_new;
 use model::Outcome;
 use model::POINT_LIMIT;
@@ -13,7 +12,6 @@ ghost use mathlib.Core.Path.{_≡_};
 ghost use Rattle.model.specs.Maps.{point-limit};
 ghost use Rattle.maps.specs.Places.{PlacesFor};
 ghost use Rattle.admission.specs.Admission.{admission-by};
-ghost use Rattle.admission.specs.Marks.{AllMarked};
 
 // Whether a point is accepted, or why it is refused.
 pub fn admission<'a>(xs: &'a [i64], ys: &'a [i64], count: usize, p: Point) -> Outcome
@@ -30,28 +28,4 @@ pub fn admission<'a>(xs: &'a [i64], ys: &'a [i64], count: usize, p: Point) -> Ou
         return Outcome::Refused(Refusal::Repeated);
     }
     Outcome::Served
-}
-
-// The same, where the marks of the map's points are set: a point in range whose mark is not set is none
-// of them, and is refused only by a full map.
-pub fn admission_marked<'a>(
-    xs: &'a [i64],
-    ys: &'a [i64],
-    count: usize,
-    marks: &'a [bool],
-    p: Point,
-) -> Outcome
-    requires { ⌜ PlacesFor (now xs) (now ys) point-limit ⌝ }
-    requires { ⌜ AllMarked (now xs) (now ys) count (now marks) ⌝ }
-    ensures { λ r. ⌜ r ≡ admission-by (now (xs .entry)) (now (ys .entry)) count p ⌝ }
-{
-    if POINT_LIMIT <= count {
-        return Outcome::Refused(Refusal::Full);
-    }
-    if in_range(p) {
-        if !is_marked(marks, p) {
-            return Outcome::Served;
-        }
-    }
-    admission(xs, ys, count, p)
 }

@@ -13,7 +13,7 @@ use Rattle.model.specs.Sound.{Shaped}
 use Rattle.model.specs.Text.{lines}
 use Rattle.model.specs.Report.{text-limit, arrivals, closing, report}
 use Rattle.survey.specs.Places.{at-end, line-at, next-line}
-use Rattle.admission.specs.Marks.{AllMarked}
+use Rattle.admission.specs.Hashes.{AllHashed}
 use Rattle.reports.specs.declared.deciding.Verdict.{Verdict}
 use Rattle.reports.specs.declared.deciding.Stop.{Stop}
 use Rattle.reports.specs.declared.deciding.Surveyed.{Surveyed}
@@ -44,13 +44,13 @@ pub record Stopped (text : List ℕ) (m : Map) (answers : List ℕ) (at : ℕ) (
   pub accepted : s .ended ≡ false →
       Verdict.Taken (s .p) ≡ verdict-by (m .xs) (m .ys) (m .count) (line-at text (s .at))
 
--- the same for code that is lent the coordinates of a map alone, and the marks of its points: of some map
+-- the same for code that is lent the coordinates of a map alone, and the hashes of its points: of some map
 -- with them ..
-pub record ReportsSome (text : List ℕ) (xs ys : List ℤ) (count : ℕ) (marks : List Bool) (answers : List ℕ)
+pub record ReportsSome (text : List ℕ) (xs ys : List ℤ) (count : ℕ) (hashes : List Bool) (answers : List ℕ)
     (n at : ℕ) : Type 0 where
   pub rest : Map
   pub reports : Reports text (with-coordinates rest xs ys count) answers n at
-  pub all-marked : AllMarked xs ys count marks
+  pub all-hashed : AllHashed xs ys count hashes
 
 -- .. and of every such map
 pub record StopsAll (text : List ℕ) (xs ys : List ℤ) (count : ℕ) (before after : List ℕ) (n at : ℕ)

@@ -1,9 +1,9 @@
 // What becomes of the lines of a text, one after another. A refused line asks the coordinates of
 // the map, and an accepted point is written into the map's arrays: no map is copied.
 
-use admission::admission_marked;
-use admission::marks::no_marks;
-use admission::marks::put_mark;
+use admission::hashes::admission_hashed;
+use admission::hashes::no_hashes;
+use admission::hashes::put_hash;
 use hull::grow;
 use lines::packing::packed;
 use maps::empty_map;
@@ -18,7 +18,7 @@ use survey::reader::read_from;
 ghost use mathlib.Core.Path.{_≡_};
 ghost use Rattle.model.specs.Maps.{point-limit};
 ghost use Rattle.maps.specs.Places.{PlacesFor};
-ghost use Rattle.admission.specs.Marks.{AllMarked};
+ghost use Rattle.admission.specs.Hashes.{AllHashed};
 ghost use Rattle.reports.specs.Verdicts.{verdict-by};
 ghost use Rattle.reports.specs.Deciding.{Readable, ReportsSome, StopsAll, Surveys};
 
@@ -47,21 +47,21 @@ pub struct Surveyed {
     pub lines: usize,
 }
 
-// Whether what a line names is accepted by a map with these coordinates, whose marks are set.
+// Whether what a line names is accepted by a map with these coordinates and hashes.
 pub(crate) fn verdict_on<'a>(
     xs: &'a [i64],
     ys: &'a [i64],
     count: usize,
-    marks: &'a [bool],
+    hashes: &'a [bool],
     line: Line,
 ) -> Verdict
     requires { ⌜ PlacesFor (now xs) (now ys) point-limit ⌝ }
-    requires { ⌜ AllMarked (now xs) (now ys) count (now marks) ⌝ }
+    requires { ⌜ AllHashed (now xs) (now ys) count (now hashes) ⌝ }
     ensures { λ r. ⌜ r ≡ verdict-by (now (xs .entry)) (now (ys .entry)) count line ⌝ }
 {
     match line {
         Line::Named(p) => {
-            let outcome = admission_marked(xs, ys, count, marks, p);
+            let outcome = admission_hashed(xs, ys, count, hashes, p);
             match outcome {
                 Outcome::Served => Verdict::Taken(p),
                 Outcome::Refused(refusal) => Verdict::Refused(refusal),
@@ -72,7 +72,7 @@ pub(crate) fn verdict_on<'a>(
 }
 
 // Decides the refused lines from a place on, up to the first line whose point is accepted, for a
-// map with these coordinates, whose marks are set.
+// map with these coordinates and hashes.
 pub(crate) fn refuse_lines<'a>(
     text: &'a [u8],
     at: usize,
@@ -80,10 +80,10 @@ pub(crate) fn refuse_lines<'a>(
     xs: &'a [i64],
     ys: &'a [i64],
     count: usize,
-    marks: &'a [bool],
+    hashes: &'a [bool],
     answers: &mut [u32; TEXT_LIMIT],
 ) -> Stop
-    requires { ⌜ ReportsSome (now text) (now xs) (now ys) count (now marks) (now answers) line at ⌝ }
+    requires { ⌜ ReportsSome (now text) (now xs) (now ys) count (now hashes) (now answers) line at ⌝ }
     ensures { λ r. ⌜ StopsAll (now (text .entry)) (now (xs .entry)) (now (ys .entry)) count
         (now (answers .entry)) (now (answers .exit)) line at r ⌝ }
 {
@@ -93,7 +93,7 @@ pub(crate) fn refuse_lines<'a>(
         let read = read_from(text, place);
         let named = read.line;
         let next = read.next;
-        let found = verdict_on(xs, ys, count, marks, named);
+        let found = verdict_on(xs, ys, count, hashes, named);
         match found {
             Verdict::Taken(p) => {
                 return Stop {
@@ -132,8 +132,8 @@ pub(crate) fn decide_lines(text: &[u8], answers: &mut [u32; TEXT_LIMIT]) -> Surv
     let mut edge = empty.edge;
     let mut count = empty.count;
     let mut reference = empty.reference;
-    let mut marks = no_marks();
-    let mut stop = refuse_lines(text, 0, 0, &xs, &ys, count, &marks, answers);
+    let mut hashes = no_hashes();
+    let mut stop = refuse_lines(text, 0, 0, &xs, &ys, count, &hashes, answers);
     while !stop.ended {
         let next = stop.next;
         let line = stop.line;
@@ -151,8 +151,8 @@ pub(crate) fn decide_lines(text: &[u8], answers: &mut [u32; TEXT_LIMIT]) -> Surv
         count += 1;
         reference = grown.reference;
         answers[line] = packed(arrival);
-        put_mark(&mut marks, p);
-        stop = refuse_lines(text, next, line + 1, &xs, &ys, count, &marks, answers);
+        put_hash(&mut hashes, p);
+        stop = refuse_lines(text, next, line + 1, &xs, &ys, count, &hashes, answers);
     }
     Surveyed {
         map: Map {

@@ -1,5 +1,5 @@
 -- `reports::deciding::decide_lines` meets its contract. The loop's invariant: the refused lines are
--- decided up to a stop, and the accepted points are marked. The measure is what is left of the text.
+-- decided up to a stop, and the hashes of the accepted points are set. The measure is what is left of the text.
 use borrow.Author.Needs.{needs}
 use mathlib.Core.Path.{_≡_, sym, subst}
 use mathlib.Core.Bool.{false}
@@ -12,8 +12,8 @@ use Rattle.model.specs.declared.Map.{Map}
 use Rattle.model.specs.declared.Offered.{Offered}
 use Rattle.model.specs.Maps.{point, empty-map, map-of}
 use Rattle.model.specs.Sound.{Shaped}
-use Rattle.admission.specs.Marks.{AllMarked}
-use Rattle.admission.proofs.Marking.{none-marked, one-marked}
+use Rattle.admission.specs.Hashes.{AllHashed}
+use Rattle.admission.proofs.Hashing.{none-hashed, one-hashed}
 use Rattle.hull.specs.Requires.{Accepted}
 use Rattle.lines.specs.Packing.{Packable}
 use Rattle.reports.specs.Deciding.{Reports, Stopped}
@@ -24,15 +24,15 @@ use Rattle.reports.proofs.deciding.decide_lines.Statement.{statement}
 use Rattle.reports.proofs.deciding.decide_lines.Tie as tie
 
 abbrev Inv-loop : tie.InvT-loop
-Inv-loop text answers₀ xs₀ ys₀ helpers₀ edge₀ count₀ reference₀ marks₀ stop₀ answers xs ys helpers edge count reference marks stop =
-    Stopped text (map-of xs ys helpers edge count reference) answers 0 stop × AllMarked xs ys count marks
+Inv-loop text answers₀ xs₀ ys₀ helpers₀ edge₀ count₀ reference₀ hashes₀ stop₀ answers xs ys helpers edge count reference hashes stop =
+    Stopped text (map-of xs ys helpers edge count reference) answers 0 stop × AllHashed xs ys count hashes
 
 abbrev μ-loop : tie.MeasureT-loop
-μ-loop text answers₀ xs₀ ys₀ helpers₀ edge₀ count₀ reference₀ marks₀ stop₀ answers xs ys helpers edge count reference marks stop =
+μ-loop text answers₀ xs₀ ys₀ helpers₀ edge₀ count₀ reference₀ hashes₀ stop₀ answers xs ys helpers edge count reference hashes stop =
     length text - stop .at
 
 -- where the empty map is made, seen from where its coordinates are lent
-abbrev at-empty : tie.After-marks Inv-loop μ-loop → tie.After-empty-map Inv-loop μ-loop
+abbrev at-empty : tie.After-hashes Inv-loop μ-loop → tie.After-empty-map Inv-loop μ-loop
 at-empty c = c .before .before .before .before .before .before .before .before
 
 -- the map at the head of the loop
@@ -71,12 +71,12 @@ grown-reports c =
     let test = in-loop (c .before) in
     accept-next (test .before .before .loop .inv .0) (more test) (c .before .grow .ensures) (c .packed .ensures)
 
--- .. and the marks with that of the point
-grown-marked : (c : tie.After-put-mark Inv-loop μ-loop) →
+-- .. and the hashes with that of the point
+grown-hashed : (c : tie.After-put-hash Inv-loop μ-loop) →
     let g = c .before .before .before in
-    AllMarked (grown g .xs) (grown g .ys) (grown g .count) (c .put-mark .last .0)
+    AllHashed (grown g .xs) (grown g .ys) (grown g .count) (c .put-hash .last .0)
 unfolding point
-grown-marked c =
+grown-hashed c =
     let g = c .before .before .before in
     let l = in-loop g .before .before in
     let m = at-head l in
@@ -86,15 +86,15 @@ grown-marked c =
     (λ (o : Offered).
     ((k : ℕ) → k < m .count → point (o .map) k ≡ point m k) × (point (o .map) (m .count) ≡ p))
     (sym (g .grow .ensures)) (arrive-points (accepted (in-loop g))) in
-    rw (c .put-mark .ensures) (one-marked p (l .loop .inv .1) (put .0) (put .1))
+    rw (c .put-hash .ensures) (one-hashed p (l .loop .inv .1) (put .0) (put .1))
 
--- nothing is marked at first
-unmarked : (c : tie.After-no-marks Inv-loop μ-loop) →
+-- no hash is set at first
+unhashed : (c : tie.After-no-hashes Inv-loop μ-loop) →
     let m = c .before .before .before .before .before .empty-map .result in
-    AllMarked (m .xs) (m .ys) (m .count) (c .no-marks .result)
+    AllHashed (m .xs) (m .ys) (m .count) (c .no-hashes .result)
 unfolding empty-map
-unmarked c =
-    rw (c .before .before .before .before .before .empty-map .ensures) (none-marked _ _ (c .no-marks .ensures))
+unhashed c =
+    rw (c .before .before .before .before .before .empty-map .ensures) (none-hashed _ _ (c .no-hashes .ensures))
 
 -- .. and nothing decided
 begun : (c : tie.After-empty-map Inv-loop μ-loop) →
@@ -107,11 +107,11 @@ begun c =
 refuse-lines-requires : tie.Need-refuse-lines-requires Inv-loop μ-loop
 refuse-lines-requires c κs =
     let made = at-empty (c .before) in
-    record { rest = made .empty-map .result; reports = begun made; all-marked = unmarked (c .before .before .before .before) }
+    record { rest = made .empty-map .result; reports = begun made; all-hashed = unhashed (c .before .before .before .before) }
 
 loop-holds : tie.Need-loop-holds Inv-loop μ-loop
 loop-holds c =
-    (c .refuse-lines .ensures .stops (at-empty (c .before .before) .empty-map .result) (begun (at-empty (c .before .before))), unmarked (c .before .before .before .before .before))
+    (c .refuse-lines .ensures .stops (at-empty (c .before .before) .empty-map .result) (begun (at-empty (c .before .before))), unhashed (c .before .before .before .before .before))
 
 grow-requires : tie.Need-grow-requires Inv-loop μ-loop
 grow-requires c κs = accepted (c .before .before .before .before .before)
@@ -140,7 +140,7 @@ add-refuse-lines c =
     omega (arith, stop-free (test .before .before .loop .inv .0) (more test))
 
 slice-aggregate-refuse-lines-3 : tie.Need-slice-aggregate-refuse-lines-3 Inv-loop μ-loop
-slice-aggregate-refuse-lines-3 c = c .before .before .before .no-marks .ensures
+slice-aggregate-refuse-lines-3 c = c .before .before .before .no-hashes .ensures
 
 slice-aggregate-refuse-lines-4 : tie.Need-slice-aggregate-refuse-lines-4 Inv-loop μ-loop
 slice-aggregate-refuse-lines-4 c =
@@ -151,16 +151,16 @@ slice-aggregate-refuse-lines-5 c =
     sym (grown-sound (c .before .before .before .before .before) .points .ys-whole)
 
 slice-aggregate-refuse-lines-6 : tie.Need-slice-aggregate-refuse-lines-6 Inv-loop μ-loop
-slice-aggregate-refuse-lines-6 c = sym (grown-marked (c .before .before .before) .whole)
+slice-aggregate-refuse-lines-6 c = sym (grown-hashed (c .before .before .before) .whole)
 
-put-mark-requires : tie.Need-put-mark-requires Inv-loop μ-loop
-put-mark-requires c κs = accepted (in-loop (c .before .before)) .ranged
+put-hash-requires : tie.Need-put-hash-requires Inv-loop μ-loop
+put-hash-requires c κs = accepted (in-loop (c .before .before)) .ranged
 
 refuse-lines-requires-2 : tie.Need-refuse-lines-requires-2 Inv-loop μ-loop
 refuse-lines-requires-2 c κs =
     let put = c .before .before .before .before in
     let next = put .before .before in
-    record { rest = grown (next .before); reports = grown-reports next; all-marked = grown-marked put }
+    record { rest = grown (next .before); reports = grown-reports next; all-hashed = grown-hashed put }
 
 loop-less : tie.Need-loop-less Inv-loop μ-loop
 loop-less c =
@@ -174,7 +174,7 @@ loop-again : tie.Need-loop-again Inv-loop μ-loop
 loop-again c =
     let put = c .before .before .before .before .before in
     let next = put .before .before in
-    (stopped-onwards (c .refuse-lines2 .ensures .stops (grown (next .before)) (grown-reports next)), grown-marked put)
+    (stopped-onwards (c .refuse-lines2 .ensures .stops (grown (next .before)) (grown-reports next)), grown-hashed put)
 
 returns : tie.Need-returns Inv-loop μ-loop
 returns c = surveys (c .before .before .loop .inv .0) (not-false _ (c .if1 .left))
@@ -197,7 +197,7 @@ decide-lines-spec =
     packed-requires
     mul-answers
     element-write-answers
-    put-mark-requires
+    put-hash-requires
     add-refuse-lines
     slice-aggregate-refuse-lines-4
     slice-aggregate-refuse-lines-5

@@ -20,13 +20,13 @@ use Rattle.reports.proofs.deciding.refuse_lines.Statement.{statement}
 use Rattle.reports.proofs.deciding.refuse_lines.Tie as tie
 
 abbrev Inv-loop : tie.InvT-loop
-Inv-loop text at line xs ys count marks answers₀ place₀ number₀ answers place number =
+Inv-loop text at line xs ys count hashes answers₀ place₀ number₀ answers place number =
     ((rest : Map) → Reports text (with-coordinates rest xs ys count) answers₀ line at →
     Reports text (with-coordinates rest xs ys count) answers number place)
     × (at ≤ place)
 
 abbrev μ-loop : tie.MeasureT-loop
-μ-loop text at line xs ys count marks answers₀ place₀ number₀ answers place number = length text - place
+μ-loop text at line xs ys count hashes answers₀ place₀ number₀ answers place number = length text - place
 
 loop-holds : tie.Need-loop-holds Inv-loop μ-loop
 loop-holds c = (λ rest r. r, omega arith)
@@ -51,7 +51,7 @@ there c = sym (c .before .at-end .ensures) ∙ not-true _ (c .if1 .taken)
 
 verdict-on-requires : tie.Need-verdict-on-requires Inv-loop μ-loop
 verdict-on-requires c κs =
-    let l = in-loop c .before .before in (whole-places (report l .is-sound), l .before .before .before .pre .all-marked)
+    let l = in-loop c .before .before in (whole-places (report l .is-sound), l .before .before .before .pre .all-hashed)
 
 returns : tie.Need-returns Inv-loop μ-loop
 returns c =

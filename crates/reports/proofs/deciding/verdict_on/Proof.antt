@@ -8,13 +8,13 @@ use Rattle.reports.proofs.deciding.verdict_on.Tie as tie
 returns : tie.Need-returns
 returns c =
     let call = c .before .before in
-    found-accepted _ _ _ _ (call .before .before .line .given .1) (call .admission-marked .ensures)
+    found-accepted _ _ _ _ (call .before .before .line .given .1) (call .admission-hashed .ensures)
     (c .enum-told .given .1)
 
 returns-2 : tie.Need-returns-2
 returns-2 c =
     let call = c .before .before .before in
-    found-refused _ _ _ _ (call .before .before .line .given .1) (call .admission-marked .ensures)
+    found-refused _ _ _ _ (call .before .before .line .given .1) (call .admission-hashed .ensures)
     (c .before .outcome .given .1)
 
 returns-3 : tie.Need-returns-3

@@ -1,4 +1,4 @@
--- `admission::admission_marked` meets its contract: a point in range whose mark is not set is refused by
+-- `admission::hashes::admission_hashed` meets its contract: a point in range whose hash is not set is refused by
 -- no rule but the first.
 use borrow.Author.Needs.{needs}
 use mathlib.Core.Path.{sym, ap, _∙_}
@@ -8,16 +8,16 @@ use Rattle.finite.specs.Tests.{of-true}
 use Rattle.model.specs.declared.Outcome.{Outcome}
 use Rattle.model.proofs.Answers.{rule-applies, rule-passes, no-rule}
 use Rattle.admission.specs.Admission.{admission-by}
-use Rattle.admission.proofs.Marking.{unmarked-new}
-use Rattle.admission.proofs.admission_marked.Statement.{statement}
-use Rattle.admission.proofs.admission_marked.Tie as tie
+use Rattle.admission.proofs.Hashing.{unhashed-new}
+use Rattle.admission.proofs.hashes.admission_hashed.Statement.{statement}
+use Rattle.admission.proofs.hashes.admission_hashed.Tie as tie
 
 returns : tie.Need-returns
 unfolding admission-by
 returns c = rule-applies Outcome.Refused _ _ _ (le-leb _ _ (c .if1 .taken))
 
-is-marked-requires : tie.Need-is-marked-requires
-is-marked-requires c κs =
+has-hash-requires : tie.Need-has-hash-requires
+has-hash-requires c κs =
     let s = c .before .before .before .before in
     (s .pre .1 .whole, of-true _ (sym (c .before .in-range .ensures) ∙ c .if2 .taken))
 
@@ -30,16 +30,16 @@ returns-2 c =
     rule-passes Outcome.Refused _ _ _ (lt-leb _ _ (e .before .if1 .left))
     (rule-passes Outcome.Refused _ _ _ (ap not (sym (e .in-range .ensures) ∙ d .before .if2 .taken))
     (rule-passes Outcome.Refused _ _ _
-    (unmarked-new (s .args .p) (s .pre .1) (sym (d .is-marked .ensures) ∙ not-true _ (c .if3 .taken)))
+    (unhashed-new (s .args .p) (s .pre .1) (sym (d .has-hash .ensures) ∙ not-true _ (c .if3 .taken)))
     (no-rule Outcome.Refused _)))
 
-pub admission-marked-spec : {M : Type 1} → statement M
-admission-marked-spec =
+pub admission-hashed-spec : {M : Type 1} → statement M
+admission-hashed-spec =
     tie.close
     (tie.spec
     returns
     (λ c κs. search needs)
-    is-marked-requires
+    has-hash-requires
     returns-2
     (λ c κs. search needs)
     (λ c. search needs))

@@ -1,4 +1,4 @@
--- `admission::marks::mark` meets its contract: at each operation the number that the machine has is built
+-- `admission::hashes::hash` meets its contract: at each operation the number that the machine has is built
 -- from the bounds of the coordinates.
 use mathlib.Core.Path.{ap}
 use Prim.Native.Nat.{_%_}
@@ -7,10 +7,10 @@ use mir.Syntax.{w64}
 use Rattle.integers.specs.Range.{Number, read, back, fits, unsigned-fits}
 use Rattle.model.specs.Plane.{coordinate-limit}
 use Rattle.plane.proofs.Bounds.{x-near, y-near}
-use Rattle.admission.specs.Marks.{mark-count, mark}
-use Rattle.admission.proofs.Marking.{column, row, rows, number, number-nonneg}
-use Rattle.admission.proofs.marks.mark.Statement.{statement}
-use Rattle.admission.proofs.marks.mark.Tie as tie
+use Rattle.admission.specs.Hashes.{hash-count, hash}
+use Rattle.admission.proofs.Hashing.{column, row, rows, number, number-nonneg}
+use Rattle.admission.proofs.hashes.hash.Statement.{statement}
+use Rattle.admission.proofs.hashes.hash.Tie as tie
 
 module _ (s : tie.Start) where
   abbrev x : Number coordinate-limit (s .args .p .x)
@@ -37,10 +37,10 @@ cast-result c =
     unsigned-fits (back w64 tt (number (x s) (y s))) (number-nonneg (x s) (y s)) w64 tt
 
 returns : tie.Need-returns
-unfolding mark
+unfolding hash
 returns c =
     let s = c .before .before .before .before in
-    ap (λ (z : ℤ). natAbs z % mark-count) (back w64 tt (number (x s) (y s)) .is)
+    ap (λ (z : ℤ). natAbs z % hash-count) (back w64 tt (number (x s) (y s)) .is)
 
-pub mark-spec : {M : Type 1} → statement M
-mark-spec = tie.close (tie.spec add-column add-row mul-result add-result cast-result returns)
+pub hash-spec : {M : Type 1} → statement M
+hash-spec = tie.close (tie.spec add-column add-row mul-result add-result cast-result returns)

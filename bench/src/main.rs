@@ -17,8 +17,11 @@ mod stack;
 #[cfg(test)]
 mod tests;
 
-use reach::raw;
+use reach::{COORDINATE_LIMIT as LIMIT, raw};
 use std::hint::black_box;
+
+/// The line that is read by itself.
+const LINE: &[u8] = b"-1000000000 999999999";
 
 struct Table {
     samples: usize,
@@ -121,7 +124,7 @@ impl Table {
 
     /// The calls that take no map.
     fn small(&self) {
-        let corners = [[-1_000_000, 999_999], [1_000_000, -3], [7, 1_000_000]];
+        let corners = [[-LIMIT, LIMIT - 1], [LIMIT, -3], [7, LIMIT]];
         self.line(
             "orientation",
             [0],
@@ -134,12 +137,11 @@ impl Table {
                 plain::orientation(a, b, c, out)
             },
         );
-        let line = b"-1000000 999999";
         self.line(
             "line",
             [0; 2],
-            |out| raw::line(black_box(line), out),
-            |out| plain::line(black_box(line), out),
+            |out| raw::line(black_box(LINE), out),
+            |out| plain::line(black_box(LINE), out),
         );
     }
 }

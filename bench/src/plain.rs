@@ -11,7 +11,8 @@ const POINT_LIMIT: usize = 512;
 const DART_LIMIT: usize = 2 * POINT_LIMIT;
 const NO_DART: usize = DART_LIMIT;
 const TEXT_LIMIT: usize = 65_536;
-const LIMIT: i64 = 1_000_000;
+const LIMIT: i64 = 1_000_000_000;
+const DIGIT_LIMIT: usize = 10;
 const HEAD: usize = 9;
 
 const NOT_SOUND: u32 = 1;
@@ -44,7 +45,7 @@ fn in_range(z: i64) -> bool {
     (-LIMIT..=LIMIT).contains(&z)
 }
 
-/// The product of two coordinates, or of two differences of coordinates.
+/// The product of two coordinates, or of two differences of coordinates, which fit 32 bits too.
 fn product(a: i32, b: i32) -> i64 {
     i64::from(a) * i64::from(b)
 }
@@ -544,7 +545,7 @@ fn number(bytes: &[u8]) -> Option<(i64, &[u8])> {
     let mut length = 0;
     while let Some(digit @ b'0'..=b'9') = digits.get(length) {
         length += 1;
-        if length > 7 {
+        if length > DIGIT_LIMIT {
             return None;
         }
         value = 10 * value + i64::from(digit - b'0');

@@ -1,7 +1,7 @@
 //! The least stack of a thread in which a call ends, found by halving. Each try is a process of its
 //! own, since too little stack ends it.
 
-use crate::inputs;
+use crate::{LINE, inputs};
 use reach::raw;
 use std::process::{Command, Stdio};
 
@@ -52,7 +52,7 @@ fn call(name: &str) -> Option<Box<dyn FnOnce() -> u32 + Send>> {
             let (mut out, mut length) = (vec![0; 512], [0]);
             Box::new(move || raw::corners(&file, &mut out, &mut length))
         }
-        "line" => Box::new(|| raw::line(b"-1000000 999999", &mut [0; 2])),
+        "line" => Box::new(|| raw::line(LINE, &mut [0; 2])),
         _ => return None,
     })
 }

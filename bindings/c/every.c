@@ -12,8 +12,8 @@
 #include <stdio.h>
 #include <string.h>
 
-#if REACH_HEADER_VERSION != 2
-#error "this program is for version 2 of reach.h"
+#if REACH_HEADER_VERSION != 3
+#error "this program is for version 3 of reach.h"
 #endif
 
 static int values, differences;
@@ -184,11 +184,17 @@ static void numbers(void) {
     IS(number[0], 12);
     IS(reach_orientation(-most, -most, most, -most, most, most, number, 1), 0);
     IS(number[0], 4 * most * most);
+    IS(reach_orientation(most, -most, -most, -most, most, most, number, 1), 0);
+    IS(number[0], -4 * most * most);
     IS(reach_orientation(0, 0, 4, 0, 0, -most - 1, number, 1), REACH_OUT_OF_RANGE);
     IS(reach_line((const uint8_t *)"-3 40", 5, number, 2), 0);
     IS(number[0], -3);
     IS(number[1], 40);
     IS(reach_line((const uint8_t *)"-3  40", 6, number, 2), REACH_BAD_LINE);
+    IS(reach_line((const uint8_t *)"-9999999999 1000000000", 22, number, 2), 0);
+    IS(number[0], -9999999999);
+    IS(number[1], REACH_COORDINATE_LIMIT);
+    IS(reach_line((const uint8_t *)"10000000000 0", 13, number, 2), REACH_BAD_LINE);
 }
 
 static void reports(void) {

@@ -3,9 +3,9 @@
  * target/staticlib/libreach.a. It is code for x86-64 under Linux and needs memcpy and memset alone.
  *
  * A map crosses the boundary as its saved bytes, REACH_BYTES(n) of them for n points, at most
- * REACH_MAP_BYTES; what stands where is said below. Coordinates are whole numbers from -1,000,000
- * to 1,000,000; points are numbered from 0 in the order of their acceptance; point k owns dart 2k
- * and may have the helper dart 2k + 1.
+ * REACH_MAP_BYTES; what stands where is said below. Coordinates are whole numbers from
+ * -1,000,000,000 to 1,000,000,000, thousandths of a millimetre; points are numbered from 0 in the
+ * order of their acceptance; point k owns dart 2k and may have the helper dart 2k + 1.
  *
  * Every function returns 0 where the call is served, else the number of its refusal. Values go into
  * lists that the caller lends, each a pointer with its number of elements. A list shorter than the
@@ -31,9 +31,9 @@
 #error "libreach.a is code for x86-64, with pointers of 64 bits"
 #endif
 
-/* The version of this header: it grows with each change of a function, a number or the saved form.
- */
-#define REACH_HEADER_VERSION 2
+/* The version of this header: it grows with each change of a function, a number, a limit or the
+   saved form. */
+#define REACH_HEADER_VERSION 3
 
 #ifdef __cplusplus
 extern "C" {
@@ -70,11 +70,12 @@ enum {
 };
 
 /* The limits of points, darts, coordinates (from -REACH_COORDINATE_LIMIT to REACH_COORDINATE_LIMIT)
-   and bytes of a text. */
+   and bytes of a text. They are of type int, which holds twice the limit of coordinates and not
+   three times. */
 enum {
     REACH_POINTS = 512,
     REACH_DARTS = 2 * REACH_POINTS,
-    REACH_COORDINATE_LIMIT = 1000000,
+    REACH_COORDINATE_LIMIT = 1000000000,
     REACH_TEXT_LIMIT = 65536
 };
 
@@ -127,7 +128,8 @@ enum {
 #define REACH_EDGE_PLACE(n, dart) (REACH_EMPTY_BYTES + 9 * (n) + 2 * (dart))
 
 /* Writes the orientation of (a, b, c) to out[0]: positive where c is left of the line from a to b,
-   zero where it is in line, negative where it is right. Refusals: 3, 10. */
+   zero where it is in line, negative where it is right. It is from -4 * 10^18 to 4 * 10^18.
+   Refusals: 3, 10. */
 uint32_t reach_orientation(int64_t ax, int64_t ay, int64_t bx, int64_t by, int64_t cx, int64_t cy,
                            int64_t *out, size_t n);
 
@@ -191,7 +193,7 @@ uint32_t reach_corners(const uint8_t *map, size_t n, uint64_t *out, size_t m, ui
 uint32_t reach_check(const uint8_t *map, size_t n);
 
 /* Reads a text line, with its one line feed or without it, and writes the coordinates x, y that it
-   names, in range or not. Refusals: 8, 10. */
+   names, in range or not: numbers of 1 to 10 digits. Refusals: 8, 10. */
 uint32_t reach_line(const uint8_t *line, size_t n, int64_t *out, size_t m);
 
 /* Writes what the program prints for a survey text, and how many bytes it is to length[0]: never

@@ -18,7 +18,8 @@
 //! # Ok::<(), reach::Refusal>(())
 //! ```
 //!
-//! Coordinates are whole numbers from -1,000,000 to 1,000,000. A map has at most 512 points.
+//! Coordinates are whole numbers of thousandths of a millimetre, from -1,000,000,000 to
+//! 1,000,000,000. A map has at most 512 points.
 //!
 //! The engine keeps its work on the stack. A thread of Rust's usual 2 MiB has room for every call;
 //! a smaller one needs [`CALL_STACK`], or [`REPORT_STACK`] for a report.
@@ -36,7 +37,7 @@ pub use refusal::Refusal;
 pub const POINT_LIMIT: usize = 512;
 
 /// Coordinates are from minus this to this.
-pub const COORDINATE_LIMIT: i64 = 1_000_000;
+pub const COORDINATE_LIMIT: i64 = 1_000_000_000;
 
 /// A text of more bytes is refused.
 pub const TEXT_LIMIT: usize = 65_536;
@@ -68,6 +69,16 @@ pub struct Point {
 /// assert_eq!(orientation(a, b, c), Ok(12));
 /// assert_eq!(orientation(b, a, c), Ok(-12));
 /// ```
+///
+/// It is from -4 × 10^18 to 4 × 10^18, which the corners of the range have:
+///
+/// ```
+/// use reach::{COORDINATE_LIMIT as FAR, Point, Refusal, orientation};
+///
+/// let [a, b, c] = [(-FAR, -FAR), (FAR, -FAR), (FAR, FAR)].map(|(x, y)| Point { x, y });
+/// assert_eq!(orientation(a, b, c), Ok(4_000_000_000_000_000_000));
+/// assert_eq!(orientation(a, b, Point { x: FAR + 1, y: 0 }), Err(Refusal::OutOfRange));
+/// ```
 pub fn orientation(a: Point, b: Point, c: Point) -> Result<i64, Refusal> {
     let mut out = [0];
     Refusal::of(raw::orientation([a.x, a.y], [b.x, b.y], [c.x, c.y], &mut out))?;
@@ -78,8 +89,8 @@ pub fn orientation(a: Point, b: Point, c: Point) -> Result<i64, Refusal> {
 ///
 /// # Errors
 ///
-/// [`Refusal::BadLine`] where the line is not two numbers with one space between, or something
-/// follows its feed.
+/// [`Refusal::BadLine`] where the line is not two numbers of 1 to 10 digits with one space between,
+/// or something follows its feed.
 ///
 /// ```
 /// use reach::{Point, Refusal, read_line};

@@ -10,7 +10,7 @@ pub enum Refusal {
     NotSound,
     /// The map has 512 points already.
     Full,
-    /// A coordinate is below -1,000,000 or above 1,000,000.
+    /// A coordinate is below -1,000,000,000 or above 1,000,000,000.
     OutOfRange,
     /// The offered point equals an accepted point.
     Repeated,

@@ -22,12 +22,10 @@ use Rattle.model.specs.declared.Point.{Point}
 use Rattle.model.specs.Plane.{coordinate-limit, same-point}
 use Rattle.model.specs.Maps.{point-at}
 use Rattle.model.proofs.Sound.{same-point-eq}
+use Rattle.plane.proofs.Bounds.{span}
 use Rattle.admission.specs.Hashes.{hash-count, hash-row, numbered, hash, AllHashed}
 
 -- ---- what the machine computes, operation by operation, from coordinates in range
-
-abbrev pub span : ℕ
-span = coordinate-limit + coordinate-limit
 
 module _ {x y : ℤ} (a : Number coordinate-limit x) (b : Number coordinate-limit y) where
   abbrev pub column : Number span (x +ℤ pos coordinate-limit)

@@ -332,7 +332,7 @@ signs z = ⊎-elim (λ h. inr (inr h)) (⊎-elim (λ e. inr (inl e)) inl) (trich
 -- ---- in use
 
 -- a test runs on closed numbers
-closed-test : ltZ (negsuc 999999) (pos 3) ≡ true
+closed-test : ltZ (negsuc 999) (pos 3) ≡ true
 closed-test = refl
 
 -- products are unknowns

@@ -1,6 +1,6 @@
 -- Machine ranges: signed machine arithmetic on a polynomial does not wrap, and computes it over ℤ.
 -- A signed local holds bits, so a function's needs speak of what is read back from them, for a
--- parameter x of `toZ w (ofZ w x)`. With hx : Bounded 1000000 x and hy : Bounded 1000000 y,
+-- parameter x of `toZ w (ofZ w x)`. With hx : Bounded 1000 x and hy : Bounded 1000 y,
 --     fits w64 tt (mul (read w64 tt hx) (read w64 tt hy))
 -- is the need of  x * y  at an `i64`. In this order: absolute values; `Bounded B z`, |z| is at most
 -- B; `Number B z`, what the machine computes; `machine`, for `omega` after signed tests; examples.
@@ -207,11 +207,11 @@ literal-fits k t = sfits-lit t
 -- ---- in use
 
 -- the needs of  (x - y) * 3  at an `i64`, and what it gives
-module _ (x y : ℤ) (hx : Bounded 1000000 x) (hy : Bounded 1000000 y) where
-  abbrev difference : Number 2000000 (x -ℤ y)
+module _ (x y : ℤ) (hx : Bounded 1000 x) (hy : Bounded 1000 y) where
+  abbrev difference : Number 2000 (x -ℤ y)
   difference = sub (read w64 tt hx) (read w64 tt hy)
 
-  abbrev triple : Number 6000000 ((x -ℤ y) *ℤ pos 3)
+  abbrev triple : Number 6000 ((x -ℤ y) *ℤ pos 3)
   triple = mul (back w64 tt difference) (literal (pos 3))
 
   need-of-difference : SFits w64 (toZ w64 (ofZ w64 x) -ℤ toZ w64 (ofZ w64 y))
@@ -226,8 +226,8 @@ module _ (x y : ℤ) (hx : Bounded 1000000 x) (hy : Bounded 1000000 y) where
   need-of-cast : SFits w32 (back w64 tt triple .has)
   need-of-cast = fits w32 tt (back w64 tt triple)
 
--- after  if x < -1000000 || x > 1000000 { return .. }
+-- after  if x < -1000 || x > 1000 { return .. }
 in-range : (x : ℤ) → SFits w64 x →
-    ltZ (toZ w64 (ofZ w64 x)) (negsuc 999999) ≡ false →
-    ltZ (pos 1000000) (toZ w64 (ofZ w64 x)) ≡ false → Bounded 1000000 x
+    ltZ (toZ w64 (ofZ w64 x)) (negsuc 999) ≡ false →
+    ltZ (pos 1000) (toZ w64 (ofZ w64 x)) ≡ false → Bounded 1000 x
 in-range x f low high = omega (arith, machine)

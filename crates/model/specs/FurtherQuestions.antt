@@ -9,7 +9,7 @@ use Prim.Native.Nat.{ℕ, _+_, _*_}
 use Prim.Native.String.{String}
 use lib.Dec.{T}
 use lib.IntN.{ℤ, pos, negℤ}
-use lib.ListN.{length, take, set, replicate}
+use lib.ListN.{length, take, drop, set, replicate}
 use Rattle.finite.specs.Bounded.{all, any, sum, count, one-if, table-onto, table}
 use Rattle.finite.specs.Lists.{elem, all-in, all-places, any-in, count-in, first-in, before, beyond}
 use Rattle.finite.specs.Lists.{total, ring, insert, union}
@@ -65,12 +65,13 @@ use Rattle.model.specs.Saved.{version, big-endian, number-at, complement
 use Rattle.model.specs.Saved.{version-place, count-place, reference-place, header-length}
 use Rattle.model.specs.Saved.{helpers-place, links-place, saved-length, following, coordinate}
 use Rattle.model.specs.Saved.{header, saved-in, saved, file-in-form-of, file-in-form, map-in}
+use Rattle.model.specs.Saved.{load-call}
 use Rattle.model.specs.Text.{digit-limit, is-digit, has-minus, digits, value-after, magnitude}
 use Rattle.model.specs.Text.{is-number, number-value, line-read, in-first-line, lines}
 use Rattle.model.specs.Text.{one-line, line-call}
 use Rattle.model.specs.Report.{text-limit, spaced, printed, offer-line, closing, arrivals}
 use Rattle.model.specs.Report.{report}
-use Rattle.model.specs.Questions.{Question, _is_, same-list, session, after, far}
+use Rattle.model.specs.Questions.{Question, _is_, same-list, session, after}
 
 -- ---- answers: the number, the word and the values
 
@@ -148,26 +149,30 @@ number-of-rules rules = unless number rules 0
 crowded : ℕ → Map
 crowded n = map-of [] [] [] [] n no-dart
 
+-- the end of the range, and one beyond it
+far : ℤ
+far = pos 1_000_000_000
+
 beyond-far : ℤ
-beyond-far = pos 1_000_001
+beyond-far = pos 1_000_000_001
 
 limits : List Question
 limits =
     (coordinate-limit ∷ point-limit ∷ dart-limit ∷ no-dart ∷ digit-limit ∷ text-limit ∷ version ∷ []
-    is 1_000_000 ∷ 512 ∷ 1_024 ∷ 1_024 ∷ 7 ∷ 65_536 ∷ 1 ∷ [])
-    -- "from -1,000,000 to 1,000,000", in both coordinates
+    is 1_000_000_000 ∷ 512 ∷ 1_024 ∷ 1_024 ∷ 10 ∷ 65_536 ∷ 1 ∷ [])
+    -- "from -1,000,000,000 to 1,000,000,000", in both coordinates
     ∷ (map (λ p. one-if (in-range p))
     (at far (negℤ far) ∷ at (negℤ far) far ∷ at beyond-far (pos 0) ∷ at (negℤ beyond-far) (pos 0)
     ∷ at (pos 0) beyond-far
     ∷ at (pos 0) (negℤ beyond-far)
     ∷ [])
     is 1 ∷ 1 ∷ 0 ∷ 0 ∷ 0 ∷ 0 ∷ [])
-    -- "from -4,000,000,000,000 to 4,000,000,000,000": both are attained
-    ∷ (spelt (pos orientation-limit) is bytes "4000000000000")
+    -- "from -4 × 10^18 to 4 × 10^18": both are attained
+    ∷ (spelt (pos orientation-limit) is bytes "4000000000000000000")
     ∷ (spelt (orientation (at (negℤ far) (negℤ far)) (at far (negℤ far)) (at far far))
-    is bytes "4000000000000")
+    is bytes "4000000000000000000")
     ∷ (spelt (orientation (at far (negℤ far)) (at (negℤ far) (negℤ far)) (at far far))
-    is bytes "-4000000000000")
+    is bytes "-4000000000000000000")
     -- "512 points already", and one fewer: the place that is looked at next holds an equal point
     ∷ (map (λ n. number-of-rules (admission-rules (crowded n) origin)) (512 ∷ 511 ∷ [])
     is 2 ∷ 4 ∷ [])
@@ -345,9 +350,13 @@ rails =
 -- the file of one point with a negative coordinate
 one-point : List ℕ
 one-point =
-    0 ∷ 0 ∷ 0 ∷ 18 ∷ 1 ∷ 0 ∷ 1 ∷ 4 ∷ 0 ∷ 255 ∷ 255 ∷ 255 ∷ 254 ∷ 0 ∷ 15 ∷ 66 ∷ 64 ∷ 0 ∷ 0 ∷ 0 ∷ 0
+    0 ∷ 0 ∷ 0 ∷ 18 ∷ 1 ∷ 0 ∷ 1 ∷ 4 ∷ 0 ∷ 255 ∷ 255 ∷ 255 ∷ 254 ∷ 59 ∷ 154 ∷ 202 ∷ 0 ∷ 0 ∷ 0 ∷ 0 ∷ 0
     ∷ 1
     ∷ []
+
+-- the same with these bytes for its other coordinate
+with-y : List ℕ → List ℕ
+with-y y = take 13 one-point ++ y ++ drop 17 one-point
 
 -- two: the file of two points
 files : List ℕ → List Question
@@ -364,6 +373,14 @@ files two =
     ∷ (saved (map-in one-point) is one-point)
     ∷ (flatMap (λ n. spelt (signed n)) (2_147_483_647 ∷ 2_147_483_648 ∷ 4_294_967_295 ∷ [])
     is bytes "2147483647-2147483648-1")
+    -- 4 bytes hold more than the range: its two ends, what lies beyond them, and the ends of 4 bytes
+    ∷ (map (λ y. number-of-rules (load-call (with-y y) .rules))
+    ((59 ∷ 154 ∷ 202 ∷ 0 ∷ []) ∷ (196 ∷ 101 ∷ 54 ∷ 0 ∷ []) ∷ (59 ∷ 154 ∷ 202 ∷ 1 ∷ [])
+    ∷ (196 ∷ 101 ∷ 53 ∷ 255 ∷ [])
+    ∷ (127 ∷ 255 ∷ 255 ∷ 255 ∷ [])
+    ∷ (128 ∷ 0 ∷ 0 ∷ 0 ∷ [])
+    ∷ [])
+    is 0 ∷ 0 ∷ 1 ∷ 1 ∷ 1 ∷ 1 ∷ [])
     -- in form; under 9 bytes; one byte more; the length, the version and a helper byte wrong; n
     -- above 512
     ∷ (map (λ s. one-if (file-in-form s))
@@ -386,11 +403,11 @@ lent-line text = told (line-answer (answer-of (line-call (bytes text))))
 
 texts : List Question
 texts =
-    (told (line-answer (line-read (bytes "-1234567 0"))) is says "point -1234567 0\n")
-    -- no digit, eight digits, a leading zero, -0, a sign that is none, and spaces and numbers too
+    (told (line-answer (line-read (bytes "-1234567890 0"))) is says "point -1234567890 0\n")
+    -- no digit, eleven digits, a leading zero, -0, a sign that is none, and spaces and numbers too
     -- many or too few
     ∷ (map number-of-line
-    ("" ∷ " " ∷ "1" ∷ "1 " ∷ " 1" ∷ "- 1" ∷ "1 -" ∷ "12345678 0" ∷ "0 12345678" ∷ "01 0" ∷ "0 00"
+    ("" ∷ " " ∷ "1" ∷ "1 " ∷ " 1" ∷ "- 1" ∷ "1 -" ∷ "12345678901 0" ∷ "0 12345678901" ∷ "01 0" ∷ "0 00"
     ∷ "-0 0"
     ∷ "0 -0"
     ∷ "+1 0"
@@ -403,6 +420,15 @@ texts =
     ∷ "a 0"
     ∷ [])
     is replicate 21 8)
+    -- "text numbers to 10 digits": ten are out of range where they are above the limit, eleven no number
+    ∷ (report (bytes "1000000000 -1000000000\n1000000001 0\n0 -9999999999\n10000000000 0\n")
+    is bytes
+    "OUTLINE 1\n0 first\n1 refused 3\n2 refused 3\n3 refused 8\ncorners 0\ncounts 1 1 1 1 1\n")
+    -- the corners of the range as a survey, and its middle
+    ∷ (report (bytes
+    "-1000000000 -1000000000\n1000000000 -1000000000\n1000000000 1000000000\n-1000000000 1000000000\n0 0\n")
+    is bytes
+    "OUTLINE 1\n0 first\n1 second\n2 outside 1 0 1\n3 outside 2 0 1\n4 inside\ncorners 0 1 2 3\ncounts 9 5 5 3 2\n")
     -- "and a line feed; the last feed may be missing, and nothing follows it"
     ∷ (flatMap lent-line ("4 -1\n" ∷ "4 -1" ∷ []) is says "point 4 -1\n" ++ says "point 4 -1\n")
     ∷ (flatMap (λ text. take 1 (lent-line text)) ("4 -1\n\n" ∷ "\n" ∷ "" ∷ "0 0\n4 0" ∷ []) is replicate 4 8)
@@ -443,5 +469,5 @@ unfolding table-onto all any sum count one-if table elem all-in all-places any-i
     offer-line closing arrivals report session after far same-list told says short refusals
     orbit-with five-counts walk-to answers number-of-rules crowded beyond-far limits five with-xs
     with-links with-reference chained unsound-maps sound-maps soundness orbit-sizes moves placings
-    sums of-session of-few rail of-rail rails one-point files number-of-line lent-line texts further-questions
+    sums of-session of-few rail of-rail rails one-point with-y files number-of-line lent-line texts further-questions
 further-answers-are-right = tt

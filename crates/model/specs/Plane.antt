@@ -2,7 +2,7 @@
 -- points; orientation and its three cases; strictly between two points; what lies beside an edge
 -- and what an arrival sees; the answer of the call; lower than a point.
 -- Document 01, "Orientation and arrival" and the coordinates of "What the engine holds"; document 02,
--- request 106. The numbers are whole numbers without a bound: a `Point` of antt holds two of ℤ.
+-- requests 105 and 106. The numbers are whole numbers without a bound: a `Point` of antt holds two of ℤ.
 use mathlib.Core.Bool.{Bool, not, _&&_, _||_}
 use mathlib.Core.List.{[], _∷_}
 use Prim.Native.Nat.{ℕ, _*_}
@@ -15,9 +15,9 @@ use Rattle.model.specs.declared.Oriented.{Oriented}
 use Rattle.model.specs.Refusals.{_when_}
 use Rattle.model.specs.Answers.{Call, answer-of, oriented-answer}
 
--- "from -1,000,000 to 1,000,000"
+-- "from -1,000,000,000 to 1,000,000,000"
 abbrev pub coordinate-limit : ℕ
-coordinate-limit = 1_000_000
+coordinate-limit = 1_000_000_000
 
 unfoldable pub coordinate-in-range : ℤ → Bool
 coordinate-in-range z = leZ (negℤ (pos coordinate-limit)) z && leZ z (pos coordinate-limit)
@@ -40,7 +40,7 @@ same-point p q = eqZ (p .x) (q .x) && eqZ (p .y) (q .y)
 unfoldable pub orientation : Point → Point → Point → ℤ
 orientation a b c = (b .x -ℤ a .x) *ℤ (c .y -ℤ a .y) -ℤ (b .y -ℤ a .y) *ℤ (c .x -ℤ a .x)
 
--- "from -4,000,000,000,000 to 4,000,000,000,000"
+-- "from -4 × 10^18 to 4 × 10^18"
 abbrev pub orientation-limit : ℕ
 orientation-limit = 4 * (coordinate-limit * coordinate-limit)
 

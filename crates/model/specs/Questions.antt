@@ -66,8 +66,9 @@ orientation-of a b c = printed (oriented-answer (oriented a b c))
 counts-of : Map → List ℕ
 counts-of m = printed (counted-answer (counted m))
 
-unfoldable pub far : ℤ
-far = pos 1_000_000
+-- the end of document 01's range, at which its question of the largest orientation stays
+million : ℤ
+million = pos 1_000_000
 
 -- "(* marked)", in the document's order
 pub questions : List Question
@@ -90,12 +91,12 @@ questions =
     -- the three orientations
     ∷ (orientation-of (at (pos 0) (pos 0)) (at (pos 4) (pos 0)) (at (pos 1) (pos 3)) is bytes "orientation 12\n")
     ∷ (orientation-of (at (pos 4) (pos 0)) (at (pos 0) (pos 0)) (at (pos 1) (pos 3)) is bytes "orientation -12\n")
-    ∷ (orientation-of (at (negℤ far) (negℤ far)) (at far (negℤ far)) (at far far)
+    ∷ (orientation-of (at (negℤ million) (negℤ million)) (at million (negℤ million)) (at million million)
     is bytes "orientation 4000000000000\n")
-    -- refusals after four points, and at the end of the range
+    -- refusals after four points, and at the end of the range, which request 105 has moved
     ∷ (offered (after 4) (pos 4) (pos 0) is bytes "refused 4\n")
-    ∷ (offered (after 0) (pos 1_000_000) (pos 0) is bytes "first\n")
-    ∷ (offered (after 0) (pos 1_000_001) (pos 0) is bytes "refused 3\n")
+    ∷ (offered (after 0) (pos 1_000_000_000) (pos 0) is bytes "first\n")
+    ∷ (offered (after 0) (pos 1_000_000_001) (pos 0) is bytes "refused 3\n")
     -- the empty map saved
     ∷ (saved (after 0) is 0 ∷ 0 ∷ 0 ∷ 5 ∷ 1 ∷ 0 ∷ 0 ∷ 4 ∷ 0 ∷ [])
     ∷ []
@@ -115,6 +116,6 @@ unfolding table-onto all any sum count one-if table elem all-in all-places any-i
     turning-left turning-right is-farther is-beyond farther left-corner right-corner with-point
     alone pair spliced later-point arrive is-repeated offer is-accepted extended run-from run
     big-endian complement block coordinate header saved-in is-digit has-minus digits value-after magnitude is-number number-value line-read in-first-line lines
-    spaced printed offer-line closing arrivals report session after offered orientation-of counts-of far
+    spaced printed offer-line closing arrivals report session after offered orientation-of counts-of million
     questions same-list
 answers-are-right = tt

@@ -1,7 +1,7 @@
 -- Survey texts, in the order of this page: a number; what the bytes of a line name, which stand
 -- without its line feed; the lines of a text; a line that is lent by itself.
 -- Document 01, "The text program": "A line is two numbers with one space between and a line feed;
--- the last feed may be missing, and nothing follows it."
+-- the last feed may be missing, and nothing follows it."; document 02, request 105.
 use mathlib.Core.Bool.{Bool, not, cond, _&&_, _||_}
 use mathlib.Core.List.{List, [], _∷_}
 use Prim.Native.Nat.{ℕ, _+_, _-_, _*_}
@@ -15,9 +15,9 @@ use Rattle.model.specs.Refusals.{_when_}
 use Rattle.model.specs.Answers.{Call, answer-of, line-answer}
 use Rattle.model.specs.Spelling.{line-feed, space, minus, digit-zero}
 
--- "an optional minus and 1 to 7 digits"
+-- "text numbers to 10 digits"
 abbrev pub digit-limit : ℕ
-digit-limit = 7
+digit-limit = 10
 
 unfoldable pub is-digit : ℕ → Bool
 is-digit b = leb digit-zero b && leb b (digit-zero + 9)
@@ -38,7 +38,7 @@ value-after n (b ∷ s) = value-after (n * 10 + (b - digit-zero)) s
 unfoldable pub magnitude : List ℕ → ℕ
 magnitude s = value-after 0 (digits s)
 
--- "A number is an optional minus and 1 to 7 digits, no leading zero save 0 itself, no -0."
+-- "A number is an optional minus and 1 to .. digits, no leading zero save 0 itself, no -0."
 unfoldable pub is-number : List ℕ → Bool
 is-number s =
     leb 1 (length (digits s)) && leb (length (digits s)) digit-limit && all-in is-digit (digits s)

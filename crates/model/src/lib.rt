@@ -14,7 +14,7 @@ pub const POINT_LIMIT: usize = 512;
 // The reference of a map without outline.
 pub const NO_DART: usize = DART_LIMIT;
 
-// A mark: whole numbers of hundredths of a millimetre.
+// A mark: whole numbers of thousandths of a millimetre.
 pub struct Point {
     pub x: i64,
     pub y: i64,

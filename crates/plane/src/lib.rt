@@ -14,7 +14,7 @@ ghost use Rattle.model.specs.Plane.{at, beside, coordinate-in-range, in-range, 
 ghost use Rattle.plane.specs.OrientedAnswer.{RangedCoordinates, OrientedAnswer};
 
 // Coordinates run from -COORDINATE_LIMIT to COORDINATE_LIMIT.
-pub const COORDINATE_LIMIT: i64 = 1000000;
+pub const COORDINATE_LIMIT: i64 = 1000000000;
 
 // The orientation of three points: positive is a left turn. A coordinate out of range is refused.
 pub fn orientation_of(a: Point, b: Point, c: Point) -> Oriented

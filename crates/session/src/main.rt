@@ -49,7 +49,12 @@ fn orientations() {
         at(1000000, -1000000),
         at(1000000, 1000000),
     );
-    calls::orientation(at(0, 0), at(4, 0), at(1, 1000001));
+    calls::orientation(
+        at(-1000000000, -1000000000),
+        at(1000000000, -1000000000),
+        at(1000000000, 1000000000),
+    );
+    calls::orientation(at(0, 0), at(4, 0), at(1, 1000000001));
 }
 
 // The worked survey, offered point by point. A refused point leaves the map as it was.
@@ -64,7 +69,7 @@ fn survey() -> Map {
     calls::counts(two);
     let three = calls::offer(two, at(1, 3));
     let four = calls::offer(three, at(5, 4));
-    let kept = calls::offer(four, at(1000001, 0));
+    let kept = calls::offer(four, at(1000000001, 0));
     let kept = calls::offer(kept, at(4, 0));
     let five = calls::offer(kept, at(2, 1));
     calls::offer(five, at(6, 7))
@@ -107,7 +112,7 @@ fn queries(map: Map) {
     calls::place(map, at(2, 0));
     calls::place(map, at(2, 1));
     calls::place(map, at(-1, 0));
-    calls::place(map, at(0, -1000001));
+    calls::place(map, at(0, -1000000001));
 }
 
 // Lists that are lent, long enough and too short, and files: of the version 2, and with a reference that
@@ -135,7 +140,7 @@ fn files() {
 
 // Lines, and the report on the worked survey.
 fn texts() {
-    calls::read_line(b"-12 1000000");
+    calls::read_line(b"-12 1000000000");
     calls::read_line(b"1  2");
     let mut lent = [0u8; 118];
     calls::report(b"0 0\n4 0\n1 3\n5 4\n2 1\n6 7\n", &mut lent);

@@ -1,6 +1,6 @@
 -- What a spelling stands for, in the order of this page: digits without a sign; a number at the
 -- front of a list; a number that is a whole list; two numbers. Document 01, "The text program": "A
--- number is an optional minus and 1 to 7 digits, no leading zero save 0 itself, no -0."
+-- number is an optional minus and 1 to .. digits, no leading zero save 0 itself, no -0."
 use mathlib.Core.Bool.{Bool, not, cond, _&&_, _||_}
 use mathlib.Core.List.{List, [], _∷_}
 use Prim.Native.Nat.{ℕ}
@@ -19,7 +19,7 @@ use Rattle.survey.specs.declared.numbers.Magnitude.{Magnitude}
 unfoldable pub no-leading-zero : List ℕ → Bool
 no-leading-zero d = not (eqb (getD d 0 0) digit-zero) || eqb (length d) 1
 
--- "1 to 7 digits, no leading zero save 0 itself"
+-- "1 to .. digits, no leading zero save 0 itself"
 unfoldable pub is-magnitude : List ℕ → Bool
 is-magnitude d =
     leb 1 (length d) && leb (length d) digit-limit && all-in is-digit d && no-leading-zero d

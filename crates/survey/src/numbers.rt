@@ -10,7 +10,7 @@ ghost use Rattle.model.specs.Text.{is-digit};
 ghost use Rattle.survey.specs.Numbers.{front-number, magnitude-read};
 
 // The most digits of a number.
-pub const DIGIT_LIMIT: usize = 7;
+pub const DIGIT_LIMIT: usize = 10;
 
 // What the digits at the front of a list stand for, and how many they are.
 pub enum Magnitude {

@@ -88,8 +88,8 @@ fn arguments() -> Result<Arguments, String> {
     }
 }
 
-/// What is compared whatever the seed: the header's constants, short lines, the ends of the range,
-/// rails across it, full maps, long texts.
+/// What is compared whatever the seed: the header's constants, short lines, the ends of the range as
+/// it is and as it was, rails across it, full maps, long texts.
 fn fixed(c: &mut Comparison) -> Outcome {
     c.header()?;
     c.null_lists()?;
@@ -97,7 +97,14 @@ fn fixed(c: &mut Comparison) -> Outcome {
         c.empty()?;
     }
     lines_up_to(c, &mut Vec::new(), 5)?;
-    let ends = [-LIMIT - 1, -LIMIT, LIMIT, LIMIT + 1];
+    for end in points::ends() {
+        for line in [format!("{end} 0"), format!("0 {end}")].map(String::into_bytes) {
+            c.line(&line)?;
+            c.report(&line)?;
+        }
+    }
+    let near = |limit: i64| [-limit - 1, -limit, limit, limit + 1];
+    let ends = [near(points::FORMER_LIMIT), near(LIMIT)].concat();
     let corners: Vec<Point> =
         ends.iter().flat_map(|&x| ends.iter().map(move |&y| Point::new(x, y))).collect();
     for &a in &corners {

@@ -2,7 +2,7 @@
 //! bytes.
 
 use crate::draw::Draw;
-use crate::points;
+use crate::points::{self, FORMER_LIMIT};
 use reference::saved::{HEAD, saved_length};
 use reference::{LIMIT, Map, NO_DART, POINT_LIMIT, Point};
 
@@ -89,8 +89,15 @@ pub fn changed(draw: &mut Draw, mut map: Map) -> Map {
         match draw.below(12) {
             0 => {
                 let i = draw.below(n);
-                let limits =
-                    [LIMIT, LIMIT + 1, -LIMIT - 1, i64::from(i32::MIN), i64::from(i32::MAX), 0];
+                let limits = [
+                    LIMIT,
+                    LIMIT + 1,
+                    -LIMIT - 1,
+                    FORMER_LIMIT + 1,
+                    i64::from(i32::MIN),
+                    i64::from(i32::MAX),
+                    0,
+                ];
                 map.points[i].x = draw.pick(&limits);
             }
             1 => {

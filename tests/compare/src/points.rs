@@ -1,20 +1,30 @@
 //! Drawn points: surveys of several shapes, and query points for a map.
 
 use crate::draw::Draw;
-use reference::{LIMIT, Map, Point};
+use reference::{DIGIT_LIMIT, LIMIT, Map, Point};
 
-/// Coordinates at the ends of the range and of the types, where arithmetic goes wrong.
-fn ends() -> Vec<i64> {
+/// The end of document 01's range: what lies beyond it is served since request 105, and request 110
+/// keeps it for the lesson on rounding.
+pub const FORMER_LIMIT: i64 = 1_000_000;
+
+/// Coordinates at the ends of the range, as it is and as it was, of the digits and of the types,
+/// where arithmetic goes wrong.
+pub fn ends() -> Vec<i64> {
     let near = |z: i64| [z.saturating_sub(1), z, z.saturating_add(1)];
+    let one_digit_too_many = 10i64.pow(DIGIT_LIMIT);
     [
         i64::MIN,
         i64::MAX,
         i64::from(i32::MIN),
         i64::from(i32::MAX),
         1 << 32,
-        1 << 20,
+        1 << 30,
+        -one_digit_too_many,
+        one_digit_too_many,
         -LIMIT,
         LIMIT,
+        -FORMER_LIMIT,
+        FORMER_LIMIT,
         0,
     ]
     .into_iter()
@@ -25,7 +35,10 @@ fn ends() -> Vec<i64> {
 pub fn any_coordinate(draw: &mut Draw) -> i64 {
     match draw.below(4) {
         0 => draw.pick(&ends()),
-        1 => draw.between(-LIMIT, LIMIT),
+        1 => {
+            let limit = draw.pick(&[FORMER_LIMIT, LIMIT]);
+            draw.between(-limit, limit)
+        }
         2 => draw.between(-20, 20),
         _ => draw.word() as i64 >> draw.below(64),
     }
@@ -35,10 +48,12 @@ pub fn any_point(draw: &mut Draw) -> Point {
     Point::new(any_coordinate(draw), any_coordinate(draw))
 }
 
-/// A survey of so many offers, some of which will be refused.
+/// A survey of so many offers, some of which will be refused. Those that reach the ends of a range
+/// reach those of the range as it is or as it was.
 pub fn survey(draw: &mut Draw, offers: usize) -> Vec<Point> {
+    let limit = draw.pick(&[FORMER_LIMIT, LIMIT]);
     let far =
-        |draw: &mut Draw| Point::new(draw.between(-LIMIT, LIMIT), draw.between(-LIMIT, LIMIT));
+        |draw: &mut Draw| Point::new(draw.between(-limit, limit), draw.between(-limit, limit));
     match draw.below(10) {
         0 => (0..offers).map(|_| far(draw)).collect(),
         1 => grid(draw, offers),
@@ -47,7 +62,7 @@ pub fn survey(draw: &mut Draw, offers: usize) -> Vec<Point> {
         4 => clustered(draw, offers),
         5 => (0..offers).map(|_| any_point(draw)).collect(),
         6 => {
-            let ends = [-LIMIT, -LIMIT + 1, LIMIT - 1, LIMIT];
+            let ends = [-limit, -limit + 1, limit - 1, limit];
             (0..offers)
                 .map(|_| {
                     let mut point = far(draw);
@@ -62,7 +77,7 @@ pub fn survey(draw: &mut Draw, offers: usize) -> Vec<Point> {
         }
         7 => rail(draw, offers),
         8 => aligned(draw, offers),
-        _ => spiral(draw, offers),
+        _ => spiral(draw, offers, limit),
     }
 }
 
@@ -72,13 +87,16 @@ fn shuffle<T>(draw: &mut Draw, list: &mut [T]) {
     }
 }
 
-/// Points in convex position, in order or shuffled: a parabola, lying in one of four ways.
+/// Points in convex position, in order or shuffled: a parabola, lying in one of four ways, near the
+/// origin or from end to end of the range.
 pub fn convex(draw: &mut Draw, offers: usize) -> Vec<Point> {
     let middle = offers as i64 / 2;
-    let [flip, swap, mix] = [2, 2, 2].map(|n| draw.one_in(n));
+    let [flip, swap, mix, wide] = [2; 4].map(|n| draw.one_in(n));
+    let most = middle.max(1);
+    let (across, up) = if wide { (LIMIT / most, LIMIT / (most * most)) } else { (1, 1) };
     let mut points: Vec<Point> = (0..offers as i64)
         .map(|i| {
-            let (x, y) = (i - middle, (i - middle) * (i - middle));
+            let (x, y) = (across * (i - middle), up * (i - middle) * (i - middle));
             let y = if flip { -y } else { y };
             if swap { Point::new(y, x) } else { Point::new(x, y) }
         })
@@ -190,8 +208,9 @@ fn clustered(draw: &mut Draw, offers: usize) -> Vec<Point> {
 }
 
 /// Points that lie ever further out, so that nearly all become corners and hide earlier ones.
-fn spiral(draw: &mut Draw, offers: usize) -> Vec<Point> {
-    let step = draw.between(1, 1800);
+/// Most often they stay in range.
+fn spiral(draw: &mut Draw, offers: usize, limit: i64) -> Vec<Point> {
+    let step = draw.between(1, limit / 550);
     (0..offers as i64)
         .map(|i| {
             let width = (i + 1) * step;

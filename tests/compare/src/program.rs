@@ -141,7 +141,7 @@ impl Comparison {
             "0 0\n",
             "0 0\n4 0\n1 3\n5 4\n2 1\n6 7\n",
             "0 0\n4 0\n1 3\n5 4\n2 1\n6 7",
-            "1000001 0\n-0 1\n",
+            "1000000001 0\n-0 1\n10000000000 2\n",
             "7 7\n7 7\n8 8\n9 9\n",
         ];
         for text in short.map(str::as_bytes) {

@@ -2,7 +2,7 @@
 
 use crate::draw::Draw;
 use crate::points;
-use reference::TEXT_LIMIT;
+use reference::{DIGIT_LIMIT, TEXT_LIMIT};
 
 /// The bytes that matter to lines, and a few that are next to them.
 pub const ALPHABET: &[u8] = b"0123456789- \n+/:.,\r\t\0\x80\xff";
@@ -17,14 +17,9 @@ const NUMBERS: &[&str] = &[
     "1",
     "-1",
     "9999999",
-    "-9999999",
     "10000000",
-    "99999999",
-    "1000000",
-    "-1000000",
-    "1000001",
-    "-1000001",
-    "0000001",
+    "-99999999999",
+    "0000000001",
     "-",
     "--1",
     "1-",
@@ -53,22 +48,28 @@ fn damage(draw: &mut Draw, line: &mut Vec<u8>) {
     }
 }
 
+/// A number that is nearly in form, or at an end of the range, of the digits or of a type.
+fn number(draw: &mut Draw) -> String {
+    if draw.one_in(2) { draw.pick(NUMBERS).into() } else { draw.pick(&points::ends()).to_string() }
+}
+
 /// A line, in form or nearly or not at all. It may hold a line feed.
 pub fn line(draw: &mut Draw) -> Vec<u8> {
+    const FEW_DIGITS: i64 = 10i64.pow(DIGIT_LIMIT);
     let p = points::any_point(draw);
     match draw.below(5) {
-        0 => format!("{} {}", draw.pick(NUMBERS), draw.pick(NUMBERS)).into(),
+        0 => format!("{} {}", number(draw), number(draw)).into(),
         1 => format!("{} {}", p.x, p.y).into(),
         2 => {
             let length = draw.below(20);
             (0..length).map(|_| draw.pick(ALPHABET)).collect()
         }
         3 => {
-            let mut line = format!("{} {}", p.x % 10_000_000, p.y % 10_000_000).into();
+            let mut line = format!("{} {}", p.x % FEW_DIGITS, p.y % FEW_DIGITS).into();
             damage(draw, &mut line);
             line
         }
-        _ => format!("{} {}", p.x % 10_000_000, p.y % 10_000_000).into(),
+        _ => format!("{} {}", p.x % FEW_DIGITS, p.y % FEW_DIGITS).into(),
     }
 }
 

@@ -26,7 +26,7 @@ pub use map::{DART_LIMIT, Map, NO_DART, POINT_LIMIT};
 pub use orbits::{Counts, Kind, Orbit};
 pub use place::Placed;
 pub use plane::{LIMIT, Point, orientation};
-pub use text::{TEXT_LIMIT, read_line, report, report_or_refusal};
+pub use text::{DIGIT_LIMIT, TEXT_LIMIT, read_line, report, report_or_refusal};
 pub use walk::{Ending, Walk};
 
 /// A value, or the number of the refusal.

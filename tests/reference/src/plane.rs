@@ -4,7 +4,7 @@
 use crate::{Answer, refusal};
 
 /// A coordinate is a whole number from -`LIMIT` to `LIMIT`.
-pub const LIMIT: i64 = 1_000_000;
+pub const LIMIT: i64 = 1_000_000_000;
 
 /// A point of the plane. It may be out of range.
 #[derive(Clone, Copy, Debug, PartialEq, Eq, PartialOrd, Ord, Hash)]
@@ -34,7 +34,7 @@ pub fn orientation(a: Point, b: Point, c: Point) -> Answer<i64> {
     if ![a, b, c].iter().all(|p| p.in_range()) {
         return Err(refusal::OUT_OF_RANGE);
     }
-    Ok(i64::try_from(cross(a, b, c)).expect("an orientation has 43 bits"))
+    Ok(i64::try_from(cross(a, b, c)).expect("an orientation fits 64 bits"))
 }
 
 /// p lies on the segment from a to b and is neither end.

@@ -70,9 +70,19 @@ fn orientations() {
     let [a, b, c] = [(0, 0), (4, 0), (1, 3)].map(|(x, y)| Point::new(x, y));
     assert_eq!(orientation(a, b, c), Ok(12));
     assert_eq!(orientation(b, a, c), Ok(-12));
-    let [a, b, c] =
-        [(-LIMIT, -LIMIT), (LIMIT, -LIMIT), (LIMIT, LIMIT)].map(|(x, y)| Point::new(x, y));
+    let corners = |z: i64| [(-z, -z), (z, -z), (z, z)].map(|(x, y)| Point::new(x, y));
+    let [a, b, c] = corners(1_000_000);
     assert_eq!(orientation(a, b, c), Ok(4_000_000_000_000));
+    let [a, b, c] = corners(1_000_000_000);
+    assert_eq!(orientation(a, b, c), Ok(4_000_000_000_000_000_000));
+    assert_eq!(orientation(b, a, c), Ok(-4_000_000_000_000_000_000));
+    let beyond = corners(1_000_000_001);
+    for (i, q) in beyond.into_iter().enumerate() {
+        let mut points = [a, b, c];
+        points[i] = q;
+        let [a, b, c] = points;
+        assert_eq!(orientation(a, b, c), Err(3));
+    }
     assert_eq!(orientation(a, Point::new(i64::MIN, i64::MAX), c), Err(3));
 }
 
@@ -81,8 +91,11 @@ fn refused_points() {
     let mut m = after(4);
     assert_eq!(m.offer(Point::new(4, 0)), Err(4));
     assert_eq!(m, after(4));
-    assert_eq!(Map::empty().offer(Point::new(LIMIT, 0)), Ok(Arrival::First));
-    assert_eq!(Map::empty().offer(Point::new(LIMIT + 1, 0)), Err(3));
+    for (z, answer) in [(1_000_000_000, Ok(Arrival::First)), (1_000_000_001, Err(3))] {
+        for (x, y) in [(z, 0), (-z, 0), (0, z), (0, -z)] {
+            assert_eq!(Map::empty().offer(Point::new(x, y)), answer);
+        }
+    }
     let mut full = Map::empty();
     for x in 0..512 {
         full.offer(Point::new(x, x * x)).unwrap();
@@ -112,6 +125,24 @@ fn files() {
     assert_eq!(changed(8, 4), None);
     assert_eq!(changed(8, 6), Some(1));
     assert_eq!(changed(9 + 9 * 6, 200), Some(1));
+}
+
+/// Four bytes hold more than the range: what lies beyond it is not sound.
+#[test]
+fn coordinates_of_files() {
+    let file = built(&[(-2, LIMIT)]).save();
+    assert_eq!(file[9..17], [0xff, 0xff, 0xff, 0xfe, 0x3b, 0x9a, 0xca, 0x00]);
+    let with_y = |y: i32| {
+        let mut file = file.clone();
+        file[13..17].copy_from_slice(&y.to_be_bytes());
+        Map::load(&file).err()
+    };
+    for y in [1_000_000_000, -1_000_000_000, 0] {
+        assert_eq!(with_y(y), None, "{y}");
+    }
+    for y in [1_000_000_001, -1_000_000_001, i32::MAX, i32::MIN] {
+        assert_eq!(with_y(y), Some(1), "{y}");
+    }
 }
 
 #[test]
@@ -190,7 +221,9 @@ fn reports_on_rails() {
     );
     // from one end of the range to the other
     assert_eq!(
-        printed(b"1000000 -1000000\n-1000000 1000000\n0 0\n999999 -999999\n0 0\n"),
+        printed(
+            b"1000000000 -1000000000\n-1000000000 1000000000\n0 0\n999999999 -999999999\n0 0\n"
+        ),
         "OUTLINE 1\n0 first\n1 second\n2 inside\n3 inside\n4 refused 4\n\
          corners 0 1\ncounts 6 4 4 4 3\n"
     );
@@ -231,7 +264,13 @@ fn every_short_survey_of_a_small_grid() {
 
 #[test]
 fn lines() {
-    for (line, x, y) in [("0 0", 0, 0), ("-1 9999999", -1, 9_999_999), ("1 0\n", 1, 0)] {
+    let good = [
+        ("0 0", 0, 0),
+        ("-1 9999999999", -1, 9_999_999_999),
+        ("-9999999999 10000000", -9_999_999_999, 10_000_000),
+        ("1 0\n", 1, 0),
+    ];
+    for (line, x, y) in good {
         assert_eq!(read_line(line.as_bytes()), Ok(Point::new(x, y)));
     }
     let bad = [
@@ -245,7 +284,8 @@ fn lines() {
         "00 0",
         "-0 0",
         "+1 0",
-        "1 10000000",
+        "1 10000000000",
+        "-10000000000 1",
         "1\t0",
         "1 0\r",
         "1 0\n\n",
@@ -271,8 +311,23 @@ fn reports() {
     assert_eq!(printed(b"\n"), format!("OUTLINE 1\n0 refused 8\n{none}"));
     assert_eq!(printed(b"\n\n"), format!("OUTLINE 1\n0 refused 8\n1 refused 8\n{none}"));
     assert_eq!(
-        printed(b"\n1000001 0\n1 1"),
+        printed(b"\n1000000001 0\n1 1"),
         "OUTLINE 1\n0 refused 8\n1 refused 3\n2 first\ncorners 0\ncounts 1 1 1 1 1\n"
+    );
+    // ten digits above the limit, eleven digits
+    assert_eq!(
+        printed(b"1000000000 -1000000000\n1000000001 0\n0 -9999999999\n10000000000 0\n"),
+        "OUTLINE 1\n0 first\n1 refused 3\n2 refused 3\n3 refused 8\n\
+         corners 0\ncounts 1 1 1 1 1\n"
+    );
+    // the corners of the range, and its middle
+    assert_eq!(
+        printed(
+            b"-1000000000 -1000000000\n1000000000 -1000000000\n1000000000 1000000000\n\
+              -1000000000 1000000000\n0 0\n"
+        ),
+        "OUTLINE 1\n0 first\n1 second\n2 outside 1 0 1\n3 outside 2 0 1\n4 inside\n\
+         corners 0 1 2 3\ncounts 9 5 5 3 2\n"
     );
     assert_eq!(printed(&[b'\n'; TEXT_LIMIT]).lines().count(), TEXT_LIMIT + 3);
     assert_eq!(printed(&[b'\n'; TEXT_LIMIT]).len(), 1_037_501);

@@ -6,12 +6,15 @@ use std::fmt::Write;
 /// A text of more bytes is refused.
 pub const TEXT_LIMIT: usize = 65_536;
 
-/// "A number is an optional minus and 1 to 7 digits, no leading zero save 0 itself, no -0." It is
+/// A number has at most so many digits.
+pub const DIGIT_LIMIT: u32 = 10;
+
+/// "A number is an optional minus and 1 to .. digits, no leading zero save 0 itself, no -0." It is
 /// in form where it is the one spelling of its value.
 fn read_number(bytes: &[u8]) -> Option<i64> {
     let spelling = std::str::from_utf8(bytes).ok()?;
     let number: i64 = spelling.parse().ok()?;
-    let has_few_digits = (-9_999_999..=9_999_999).contains(&number);
+    let has_few_digits = number.unsigned_abs() < 10u64.pow(DIGIT_LIMIT);
     (has_few_digits && number.to_string() == spelling).then_some(number)
 }
 

@@ -103,6 +103,11 @@ fn fixed(c: &mut Comparison) -> Outcome {
             c.report(&line)?;
         }
     }
+    for end in points::ends().into_iter().filter(|&end| i32::try_from(end).is_ok()) {
+        for p in [Point::new(end, 0), Point::new(0, end)] {
+            c.file(&Map { points: vec![p], ..Map::empty() }.save(), 1)?;
+        }
+    }
     let near = |limit: i64| [-limit - 1, -limit, limit, limit + 1];
     let ends = [near(points::FORMER_LIMIT), near(LIMIT)].concat();
     let corners: Vec<Point> =

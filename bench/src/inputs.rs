@@ -41,11 +41,21 @@ pub fn texts() -> Vec<(&'static str, Vec<u8>)> {
     ]
 }
 
-/// The file of the map after these points, none of which is refused.
-pub fn file(points: &[(i64, i64)]) -> Vec<u8> {
+/// The map after these points, none of which is refused.
+fn map(points: &[(i64, i64)]) -> reach::Map {
     let mut map = reach::Map::new();
     for &(x, y) in points {
         map.offer(reach::Point { x, y }).expect("a point that is accepted");
     }
-    map.into_bytes()
+    map
+}
+
+/// Its file.
+pub fn file(points: &[(i64, i64)]) -> Vec<u8> {
+    map(points).into_bytes()
+}
+
+/// The text of its outline.
+pub fn outline(points: &[(i64, i64)]) -> Vec<u8> {
+    map(points).outline_text().into_bytes()
 }

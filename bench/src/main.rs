@@ -17,7 +17,7 @@ mod stack;
 #[cfg(test)]
 mod tests;
 
-use reach::{COORDINATE_LIMIT as LIMIT, raw};
+use reach::{COORDINATE_LIMIT as LIMIT, OUTLINE_BYTES, raw};
 use std::hint::black_box;
 
 /// The line that is read by itself.
@@ -115,11 +115,30 @@ impl Table {
             |(out, length)| plain::corners(file, out, length),
         );
         self.line(
+            &named("write the outline,"),
+            (vec![0; OUTLINE_BYTES], [0]),
+            |(out, length)| raw::write_outline(file, out, length),
+            |(out, length)| plain::write_outline(file, out, length),
+        );
+        self.line(
             &named("offer and save the last of"),
             (vec![0; file.len()], [0; 4]),
             |(out, arrival)| raw::offer(smaller, x, y, out, arrival),
             |(out, arrival)| plain::offer(smaller, x, y, out, arrival),
         );
+    }
+
+    /// An outline's text of so many corners.
+    fn outlines(&self) {
+        for corners in [8, 64, 512] {
+            let text = &inputs::outline(&inputs::convex(corners));
+            self.line(
+                &format!("read the outline, {corners} corners"),
+                ([0; 1024], [0]),
+                |(out, length)| raw::read_outline(text, out, length),
+                |(out, length)| plain::read_outline(text, out, length),
+            );
+        }
     }
 
     /// The calls that take no map.
@@ -176,6 +195,7 @@ fn times(samples: &str) -> Option<()> {
         table.calls("convex", &inputs::convex(points));
         table.calls("random", &inputs::random(points));
     }
+    table.outlines();
     table.small();
     Some(())
 }

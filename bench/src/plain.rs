@@ -5,7 +5,9 @@
 //! have no branches: the compiler vectorises those that compare coordinates, while products are
 //! taken one by one. As in the engine, soundness compares every outline edge with every point, and
 //! a later arrival looks at every outline edge once, going from own dart to own dart. A map grows in
-//! place. Other than in the engine, a new point is compared with all points, four at a time.
+//! place. Other than in the engine, a new point is compared with all points, four at a time. The
+//! positions of an outline's text are read from its front on, and its corners are tested by their
+//! turns, as in the engine.
 
 const POINT_LIMIT: usize = 512;
 const DART_LIMIT: usize = 2 * POINT_LIMIT;
@@ -24,6 +26,8 @@ const BAD_FILE: u32 = 7;
 const BAD_LINE: u32 = 8;
 const LONG_TEXT: u32 = 9;
 const SHORT_LIST: u32 = 10;
+const BAD_OUTLINE: u32 = 11;
+const NO_SURVEY: u32 = 12;
 
 struct Map {
     xs: [i32; POINT_LIMIT],
@@ -634,6 +638,125 @@ fn printed(text: &[u8]) -> Vec<u8> {
     out
 }
 
+// ---- outlines
+
+fn put_coordinate(out: &mut Vec<u8>, z: i32) {
+    if z < 0 {
+        out.push(b'-');
+    }
+    put(out, z.unsigned_abs() as usize);
+}
+
+fn put_position(out: &mut Vec<u8>, [x, y]: [i32; 2]) {
+    put_coordinate(out, x);
+    out.push(b' ');
+    put_coordinate(out, y);
+}
+
+fn outline_text(map: &Map) -> Vec<u8> {
+    let (outline, lowest) = map.corners();
+    let (last, first) = outline.list().split_at(lowest);
+    let (opening, closing): (&[u8], &[u8]) = match outline.length {
+        0 => return b"POLYGON EMPTY".into(),
+        1 => (b"POINT (", b")"),
+        2 => (b"LINESTRING (", b")"),
+        _ => (b"POLYGON ((", b"))"),
+    };
+    let mut out = Vec::with_capacity(35 + 25 * outline.length);
+    out.extend_from_slice(opening);
+    let repeated = &first[..usize::from(outline.length > 2)];
+    for (i, &corner) in first.iter().chain(last).chain(repeated).enumerate() {
+        if i > 0 {
+            out.extend_from_slice(b", ");
+        }
+        put_position(&mut out, map.point(usize::from(corner)));
+    }
+    out.extend_from_slice(closing);
+    out
+}
+
+/// Positions as they are read: how many, whether all are in range, and the first 512 of them where
+/// they are.
+struct Positions {
+    xs: [i32; POINT_LIMIT],
+    ys: [i32; POINT_LIMIT],
+    count: usize,
+    in_range: bool,
+}
+
+impl Positions {
+    /// Reads the corners that a text spells, or answers the first number that applies.
+    fn read(&mut self, text: &[u8]) -> Result<(), u32> {
+        if text.len() > TEXT_LIMIT {
+            return Err(LONG_TEXT);
+        }
+        if !self.are_spelt(text) {
+            return Err(BAD_OUTLINE);
+        }
+        if !self.in_range {
+            return Err(OUT_OF_RANGE);
+        }
+        if self.are_listed() { Ok(()) } else { Err(NO_SURVEY) }
+    }
+
+    fn are_spelt(&mut self, text: &[u8]) -> bool {
+        if let Some(rest) = text.strip_prefix(b"POLYGON ((") {
+            let is_closed = self.are_between(rest, b"))") == Some(true);
+            // the last is the first again
+            self.count = self.count.saturating_sub(1);
+            return is_closed && self.count >= 3;
+        }
+        if let Some(rest) = text.strip_prefix(b"LINESTRING (") {
+            return self.are_between(rest, b")").is_some() && self.count == 2;
+        }
+        if let Some(rest) = text.strip_prefix(b"POINT (") {
+            return self.are_between(rest, b")").is_some() && self.count == 1;
+        }
+        text == b"POLYGON EMPTY"
+    }
+
+    /// Reads the positions of a text up to its closing; answers whether the last is the first.
+    fn are_between(&mut self, mut rest: &[u8], closing: &[u8]) -> Option<bool> {
+        let mut first = (0, 0);
+        loop {
+            let (x, [b' ', second @ ..]) = number(rest)? else {
+                return None;
+            };
+            let (y, after) = number(second)?;
+            self.in_range &= in_range(x) & in_range(y);
+            if self.count == 0 {
+                first = (x, y);
+            }
+            if self.count < POINT_LIMIT {
+                self.xs[self.count] = x as i32;
+                self.ys[self.count] = y as i32;
+            }
+            self.count += 1;
+            match after {
+                [b',', b' ', others @ ..] => rest = others,
+                _ => return (after == closing).then_some(first == (x, y)),
+            }
+        }
+    }
+
+    /// Whether some survey lists these: not too many, the first lower than each other one, and a
+    /// left turn to each from the two before it, and from the first and the one before it.
+    fn are_listed(&self) -> bool {
+        let n = self.count;
+        if n > POINT_LIMIT {
+            return false;
+        }
+        let (xs, ys) = (&self.xs[..n], &self.ys[..n]);
+        let is_higher = |(&x, &y): (&i32, &i32)| (ys[0], xs[0]) < (y, x);
+        if !xs.iter().zip(ys).skip(1).all(is_higher) {
+            return false;
+        }
+        let at = |k: usize| [xs[k], ys[k]];
+        let turns = |from, k| determinant(at(from), at(k - 1), at(k)) > 0;
+        (2..n).all(|k| turns(0, k) && turns(k - 2, k))
+    }
+}
+
 // ---- the boundary, as the engine has it
 
 /// Writes a result into a lent list, or answers number 10.
@@ -740,4 +863,36 @@ pub fn report(text: &[u8], out: &mut [u8], length: &mut [u64]) -> u32 {
     }
     length[0] = printed.len() as u64;
     write(&printed, out)
+}
+
+#[inline(never)]
+pub fn write_outline(file: &[u8], out: &mut [u8], length: &mut [u64]) -> u32 {
+    answer(Map::load(file).and_then(|map| {
+        let text = outline_text(&map);
+        let (Some(list), Some(length)) = (out.get_mut(..text.len()), length.first_mut()) else {
+            return Err(SHORT_LIST);
+        };
+        *length = text.len() as u64;
+        list.copy_from_slice(&text);
+        Ok(0)
+    }))
+}
+
+#[inline(never)]
+pub fn read_outline(text: &[u8], out: &mut [i64], length: &mut [u64]) -> u32 {
+    let (xs, ys) = ([0; POINT_LIMIT], [0; POINT_LIMIT]);
+    let mut corners = Positions { xs, ys, count: 0, in_range: true };
+    if let Err(refusal) = corners.read(text) {
+        return refusal;
+    }
+    let n = corners.count;
+    let (Some(list), Some(length)) = (out.get_mut(..2 * n), length.first_mut()) else {
+        return SHORT_LIST;
+    };
+    *length = 2 * n as u64;
+    let points = corners.xs.iter().zip(&corners.ys);
+    for (pair, (&x, &y)) in list.as_chunks_mut::<2>().0.iter_mut().zip(points) {
+        *pair = [i64::from(x), i64::from(y)];
+    }
+    0
 }

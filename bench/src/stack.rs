@@ -2,7 +2,7 @@
 //! own, since too little stack ends it.
 
 use crate::{LINE, inputs};
-use reach::raw;
+use reach::{OUTLINE_BYTES, raw};
 use std::process::{Command, Stdio};
 
 /// A thread's stack is a number of such pages.
@@ -12,7 +12,7 @@ const PAGE: usize = 4096;
 const LEAST_PAGES: usize = 4;
 const MOST_PAGES: usize = 1024;
 
-const CALLS: [&str; 10] = [
+const CALLS: [&str; 12] = [
     "report, 65,536 bytes",
     "report, 65,537 bytes (number 9)",
     "check, 512 points",
@@ -22,6 +22,8 @@ const CALLS: [&str; 10] = [
     "walk, 512 points",
     "counts, 512 points",
     "corners, 512 points",
+    "write the outline, 512 corners",
+    "read the outline, 512 corners",
     "line",
 ];
 
@@ -51,6 +53,14 @@ fn call(name: &str) -> Option<Box<dyn FnOnce() -> u32 + Send>> {
         "corners, 512 points" => {
             let (mut out, mut length) = (vec![0; 512], [0]);
             Box::new(move || raw::corners(&file, &mut out, &mut length))
+        }
+        "write the outline, 512 corners" => {
+            let (mut out, mut length) = (vec![0; OUTLINE_BYTES], [0]);
+            Box::new(move || raw::write_outline(&file, &mut out, &mut length))
+        }
+        "read the outline, 512 corners" => {
+            let (text, mut out, mut length) = (inputs::outline(&points), vec![0; 1024], [0]);
+            Box::new(move || raw::read_outline(&text, &mut out, &mut length))
         }
         "line" => Box::new(|| raw::line(LINE, &mut [0; 2])),
         _ => return None,

@@ -34,6 +34,12 @@ fn compare(file: &[u8], p: Point, dart: u64) {
     let listed: Vec<usize> = corners[..length[0] as usize].iter().map(|&k| k as usize).collect();
     number(map.as_ref().map(|m| m.corners()).map_err(|e| *e), |c| assert_eq!(c, listed), got);
 
+    let mut text = [0; 12_835];
+    let got = plain::write_outline(file, &mut text, &mut length);
+    let written = &text[..length[0] as usize];
+    let right = |outline: String| assert_eq!(outline.as_bytes(), written);
+    number(map.as_ref().map(|m| m.outline_text()).map_err(|e| *e), right, got);
+
     let mut walk = [0; 3];
     let got = plain::walk(file, dart, &mut walk);
     let expected = map.as_ref().map_err(|e| *e).and_then(|m| m.walk(dart));
@@ -101,6 +107,80 @@ fn the_yardstick_is_right_on_maps() {
             compare(&file, p, dart);
             let _ = map.offer(p);
         }
+    }
+}
+
+fn compare_outline(text: &[u8]) {
+    let (mut numbers, mut length) = ([0; 1024], [0]);
+    let got = plain::read_outline(text, &mut numbers, &mut length);
+    let right = |corners: Vec<Point>| {
+        let expected: Vec<i64> = corners.iter().flat_map(|p| [p.x, p.y]).collect();
+        assert_eq!(expected, numbers[..length[0] as usize]);
+    };
+    number(reference::read_outline(text), right, got);
+}
+
+/// A ring through these positions in turn, the first again at the end.
+fn ring(positions: &[Point]) -> Vec<u8> {
+    let closed = positions.iter().chain(positions.first());
+    let spelt: Vec<String> = closed.map(|p| format!("{} {}", p.x, p.y)).collect();
+    format!("POLYGON (({}))", spelt.join(", ")).into()
+}
+
+#[test]
+fn the_yardstick_is_right_on_outlines() {
+    let mut state = 7;
+    for drawn in 0..40_000 {
+        // the widest goes one beyond the range
+        let width = [1, 3, 100, LIMIT + 1][drawn % 4];
+        let ends = [-width, -width + 1, width - 1, width];
+        let mut coordinate = || match below(&mut state, 2) {
+            0 => ends[below(&mut state, 4) as usize],
+            _ => below(&mut state, 2 * width as u64 + 1) as i64 - width,
+        };
+        let mut points: Vec<Point> =
+            (0..drawn / 4 % 8).map(|_| Point::new(coordinate(), coordinate())).collect();
+        compare_outline(&ring(&points));
+        let mut map = Map::empty();
+        points.retain(|&p| map.offer(p).is_ok());
+        let mut corners: Vec<Point> = map.corners().iter().map(|&k| points[k]).collect();
+        let mut text = map.outline_text().into_bytes();
+        compare_outline(&text);
+        // begun at another corner, and a byte put in, taken out or changed
+        let start = drawn % corners.len().max(1);
+        corners.rotate_left(start);
+        compare_outline(&ring(&corners));
+        let place = below(&mut state, text.len() as u64) as usize;
+        let byte = b"019- ,()PE\n"[below(&mut state, 11) as usize];
+        match drawn % 3 {
+            0 => text.insert(place, byte),
+            1 => text[place] = byte,
+            _ => drop(text.remove(place)),
+        }
+        compare_outline(&text);
+    }
+    for corners in [511, 512, 513, 600] {
+        let listed: Vec<Point> = (0..corners).map(|x| Point::new(x, x * x)).collect();
+        let text = String::from_utf8(ring(&listed)).expect("a text of ASCII");
+        compare_outline(text.as_bytes());
+        for (from, to) in [("10 100,", "10 0100,"), ("10 100,", "10 1000000001,"), ("0 0)", "0 1)")]
+        {
+            compare_outline(text.replace(from, to).as_bytes());
+        }
+        let last = format!("{} {}", corners - 1, (corners - 1) * (corners - 1));
+        for other in ["0 00", "0 1000000001", "-1 -1"] {
+            compare_outline(text.replace(&last, other).as_bytes());
+        }
+    }
+    for text in ["POINT (9999999999 -9999999999)", "POINT (10000000000 0)", "LINESTRING (0 0, 0 0)"]
+    {
+        compare_outline(text.as_bytes());
+    }
+    // 65,535 bytes, then one and two more
+    let zeros = String::from_utf8(ring(&[Point::new(0, 0); 13_104])).expect("a text of ASCII");
+    for second in ["0 0", "0 10", "0 100"] {
+        compare_outline(zeros.replacen("0 0", second, 2).as_bytes());
+        compare_outline(zeros.replacen(", 0 0", &format!(", {second}"), 1).as_bytes());
     }
 }
 

@@ -12,8 +12,8 @@
 #include <stdio.h>
 #include <string.h>
 
-#if REACH_HEADER_VERSION != 3
-#error "this program is for version 3 of reach.h"
+#if REACH_HEADER_VERSION != 4
+#error "this program is for version 4 of reach.h"
 #endif
 
 static int values, differences;
@@ -35,8 +35,9 @@ static size_t bytes;
 
 /* What the calls write. */
 static uint64_t out[REACH_POINTS], length[1];
-static int64_t number[2];
+static int64_t number[2 * REACH_POINTS];
 static uint8_t text[REACH_TEXT_LIMIT + 1], printed[REACH_REPORT_BYTES(REACH_TEXT_LIMIT)];
+static uint8_t outline[REACH_OUTLINE_BYTES];
 
 /* Offers a point; the map is then the one after it. Its arrival is in out. */
 static uint32_t offer(int64_t x, int64_t y) {
@@ -63,6 +64,15 @@ static int64_t coordinate(size_t place) {
     return value < INT64_C(1) << 31 ? value : value - (INT64_C(1) << 32);
 }
 
+/* The map's outline as text: it is this one. */
+static void writes(const char *expected) {
+    IS(reach_write_outline(map, bytes, outline, sizeof outline, length, 1), 0);
+    IS(length[0], strlen(expected));
+    IS(memcmp(outline, expected, strlen(expected)), 0);
+    IS(reach_write_outline(map, bytes, outline, strlen(expected) - 1, length, 1), REACH_SHORT_LIST);
+    IS(reach_write_outline(map, bytes, outline, sizeof outline, NULL, 0), REACH_SHORT_LIST);
+}
+
 static void without_points(void) {
     bytes = REACH_EMPTY_BYTES;
     IS(reach_empty(map, bytes - 1), REACH_SHORT_LIST);
@@ -73,13 +83,16 @@ static void without_points(void) {
     IS(out[0], REACH_PLACED_NONE);
     IS(reach_corners(map, bytes, NULL, 0, length, 1), 0);
     IS(length[0], 0);
+    writes("POLYGON EMPTY");
 }
 
 static void arrivals(void) {
     IS(offer(0, 0), 0);
     IS(out[0], REACH_FIRST);
+    writes("POINT (0 0)");
     IS(offer(4, 0), 0);
     IS(out[0], REACH_SECOND);
+    writes("LINESTRING (0 0, 4 0)");
     IS(offer(1, 3), 0);
     IS(offer(5, 4), 0);
     IS(offer(4, 0), REACH_REPEATED);
@@ -209,6 +222,43 @@ static void reports(void) {
     IS(reach_report(text, sizeof text, printed, sizeof printed, length, 1), REACH_LONG_TEXT);
 }
 
+/* Reads an outline's text. */
+static uint32_t reads(const char *spelling) {
+    return reach_read_outline((const uint8_t *)spelling, strlen(spelling), number,
+                              2 * REACH_POINTS, length, 1);
+}
+
+/* The session's outline, as text and as its corners. */
+static void outlines(void) {
+    static const char session[] = "POLYGON ((0 0, 4 0, 6 7, 1 3, 0 0))";
+    static const int64_t corners[] = {0, 0, 4, 0, 6, 7, 1, 3};
+    writes(session);
+    IS(reads(session), 0);
+    IS(length[0], 8);
+    for (size_t i = 0; i < 8; i++) {
+        IS(number[i], corners[i]);
+    }
+    IS(reach_read_outline((const uint8_t *)session, strlen(session), number, 7, length, 1),
+       REACH_SHORT_LIST);
+    IS(reads("POLYGON EMPTY"), 0);
+    IS(length[0], 0);
+    IS(reads("POINT (-1000000000 1000000000)"), 0);
+    IS(length[0], 2);
+    IS(number[0], -REACH_COORDINATE_LIMIT);
+    IS(number[1], REACH_COORDINATE_LIMIT);
+    IS(reads("POINT (0 1000000001)"), REACH_OUT_OF_RANGE);
+    IS(reads("LINESTRING (0 0, 4 0)"), 0);
+    IS(length[0], 4);
+    IS(reads("LINESTRING (4 0, 0 0)"), REACH_NO_SURVEY);
+    IS(reads("LINESTRING (0 0,4 0)"), REACH_BAD_OUTLINE);
+    IS(reads("POLYGON ((0 0, 4 0, 6 7, 1 3))"), REACH_BAD_OUTLINE);
+    IS(reads("POLYGON ((0 0, 4 0, 0 0))"), REACH_BAD_OUTLINE);
+    IS(reads("POLYGON ((0 0, 2 5, -3 2, 3 2, -2 5, 0 0))"), REACH_NO_SURVEY);
+    memset(text, '0', sizeof text);
+    IS(reach_read_outline(text, REACH_TEXT_LIMIT, number, 0, length, 1), REACH_BAD_OUTLINE);
+    IS(reach_read_outline(text, sizeof text, number, 0, length, 1), REACH_LONG_TEXT);
+}
+
 /* Marks along a rail: beyond an end, beyond the other, between them, beside the rail. */
 static void rail(void) {
     bytes = REACH_EMPTY_BYTES;
@@ -238,6 +288,7 @@ static void rail(void) {
     IS(out[0], REACH_PLACED_EDGE);
     IS(out[1], 3);
     IS(out[2], 2);
+    writes("LINESTRING (-2 0, 4 0)");
     IS(offer(1, 1), 0);
     IS(out[0], REACH_OUTSIDE);
     IS(out[1], 2);
@@ -256,6 +307,13 @@ static void full(void) {
     IS(offer(-1, 0), REACH_FULL);
     IS(reach_corners(map, bytes, out, REACH_POINTS, length, 1), 0);
     IS(length[0], REACH_POINTS);
+    IS(reach_write_outline(map, bytes, outline, sizeof outline, length, 1), 0);
+    IS(reach_read_outline(outline, length[0], number, 2 * REACH_POINTS, length, 1), 0);
+    IS(length[0], 2 * REACH_POINTS);
+    for (int64_t k = 0; k < REACH_POINTS; k++) {
+        IS(number[2 * k], k);
+        IS(number[2 * k + 1], k * k);
+    }
     IS(reach_walker(map, bytes, REACH_DARTS - 1, out, 1), 0);
     IS(reach_walker(map, bytes, REACH_DARTS, out, 1), REACH_NO_DART);
 }
@@ -277,7 +335,8 @@ int main(void) {
         {REACH_CALL_STACK, saved_form},     {REACH_CALL_STACK, orbits},
         {REACH_CALL_STACK, walks},          {REACH_CALL_STACK, places},
         {REACH_CALL_STACK, numbers},        {REACH_REPORT_STACK, reports},
-        {REACH_CALL_STACK, rail},           {REACH_CALL_STACK, full},
+        {REACH_CALL_STACK, outlines},       {REACH_CALL_STACK, rail},
+        {REACH_CALL_STACK, full},
     };
     for (size_t i = 0; i < sizeof parts / sizeof parts[0]; i++) {
         pthread_attr_t attributes;

@@ -33,7 +33,7 @@
 
 /* The version of this header: it grows with each change of a function, a number, a limit or the
    saved form. */
-#define REACH_HEADER_VERSION 3
+#define REACH_HEADER_VERSION 4
 
 #ifdef __cplusplus
 extern "C" {
@@ -43,15 +43,18 @@ extern "C" {
 enum {
     REACH_NOT_SOUND = 1,    /* map not sound */
     REACH_FULL = 2,         /* offered point: 512 points already */
-    REACH_OUT_OF_RANGE = 3, /* offered or query point, or point of an orientation: coordinate out
-                               of range */
+    REACH_OUT_OF_RANGE = 3, /* offered or query point, or point of an orientation or of an
+                               outline's text: coordinate out of range */
     REACH_REPEATED = 4,     /* offered point: equal to an accepted point */
     REACH_NO_DART = 6,      /* dart absent or above 1,023 */
     REACH_BAD_FILE = 7,     /* file under 9 bytes, length not matching n and the bytes lent, n above
                                512, version not 1, or helper byte above 1 */
     REACH_BAD_LINE = 8,     /* text line not in form */
     REACH_LONG_TEXT = 9,    /* text above 65,536 bytes */
-    REACH_SHORT_LIST = 10   /* lent list shorter than the result */
+    REACH_SHORT_LIST = 10,  /* lent list shorter than the result */
+    REACH_BAD_OUTLINE = 11, /* outline's text in another spelling, a ring that does not end on its
+                               first corner, or a ring of under three corners */
+    REACH_NO_SURVEY = 12    /* outline's text: corners that no survey lists in that order */
 };
 
 /* The arrival of an accepted point. */
@@ -80,12 +83,15 @@ enum {
 };
 
 /* Lengths that suffice: the bytes of the map without points, what each point adds to them, the
-   bytes of any map, the words of an orbit and its size. */
+   bytes of any map, the words of an orbit and its size, the bytes of any outline's text. The last
+   is 12 + 2 * 512 + 23 * 513: the words of a ring, what stands between its positions, and 513
+   positions of two numbers of 11 bytes and a space. That no outline takes more is proved. */
 enum {
     REACH_EMPTY_BYTES = 9,
     REACH_POINT_BYTES = 13,
     REACH_MAP_BYTES = REACH_EMPTY_BYTES + REACH_POINT_BYTES * REACH_POINTS,
-    REACH_ORBIT_WORDS = 17
+    REACH_ORBIT_WORDS = 17,
+    REACH_OUTLINE_BYTES = 12835
 };
 
 /* The bytes of a map of n points, and a length that suffices for the report on a text of n bytes.
@@ -201,6 +207,21 @@ uint32_t reach_line(const uint8_t *line, size_t n, int64_t *out, size_t m);
    crates/reports/proofs/Lengths.antt). Refusals: 9, 10. */
 uint32_t reach_report(const uint8_t *text, size_t n, uint8_t *out, size_t m, uint64_t *length,
                       size_t k);
+
+/* Writes the outline of a map as OGC Simple Features text, without a line feed or a zero after it,
+   and how many bytes it is to length[0]: never more than REACH_OUTLINE_BYTES. The corners stand in
+   the order of reach_corners: none as "POLYGON EMPTY", one as "POINT (0 0)", two as
+   "LINESTRING (0 0, 4 0)", more as "POLYGON ((0 0, 4 0, 6 7, 1 3, 0 0))", the first repeated.
+   Refusals: 7, 1, 10. */
+uint32_t reach_write_outline(const uint8_t *map, size_t n, uint8_t *out, size_t m, uint64_t *length,
+                             size_t k);
+
+/* Reads an outline's text, in the spelling of reach_write_outline and no other, and writes x and y
+   of each corner in turn, and how many numbers they are to length[0]: two for each corner, never
+   more than 2 * REACH_POINTS. Where the lists are long enough, a text is served if and only if some
+   survey writes it. Refusals: 9, 11, 3, 12, 10. */
+uint32_t reach_read_outline(const uint8_t *text, size_t n, int64_t *out, size_t m, uint64_t *length,
+                            size_t k);
 
 #ifdef __cplusplus
 }

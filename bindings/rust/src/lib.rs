@@ -1,9 +1,9 @@
 //! The convex outline of marks in the plane, built point after point as a linked map of darts.
 //!
 //! The engine is written in Rattle and proved: every function meets its contract for every
-//! argument. This crate calls it safely. [`Map`] is where to begin; [`orientation`], [`read_line`]
-//! and [`report`] need no map. What cannot be served is a [`Refusal`], which has a number and
-//! words.
+//! argument. This crate calls it safely. [`Map`] is where to begin; [`orientation`], [`read_line`],
+//! [`read_outline`] and [`report`] need no map. What cannot be served is a [`Refusal`], which has a
+//! number and words.
 //!
 //! ```
 //! use reach::{Map, Point};
@@ -41,6 +41,10 @@ pub const COORDINATE_LIMIT: i64 = 1_000_000_000;
 
 /// A text of more bytes is refused.
 pub const TEXT_LIMIT: usize = 65_536;
+
+/// An outline's text has at most so many bytes: 12 of its words, 2 between each two of at most 513
+/// positions, and at most 23 of each of them.
+pub const OUTLINE_BYTES: usize = 12_835;
 
 /// The bytes of stack that [`report`] needs of its thread.
 pub const REPORT_STACK: usize = 524_288;
@@ -125,6 +129,36 @@ pub fn report(text: &[u8]) -> Result<Vec<u8>, Refusal> {
     Refusal::of(raw::report(text, &mut printed, &mut length))?;
     printed.truncate(usize::try_from(length[0]).expect("the length of a list"));
     Ok(printed)
+}
+
+/// The corners of an outline's text, as [`Map::outline_text`] writes it. A text is accepted if and
+/// only if some survey writes it.
+///
+/// # Errors
+///
+/// The first that applies of [`Refusal::LongText`], where the text has more than [`TEXT_LIMIT`]
+/// bytes, [`Refusal::BadOutline`], where it is spelt otherwise, [`Refusal::OutOfRange`], where a
+/// coordinate is out of range, and [`Refusal::NoSurvey`], where no survey lists these corners in
+/// this order: there are more than [`POINT_LIMIT`], the first is not the lowest, or they do not go
+/// round once, turning left at each.
+///
+/// ```
+/// use reach::{Point, Refusal, read_outline};
+///
+/// let corners = [(0, 0), (4, 0), (1, 3)].map(|(x, y)| Point { x, y });
+/// assert_eq!(read_outline(b"POLYGON ((0 0, 4 0, 1 3, 0 0))"), Ok(corners.to_vec()));
+/// assert_eq!(read_outline(b"POLYGON EMPTY"), Ok(vec![]));
+/// assert_eq!(read_outline(b"POLYGON ((0 0,4 0,1 3,0 0))"), Err(Refusal::BadOutline));
+/// assert_eq!(read_outline(b"POLYGON ((0 0, 4 0, 1 3))"), Err(Refusal::BadOutline));
+/// assert_eq!(read_outline(b"POINT (1000000001 0)"), Err(Refusal::OutOfRange));
+/// assert_eq!(read_outline(b"POLYGON ((0 0, 1 3, 4 0, 0 0))"), Err(Refusal::NoSurvey));
+/// ```
+pub fn read_outline(text: &[u8]) -> Result<Vec<Point>, Refusal> {
+    let mut numbers = vec![0; 2 * POINT_LIMIT];
+    let mut length = [0];
+    Refusal::of(raw::read_outline(text, &mut numbers, &mut length))?;
+    let numbers = &numbers[..usize::try_from(length[0]).expect("the length of a list")];
+    Ok(numbers.chunks_exact(2).map(|pair| Point { x: pair[0], y: pair[1] }).collect())
 }
 
 #[cfg(doctest)]

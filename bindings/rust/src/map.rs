@@ -1,4 +1,4 @@
-use crate::{Point, Refusal, raw};
+use crate::{OUTLINE_BYTES, Point, Refusal, raw};
 
 const HEAD: usize = 9;
 const POINT_BYTES: usize = 13;
@@ -435,6 +435,33 @@ impl Map {
         served(raw::corners(&self.bytes, &mut corners, &mut length));
         corners.truncate(index(length[0]));
         corners.into_iter().map(index).collect()
+    }
+
+    /// The outline as OGC Simple Features text (WKT), which [`read_outline`](crate::read_outline)
+    /// reads: the corners in the order of [`Map::corners`], and of three or more the first again at
+    /// the end.
+    ///
+    /// ```
+    /// use reach::{Map, Point};
+    ///
+    /// let mut map = Map::new();
+    /// assert_eq!(map.outline_text(), "POLYGON EMPTY");
+    /// map.offer(Point { x: 0, y: 0 })?;
+    /// assert_eq!(map.outline_text(), "POINT (0 0)");
+    /// map.offer(Point { x: 4, y: 0 })?;
+    /// assert_eq!(map.outline_text(), "LINESTRING (0 0, 4 0)");
+    /// for (x, y) in [(1, 3), (5, 4), (2, 1), (6, 7)] {
+    ///     map.offer(Point { x, y })?;
+    /// }
+    /// assert_eq!(map.outline_text(), "POLYGON ((0 0, 4 0, 6 7, 1 3, 0 0))");
+    /// # Ok::<(), reach::Refusal>(())
+    /// ```
+    pub fn outline_text(&self) -> String {
+        let mut text = vec![0; OUTLINE_BYTES];
+        let mut length = [0];
+        served(raw::write_outline(&self.bytes, &mut text, &mut length));
+        text.truncate(usize::try_from(length[0]).expect("the length of a list"));
+        String::from_utf8(text).expect("a text of ASCII")
     }
 }
 

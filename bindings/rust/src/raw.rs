@@ -101,6 +101,22 @@ mod engine {
             length: *mut u64,
             k: usize,
         ) -> u32;
+        pub fn reach_write_outline(
+            map: *const u8,
+            n: usize,
+            out: *mut u8,
+            m: usize,
+            length: *mut u64,
+            k: usize,
+        ) -> u32;
+        pub fn reach_read_outline(
+            text: *const u8,
+            n: usize,
+            out: *mut i64,
+            m: usize,
+            length: *mut u64,
+            k: usize,
+        ) -> u32;
     }
 }
 
@@ -185,4 +201,18 @@ pub fn report(text: &[u8], out: &mut [u8], length: &mut [u64]) -> u32 {
     let (list, m) = (out.as_mut_ptr(), out.len());
     let (values, k) = (length.as_mut_ptr(), length.len());
     unsafe { engine::reach_report(text.as_ptr(), text.len(), list, m, values, k) }
+}
+
+/// 7, 1, 10: the bytes of the outline's text; how many.
+pub fn write_outline(map: &[u8], out: &mut [u8], length: &mut [u64]) -> u32 {
+    let (list, m) = (out.as_mut_ptr(), out.len());
+    let (values, k) = (length.as_mut_ptr(), length.len());
+    unsafe { engine::reach_write_outline(map.as_ptr(), map.len(), list, m, values, k) }
+}
+
+/// 9, 11, 3, 12, 10: x, y of each corner; how many numbers.
+pub fn read_outline(text: &[u8], out: &mut [i64], length: &mut [u64]) -> u32 {
+    let (list, m) = (out.as_mut_ptr(), out.len());
+    let (values, k) = (length.as_mut_ptr(), length.len());
+    unsafe { engine::reach_read_outline(text.as_ptr(), text.len(), list, m, values, k) }
 }

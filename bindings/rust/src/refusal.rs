@@ -24,6 +24,11 @@ pub enum Refusal {
     LongText,
     /// A lent list is shorter than the result.
     ShortList,
+    /// The outline's text is in another spelling, a ring does not end on its first corner, or a
+    /// ring has under three corners.
+    BadOutline,
+    /// The outline's text has corners that no survey lists in that order.
+    NoSurvey,
     /// A number that this crate does not know: the archive it is linked with is of a later engine,
     /// or of an earlier one and the number withdrawn, as 5 is.
     Unknown(u32),
@@ -42,6 +47,8 @@ impl Refusal {
         Refusal::BadLine,
         Refusal::LongText,
         Refusal::ShortList,
+        Refusal::BadOutline,
+        Refusal::NoSurvey,
     ];
 
     /// The number of the refusal.
@@ -60,6 +67,8 @@ impl Refusal {
             Refusal::BadLine => 8,
             Refusal::LongText => 9,
             Refusal::ShortList => 10,
+            Refusal::BadOutline => 11,
+            Refusal::NoSurvey => 12,
             Refusal::Unknown(number) => number,
         }
     }
@@ -81,7 +90,8 @@ impl fmt::Display for Refusal {
             Refusal::NotSound => "map not sound",
             Refusal::Full => "offered point: 512 points already",
             Refusal::OutOfRange => {
-                "offered or query point, or point of an orientation: coordinate out of range"
+                "offered or query point, or point of an orientation or of an outline's text: \
+                 coordinate out of range"
             }
             Refusal::Repeated => "offered point: equal to an accepted point",
             Refusal::NoDart => "dart absent or above 1,023",
@@ -92,6 +102,11 @@ impl fmt::Display for Refusal {
             Refusal::BadLine => "text line not in form",
             Refusal::LongText => "text above 65,536 bytes",
             Refusal::ShortList => "lent list shorter than the result; a longer one keeps its tail",
+            Refusal::BadOutline => {
+                "outline's text in another spelling, a ring that does not end on its first corner, \
+                 or a ring of under three corners"
+            }
+            Refusal::NoSurvey => "outline's text: corners that no survey lists in that order",
             Refusal::Unknown(number) => {
                 return write!(f, "refusal {number}, unknown to this crate");
             }
@@ -117,7 +132,7 @@ mod tests {
 
     #[test]
     fn an_unknown_number_is_kept() {
-        for number in [5, 11, 18, u32::MAX] {
+        for number in [5, 13, 18, u32::MAX] {
             assert_eq!(Refusal::of(number), Err(Refusal::Unknown(number)));
             assert_eq!(Refusal::Unknown(number).number(), number);
         }

@@ -3,7 +3,9 @@
 --     CornerLoops    the loops that look for and list the corners
 --     Views          placing by one look at each edge
 --     Placing        what each answer on a query point means
+--     Listings       which lists of points are the listing of some survey: `listed-iff`
 pub mod Corners
 pub mod CornerLoops
 pub mod Views
 pub mod Placing
+pub mod Listings

@@ -67,7 +67,7 @@ pub fn is_sound(map: Map) -> bool
     soundness::is_sound(map)
 }
 
-// The map after a point is offered to it, and what became of the point: numbers 1 to 5. Where the point is
+// The map after a point is offered to it, and what became of the point: numbers 1 to 4. Where the point is
 // refused, the map is as it was.
 pub fn offer(map: Map, p: Point) -> Offered
     ensures { λ r. ⌜ Answered (offer-call map p) r ⌝ }

@@ -4,7 +4,7 @@
 -- members is compared here: that is Distinct.
 use mathlib.Core.Path.{_≡_, refl, sym, ap, subst, _∙_}
 use mathlib.Core.Logic.{_⊎_, inl, inr, ⊎-elim}
-use mathlib.Core.Bool.{Bool, not}
+use mathlib.Core.Bool.{Bool, not, _&&_}
 use mathlib.Core.List.{List, [], _∷_, _++_, flatMap}
 use Prim.Native.Nat.{ℕ, zero, suc, _+_, _<_}
 use native.Mathlib.Nat.{not-suc-le-zero, le-of-suc-le-suc, add-zero, add-suc, suc-add}
@@ -12,7 +12,7 @@ use native.Mathlib.Omega.{arith}
 use lib.Dec.{T, eqb, eqb→eq, eqb-refl, T-not}
 use lib.ListN.{length, getD}
 use Rattle.finite.specs.Tests.{and-left, and-right, and-both, or-cases, or-left, or-right}
-use Rattle.finite.specs.Tests.{decide, is-true, is-false}
+use Rattle.finite.specs.Tests.{decide, is-true, is-false, and-true, and-assoc}
 use Rattle.finite.specs.Lists.{elem, all-in, all-places, total, insert, union}
 
 -- ---- a member
@@ -204,6 +204,12 @@ module _ {ℓ} {A : Type ℓ} where
   all-in-by p (x ∷ s) d f =
       and-both (p x) (all-in p s) (f 0 (omega arith))
       (all-in-by p s d (λ k h. f (suc k) (omega arith)))
+
+  -- one member more at the end
+  pub all-in-snoc : (p : A → Bool) (s : List A) (x : A) → all-in p (s ++ x ∷ []) ≡ (all-in p s && p x)
+  unfolding all-in
+  all-in-snoc p [] x = and-true (p x)
+  all-in-snoc p (y ∷ s) x = rw (all-in-snoc p s x) (and-assoc (p y) (all-in p s) (p x))
 
   pub all-places-at : (p : ℕ → A → Bool) (i : ℕ) (s : List A) → T (all-places p i s) →
       (k : ℕ) (d : A) → k < length s → T (p (i + k) (getD s k d))

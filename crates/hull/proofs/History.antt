@@ -134,10 +134,10 @@ points-more {m} {p} a helpers edge reference =
     (λ k h. point-old (a .is-sound) (a .room) p helpers edge reference k (omega arith))))
 
 -- what an arrival has to show, for the run with its entry to keep the invariant
-record Adds (m : Map) (p : Point) (o : Offered) : Type 0 where
-  is-sound : Shaped (o .map)
-  count-grows : o .map .count ≡ suc (m .count)
-  points : table (o .map .count) (point (o .map)) ≡ table (m .count) (point m) ++ p ∷ []
+pub record Adds (m : Map) (p : Point) (o : Offered) : Type 0 where
+  pub is-sound : Shaped (o .map)
+  pub count-grows : o .map .count ≡ suc (m .count)
+  pub points : table (o .map .count) (point (o .map)) ≡ table (m .count) (point m) ++ p ∷ []
   reports : reported (o .arrival) ≡ visible-edges m p
   first-adds : m .count ≡ 0 → (reported (o .arrival) ≡ 0) × (one-if (is-outside (o .arrival)) ≡ 0)
   second-adds : m .count ≡ 1 →
@@ -186,7 +186,7 @@ unfolding visible-edges count-in
 few-visible m p few = ap (count-in (sees m p)) (few-outline m few)
 
 -- each arrival adds what it has to
-arrival-adds : (m : Map) (p : Point) → Accepted m p → (o : Offered) → Arrives m p o → Adds m p o
+pub arrival-adds : (m : Map) (p : Point) → Accepted m p → (o : Offered) → Arrives m p o → Adds m p o
 unfolding alone pair spliced with-point reported is-outside one-if
 arrival-adds m p a o (first none) =
     record {

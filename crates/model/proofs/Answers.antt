@@ -3,7 +3,7 @@
 -- refusal and of the value, so an entry whose answer is that of the call means what it promises to mean.
 use mathlib.Core.Path.{_≡_, refl, ap, subst, _∙_}
 use mathlib.Core.Bool.{Bool, true, false, cond}
-use mathlib.Core.List.{List, [], _∷_}
+use mathlib.Core.List.{List, [], _∷_, _++_}
 use Prim.Native.Nat.{ℕ, _≤_}
 use native.Mathlib.Omega.{arith}
 use lib.Dec.{T}
@@ -25,6 +25,8 @@ number-most Refusal.BadFile = omega arith
 number-most Refusal.BadLine = omega arith
 number-most Refusal.LongText = omega arith
 number-most Refusal.ShortList = omega arith
+number-most Refusal.BadOutline = omega arith
+number-most Refusal.NoSurvey = omega arith
 
 -- ---- one rule after another
 
@@ -67,6 +69,14 @@ pub unless-none : {A : Type 0} (refuse : Refusal → A) (a : A) {rules : List Ru
 unfolding unless
 unless-none refuse a none = refl
 unless-none refuse a (nor {rule} n rest) = rw (is-false (rule .applies) n) (unless-none refuse a rest)
+
+-- rules in two parts
+pub unless-append : {A : Type 0} (f : Refusal → A) (rules more : List Rule) (a : A) →
+    unless f (rules ++ more) a ≡ unless f rules (unless f more a)
+unfolding unless
+unless-append f [] more a = refl
+unless-append f (rule ∷ rules) more a =
+    ap (cond (rule .applies) (f (rule .refusal))) (unless-append f rules more a)
 
 -- ---- rules that are checked first, by a function that answers an outcome
 

@@ -93,6 +93,8 @@ refusals =
     ∷ Refusal.BadLine
     ∷ Refusal.LongText
     ∷ Refusal.ShortList
+    ∷ Refusal.BadOutline
+    ∷ Refusal.NoSurvey
     ∷ []
 
 -- answers with values that all differ
@@ -108,7 +110,7 @@ walk-to ending = record { last = 1; ending = ending; moves = 2 }
 answers : List Question
 answers =
     -- 5 is withdrawn
-    (map number refusals is 1 ∷ 2 ∷ 3 ∷ 4 ∷ 6 ∷ 7 ∷ 8 ∷ 9 ∷ 10 ∷ [])
+    (map number refusals is 1 ∷ 2 ∷ 3 ∷ 4 ∷ 6 ∷ 7 ∷ 8 ∷ 9 ∷ 10 ∷ 11 ∷ 12 ∷ [])
     ∷ (told (oriented-answer (Oriented.Value (negℤ (pos 12)))) is says "orientation -12\n")
     ∷ (told (oriented-answer (Oriented.Refused Refusal.ShortList)) is short)
     ∷ (told (arrival-answer Arrival.First) is says "first\n")

@@ -17,9 +17,11 @@
 --     Saved        the file
 --     Text         numbers and lines of a survey text, and a line lent by itself
 --     Report       the report on a survey text
+--     Outlines     an outline as text: written, read, and which corners some survey lists
 --     Orders       the order in which each call looks at its rules
 --     Questions    the starred questions, one list with one check
 --     FurtherQuestions    questions of ours, one list with one check
+--     OutlineQuestions    questions of ours about outlines as text, one list with one check
 pub mod Spelling
 pub mod Refusals
 pub mod Answers
@@ -37,6 +39,8 @@ pub mod Lent
 pub mod Saved
 pub mod Text
 pub mod Report
+pub mod Outlines
 pub mod Orders
 pub mod Questions
 pub mod FurtherQuestions
+pub mod OutlineQuestions

@@ -1,8 +1,10 @@
 -- The order in which each call looks at its rules, as the numbers of document 01's table: one computed
--- test for each list of rules. "The lowest number that applies is given; loading looks at 7 before 1."
+-- test for each list of rules. "The lowest number that applies is given; loading looks at 7 before 1."; document
+-- 02, request 101, gives the places of 11 and 12.
 use mathlib.Core.Path.{_≡_, refl}
 use mathlib.Core.List.{List, [], _∷_, map}
 use Prim.Native.Nat.{ℕ}
+use lib.IntN.{ℤ}
 use Rattle.model.specs.declared.Point.{Point}
 use Rattle.model.specs.declared.Map.{Map}
 use Rattle.model.specs.declared.Kind.{Kind}
@@ -17,11 +19,12 @@ use Rattle.model.specs.Lent.{writing}
 use Rattle.model.specs.Saved.{saved, load-call}
 use Rattle.model.specs.Text.{line-call}
 use Rattle.model.specs.Report.{report-rules, report}
+use Rattle.model.specs.Outlines.{coordinates, corner-points, corners-spelt, outline-rules, outline-text}
 
 abbrev pub numbers-of : List Rule → List ℕ
 numbers-of rules = map (λ rule. number (rule .refusal)) rules
 
-module _ (m : Map) (p q r : Point) (kind : Kind) (link : Link) (d : ℕ) (s lent : List ℕ) where
+module _ (m : Map) (p q r : Point) (kind : Kind) (link : Link) (d : ℕ) (s lent : List ℕ) (coordinates-lent : List ℤ) where
   pub orientation-order : numbers-of (orientation-call p q r .rules) ≡ 3 ∷ []
   unfolding number
   orientation-order = refl
@@ -69,3 +72,15 @@ module _ (m : Map) (p q r : Point) (kind : Kind) (link : Link) (d : ℕ) (s lent
   pub report-order : numbers-of (writing (report-rules s) (report s) lent .rules) ≡ 9 ∷ 10 ∷ []
   unfolding number
   report-order = refl
+
+  pub write-outline-order :
+      numbers-of (writing (unsound m ∷ []) (outline-text (corner-points m)) lent .rules) ≡ 1 ∷ 10 ∷ []
+  unfolding number
+  write-outline-order = refl
+
+  -- "11, after 9 and before 3 ..; 12, after 3 and before 10"
+  pub read-outline-order :
+      numbers-of (writing (outline-rules s) (coordinates (corners-spelt s)) coordinates-lent .rules)
+      ≡ 9 ∷ 11 ∷ 3 ∷ 12 ∷ 10 ∷ []
+  unfolding number
+  read-outline-order = refl

@@ -20,6 +20,8 @@ number Refusal.BadFile = 7
 number Refusal.BadLine = 8
 number Refusal.LongText = 9
 number Refusal.ShortList = 10
+number Refusal.BadOutline = 11
+number Refusal.NoSurvey = 12
 
 -- a refusal, and the condition under which it applies
 pub record Rule : Type 0 where

@@ -48,6 +48,15 @@ is-number s =
 unfoldable pub number-value : List ℕ → ℤ
 number-value s = cond (has-minus s) (negℤ (pos (magnitude s))) (pos (magnitude s))
 
+-- the digits at the front of a list, as many as there are; the optional minus and the digits there
+unfoldable pub leading-digits : List ℕ → List ℕ
+leading-digits [] = []
+leading-digits (b ∷ s) = cond (is-digit b) (b ∷ leading-digits s) []
+
+unfoldable pub front : List ℕ → List ℕ
+front [] = []
+front (b ∷ s) = cond (eqb b minus) (b ∷ leading-digits s) (leading-digits (b ∷ s))
+
 -- "two numbers with one space between": the point that they name, or number 8
 abbrev pub bytes-call : List ℕ → Call Line
 bytes-call s =

@@ -43,6 +43,8 @@ pub enum Refusal {
     BadLine,
     LongText,
     ShortList,
+    BadOutline,
+    NoSurvey,
 }
 
 // The number of a refusal.
@@ -59,6 +61,8 @@ pub fn refusal_number(r: Refusal) -> usize
         Refusal::BadLine => 8,
         Refusal::LongText => 9,
         Refusal::ShortList => 10,
+        Refusal::BadOutline => 11,
+        Refusal::NoSurvey => 12,
     }
 }
 

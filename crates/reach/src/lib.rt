@@ -3,10 +3,14 @@
 // where the call is served; values are written into lent lists. Each function loads, checks,
 // computes its values, and then writes them where there is room.
 
+use corners::listing::corners_of;
 use corners::query::placed;
+use drawings::text_length;
+use drawings::write_text;
 use engine::files::load;
 use engine::texts::report;
 use layout::saved_length;
+use listings::read_outline;
 use maps::empty_map;
 use maps::traversal::counts_of;
 use maps::traversal::moved;
@@ -15,6 +19,7 @@ use maps::traversal::walk_of;
 use model::Kind;
 use model::Line;
 use model::Link;
+use model::Map;
 use model::Oriented;
 use model::Outcome;
 use model::Point;
@@ -39,14 +44,17 @@ use saved::write_map;
 use survey::lines::read_line;
 ghost use mathlib.Core.Path.{_≡_};
 ghost use mathlib.Core.List.{[], _∷_};
+ghost use lib.ListN.{length};
 ghost use Rattle.model.specs.declared.Link.{Link};
 ghost use Rattle.model.specs.Plane.{at, orientation-call};
 ghost use Rattle.model.specs.Maps.{empty-map};
 ghost use Rattle.model.specs.Outline.{corners};
+ghost use Rattle.model.specs.Sound.{Shaped};
 ghost use Rattle.model.specs.Reading.{unsound};
 ghost use Rattle.model.specs.Saved.{load-call, map-in, saved};
 ghost use Rattle.model.specs.Text.{line-call};
 ghost use Rattle.model.specs.Report.{report, report-rules};
+ghost use Rattle.model.specs.Outlines.{coordinates, corner-points, corners-spelt, outline-rules, outline-text};
 ghost use Rattle.replies.specs.Served.{Served, ServedBoth, number-by, only};
 ghost use Rattle.replies.specs.Opened.{of-file};
 ghost use Rattle.replies.specs.Replies.{Offering, counts-reply, from-file, length-told};
@@ -334,6 +342,62 @@ pub extern "C" fn reach_report(text: &[u8], out: &mut [u8], count: &mut [usize])
         return uncounted(text);
     }
     let written = report(text, out);
+    match written {
+        Written::Refused(refusal) => code(refusal),
+        Written::Length(length) => {
+            count[0] = length;
+            0
+        }
+    }
+}
+
+// The text of a map's outline, and how many bytes it has: numbers 7, 1 and 10.
+#[no_mangle]
+pub extern "C" fn reach_write_outline(map: &[u8], out: &mut [u8], count: &mut [usize]) -> u32
+    ensures { λ r. ⌜ ServedBoth (of-file (now (map .entry)) (λ m. unsound m ∷ []))
+        (outline-text (corner-points (map-in (now (map .entry)))))
+        (length-told (outline-text (corner-points (map-in (now (map .entry))))))
+        (now (out .entry)) (now (out .exit)) (now (count .entry)) (now (count .exit)) r ⌝ }
+{
+    let loaded = load(map);
+    let outcome = loaded.outcome;
+    match outcome {
+        Outcome::Refused(refusal) => code(refusal),
+        Outcome::Served => write_outline_text(loaded.map, out, count),
+    }
+}
+
+// Writes the text of a sound map's outline, and how many bytes it has: number 10.
+fn write_outline_text(map: Map, out: &mut [u8], count: &mut [usize]) -> u32
+    requires { ⌜ Shaped map ⌝ }
+    ensures { λ r. ⌜ ServedBoth [] (outline-text (corner-points map))
+        (length (outline-text (corner-points map)) ∷ [])
+        (now (out .entry)) (now (out .exit)) (now (count .entry)) (now (count .exit)) r ⌝ }
+{
+    let list = corners_of(map);
+    let corners = list.count;
+    let written = text_length(&map.xs, &map.ys, &list.points, corners);
+    if out.len() < written {
+        return SHORT_LIST;
+    }
+    if count.len() < 1 {
+        return SHORT_LIST;
+    }
+    write_text(&map.xs, &map.ys, &list.points, corners, out);
+    count[0] = written;
+    0
+}
+
+// The coordinates of the corners of an outline's text, x and y in turn, and how many numbers they are:
+// numbers 9, 11, 3, 12 and 10.
+#[no_mangle]
+pub extern "C" fn reach_read_outline(text: &[u8], out: &mut [i64], count: &mut [usize]) -> u32
+    ensures { λ r. ⌜ ServedBoth (outline-rules (now (text .entry)))
+        (coordinates (corners-spelt (now (text .entry))))
+        (length-told (coordinates (corners-spelt (now (text .entry)))))
+        (now (out .entry)) (now (out .exit)) (now (count .entry)) (now (count .exit)) r ⌝ }
+{
+    let written = read_outline(text, out, 1 <= count.len());
     match written {
         Written::Refused(refusal) => code(refusal),
         Written::Length(length) => {

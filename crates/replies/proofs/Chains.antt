@@ -46,6 +46,8 @@ number-some Refusal.BadFile e = omega arith
 number-some Refusal.BadLine e = omega arith
 number-some Refusal.LongText e = omega arith
 number-some Refusal.ShortList e = omega arith
+number-some Refusal.BadOutline e = omega arith
+number-some Refusal.NoSurvey e = omega arith
 
 -- rules that come to the number 0: none applies, in the front of the list either
 none-applies : {A : Type 0} (f : Refusal → A) (rules more : List Rule) (x : A) →

@@ -20,12 +20,12 @@ use Rattle.model.specs.Reading.{unsound, dart-rules}
 use Rattle.model.specs.Placing.{place-call}
 use Rattle.model.specs.Saved.{load-call, map-in}
 use Rattle.model.proofs.Sound.{sound-holds}
-use Rattle.model.proofs.Answers.{rule-applies, rule-passes, no-rule, unless-made, served-none}
+use Rattle.model.proofs.Answers.{rule-applies, rule-passes, no-rule, unless-made, served-none, unless-append}
 use Rattle.model.proofs.Answers.{outcome-refuses, outcome-serves}
 use Rattle.finite.specs.Tests.{not-not}
 use Rattle.replies.specs.Served.{Reply, only, Served}
 use Rattle.replies.specs.Opened.{Opened, of-file}
-use Rattle.replies.proofs.Serving.{unless-append, refused-before, served-after, served-as}
+use Rattle.replies.proofs.Serving.{refused-before, served-after, served-as}
 
 -- what loading answers
 pub loads : {s : List ℕ} {l : Loaded} → Answered (load-call s) l → Opened s (load-call s .rules) l

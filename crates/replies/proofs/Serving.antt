@@ -1,8 +1,8 @@
 -- The laws of what the exported functions promise, in the order of this page: rules that stand in
 -- two parts; values without a rule, written or not; rules that are checked before; two lists; equal
 -- arguments, and the point of two coordinates; an answer that is an enum.
-use mathlib.Core.Path.{_≡_, refl, sym, ap, ap₂, subst, _∙_}
-use mathlib.Core.Bool.{Bool, true, false, cond, _||_, or-true}
+use mathlib.Core.Path.{_≡_, sym, ap, ap₂, subst, _∙_}
+use mathlib.Core.Bool.{Bool, true, false, _||_, or-true}
 use mathlib.Core.List.{List, [], _∷_, _++_, append-assoc}
 use Prim.Native.Nat.{ℕ, _≤_, _<_}
 use native.Mathlib.Omega.{arith}
@@ -21,18 +21,11 @@ use Rattle.model.specs.Plane.{at}
 use Rattle.model.specs.Refusals.{number, Rule, _when_, unless}
 use Rattle.model.specs.Answers.{Answer, Call, answer-of, outcome-by}
 use Rattle.model.specs.Lent.{is-short}
-use Rattle.model.proofs.Answers.{outcome-refuses, outcome-serves, unless-made}
+use Rattle.model.proofs.Answers.{outcome-refuses, outcome-serves, unless-made, unless-append}
 use Rattle.replies.specs.Served.{Reply, only, Served, ServedBoth}
 use Rattle.replies.specs.Replies.{meaning-of}
 
 -- ---- rules in two parts
-
-pub unless-append : {A : Type 0} (f : Refusal → A) (rules more : List Rule) (a : A) →
-    unless f (rules ++ more) a ≡ unless f rules (unless f more a)
-unfolding unless
-unless-append f [] more a = refl
-unless-append f (rule ∷ rules) more a =
-    ap (cond (rule .applies) (f (rule .refusal))) (unless-append f rules more a)
 
 -- the first part is checked before, and number 10 comes after both
 module _ {A : Type 0} (f : Refusal → A) (rules more last : List Rule) (a : A) where

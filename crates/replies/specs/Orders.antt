@@ -18,6 +18,7 @@ use Rattle.model.specs.Offers.{offer-call}
 use Rattle.model.specs.Saved.{load-call, saved}
 use Rattle.model.specs.Text.{line-call}
 use Rattle.model.specs.Report.{report-rules}
+use Rattle.model.specs.Outlines.{outline-rules}
 use Rattle.model.specs.Lent.{and-short}
 use Rattle.replies.specs.Served.{Reply, only}
 use Rattle.replies.specs.Opened.{of-file}
@@ -83,3 +84,11 @@ module _ (short : Bool) where
     pub reach-report-order : with-10 (report-rules s) ≡ 9 ∷ 10 ∷ []
     unfolding number
     reach-report-order = refl
+
+    pub reach-write-outline-order : with-10 (of-file s (λ m. unsound m ∷ [])) ≡ 7 ∷ 1 ∷ 10 ∷ []
+    unfolding number
+    reach-write-outline-order = refl
+
+    pub reach-read-outline-order : with-10 (outline-rules s) ≡ 9 ∷ 11 ∷ 3 ∷ 12 ∷ 10 ∷ []
+    unfolding number
+    reach-read-outline-order = refl

@@ -13,6 +13,7 @@ use model::Map;
 use model::Outcome;
 use model::Point;
 use model::Refusal;
+use survey::lines::TEXT_LIMIT;
 use survey::lines::at_end;
 use survey::reader::read_from;
 ghost use mathlib.Core.Path.{_≡_};
@@ -21,9 +22,6 @@ ghost use Rattle.maps.specs.Places.{PlacesFor};
 ghost use Rattle.admission.specs.Hashes.{AllHashed};
 ghost use Rattle.reports.specs.Verdicts.{verdict-by};
 ghost use Rattle.reports.specs.Deciding.{Readable, ReportsSome, StopsAll, Surveys};
-
-// A text above so many bytes is refused.
-pub const TEXT_LIMIT: usize = 65536;
 
 // What becomes of a line: the point that it names and that is accepted, or why it is refused.
 pub enum Verdict {

@@ -4,7 +4,6 @@
 
 pub mod deciding;
 
-use crate::deciding::TEXT_LIMIT;
 use crate::deciding::decide_lines;
 use corners::listing::corners_of;
 use lines::positions::Ends;
@@ -14,9 +13,10 @@ use lines::positions::total_length;
 use maps::traversal::counts_of;
 use model::Counts;
 use model::POINT_LIMIT;
+use survey::lines::TEXT_LIMIT;
+use survey::lines::is_too_long;
 ghost use mathlib.Core.Path.{_≡_};
 ghost use Prim.Native.Nat.{_≤_};
-ghost use lib.Dec.{ltb};
 ghost use lib.ListN.{length};
 ghost use Rattle.finite.specs.Overwriting.{over};
 ghost use Rattle.model.specs.Report.{text-limit};
@@ -30,13 +30,6 @@ pub struct Summary {
     pub corners: [usize; POINT_LIMIT],
     pub listed: usize,
     pub ends: Ends,
-}
-
-// Whether a text is too long to be read: number 9.
-pub fn is_too_long(text: &[u8]) -> bool
-    ensures { λ r. ⌜ r ≡ ltb text-limit (length (now (text .entry))) ⌝ }
-{
-    TEXT_LIMIT < text.len()
 }
 
 // As many answers as a text may have lines, each as one number.

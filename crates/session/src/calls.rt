@@ -1,5 +1,5 @@
-// One function for each entry of the engine that answers: it writes the call, asks the engine, and ends
-// the line with the answer.
+// One function for each entry that answers: it writes the call, asks the engine, and ends the line with
+// the answer.
 
 use crate::telling::say;
 use crate::telling::say_natural;
@@ -8,6 +8,7 @@ use crate::telling::say_point;
 use crate::telling::tell;
 use crate::telling::tell_bytes;
 use crate::telling::tell_darts;
+use crate::telling::tell_numbers;
 use crate::telling::tell_refused;
 use model::Arrival;
 use model::Counted;
@@ -208,6 +209,29 @@ pub(crate) fn report(text: &[u8], lent: &mut [u8]) {
             tell(b"length", &values);
             say(&lent[..length]);
         }
+        Written::Refused(refusal) => tell_refused(refusal),
+    }
+}
+
+pub(crate) fn write_outline(map: Map, lent: &mut [u8]) {
+    say(b"write_outline");
+    let written = office::write_outline(map, lent);
+    match written {
+        Written::Length(length) => {
+            say(b": ");
+            say(&lent[..length]);
+            say(b"\n");
+        }
+        Written::Refused(refusal) => tell_refused(refusal),
+    }
+}
+
+pub(crate) fn read_outline(text: &[u8], lent: &mut [i64]) {
+    say(b"read_outline ");
+    say(text);
+    let written = office::read_outline(text, lent);
+    match written {
+        Written::Length(length) => tell_numbers(&lent[..length]),
         Written::Refused(refusal) => tell_refused(refusal),
     }
 }

@@ -1,5 +1,5 @@
-// The session of document 01 taken through every entry of the engine, for whoever writes the next crate
-// that uses it. Each call prints a line: its name, what it was given (maps and lists are left out), a
+// The session of document 01 taken through every entry of `engine` and of `office`, for whoever writes the next
+// crate that uses them. Each call prints a line: its name, what it was given (maps and lists are left out), a
 // colon, and the answer, by its word and its values. The values stand in the order of the declared types:
 //     offer          left corner, right corner, visible edges
 //     orbit          the darts of the set
@@ -7,6 +7,7 @@
 //     walk           the last dart, the moves made
 //     move_walker    the dart that the walker has reached
 //     place          the corner; the ends of the edge; the visible edges
+//     read_outline   x and y of each corner
 // A refused call prints `refused` and the number of document 01's table; every number that is in use is
 // seen.
 
@@ -31,6 +32,7 @@ fn main() {
     lists(map);
     files();
     texts();
+    outlines(map);
     unsound(map);
     calls::offer(full_map(), at(512, 0));
 }
@@ -149,6 +151,24 @@ fn texts() {
     calls::report(&long_text(), &mut short);
 }
 
+// The outline as text, and what such texts are read as: of the worked survey, of none and of two points; in
+// another spelling, out of range, of corners that no survey lists; into a list that is too short.
+fn outlines(map: Map) {
+    let mut text = [0u8; 35];
+    calls::write_outline(map, &mut text);
+    calls::write_outline(engine::empty_map(), &mut text);
+    let mut short = [0u8; 12];
+    calls::write_outline(engine::empty_map(), &mut short);
+    let mut numbers = [0i64; 8];
+    calls::read_outline(b"POLYGON ((0 0, 4 0, 6 7, 1 3, 0 0))", &mut numbers);
+    calls::read_outline(b"LINESTRING (0 0, 4 0)", &mut numbers);
+    calls::read_outline(b"LINESTRING (0 0,4 0)", &mut numbers);
+    calls::read_outline(b"POINT (0 1000000001)", &mut numbers);
+    calls::read_outline(b"LINESTRING (4 0, 0 0)", &mut numbers);
+    let mut few = [0i64; 1];
+    calls::read_outline(b"POINT (0 0)", &mut few);
+}
+
 // One byte more than a survey text may have.
 fn long_text() -> [u8; 65537]
     ensures { λ r. ⌜ 65537 ≡ length r ⌝ }
@@ -171,6 +191,7 @@ fn unsound(map: Map) {
     calls::list_corners(map, &mut corners);
     let mut file = [0u8; 87];
     calls::save(map, &mut file);
+    calls::write_outline(map, &mut file);
 }
 
 // As many points as a map has, along a parabola.

@@ -45,6 +45,16 @@ pub(crate) fn tell(word: &[u8], values: &[usize]) {
     say(b"\n");
 }
 
+// Ends a line with numbers.
+pub(crate) fn tell_numbers(values: &[i64]) {
+    say(b": numbers");
+    for i in 0..values.len() {
+        say(b" ");
+        say_number(values[i]);
+    }
+    say(b"\n");
+}
+
 // Ends a line with the number of a refusal.
 pub(crate) fn tell_refused(refusal: Refusal) {
     let values = [refusal_number(refusal)];

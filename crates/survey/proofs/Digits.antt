@@ -16,9 +16,9 @@ use lib.Seq.{drop-cons}
 use Rattle.finite.specs.Tests.{and-left, and-right, and-both, decide, is-true, is-false, of-true}
 use Rattle.finite.specs.Lists.{all-in}
 use Rattle.model.specs.Spelling.{digit-zero}
-use Rattle.model.specs.Text.{digit-limit, is-digit, value-after}
+use Rattle.model.specs.Text.{digit-limit, is-digit, leading-digits, value-after}
 use Rattle.survey.specs.declared.numbers.Magnitude.{Magnitude}
-use Rattle.survey.specs.Numbers.{is-magnitude, leading-digits, magnitude-read, no-leading-zero}
+use Rattle.survey.specs.Numbers.{is-magnitude, magnitude-read, no-leading-zero}
 
 pub digit-or-not : (b : ℕ) → (is-digit b ≡ true) ⊎ (is-digit b ≡ false)
 digit-or-not b =

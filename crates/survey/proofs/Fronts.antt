@@ -20,9 +20,9 @@ use Rattle.finite.specs.Lists.{all-in, before, beyond}
 use Rattle.model.specs.declared.Line.{Line}
 use Rattle.model.specs.declared.Refusal.{Refusal}
 use Rattle.model.specs.Spelling.{line-feed, minus, space}
-use Rattle.model.specs.Text.{digits, has-minus, is-digit, is-number, line-read, magnitude, number-value}
+use Rattle.model.specs.Text.{digits, front, has-minus, is-digit, is-number, leading-digits, line-read, magnitude, number-value}
 use Rattle.survey.specs.declared.numbers.Front.{Front}
-use Rattle.survey.specs.Numbers.{front, front-number, is-magnitude, leading-digits, named, Number, value-of, no-number, number-read}
+use Rattle.survey.specs.Numbers.{front-number, is-magnitude, named, Number, value-of, no-number, number-read}
 use Rattle.survey.proofs.Digits.{digit-or-not, digit-small, leading-more, leading-none, magnitude-digits}
 use Rattle.survey.proofs.Signs.{number-is}
 use Rattle.survey.proofs.Separators.{before-found, before-other, before-part, before-ends, beyond-part, line-is}
@@ -49,7 +49,7 @@ module _ (b : ℕ) (s : List ℕ) where
   unfolding front
   front-digit n = rw (ne-eqb b minus n)
 
-front-part : (s : List ℕ) → front s ≡ take (length (front s)) s
+pub front-part : (s : List ℕ) → front s ≡ take (length (front s)) s
 unfolding front
 front-part [] = refl
 front-part (b ∷ s) =
@@ -132,7 +132,7 @@ leading-cut (b ∷ d) t h e =
     rw (is-true (is-digit b) (and-left (is-digit b) (all-in is-digit d) h))
     (ap (λ (l : List ℕ). b ∷ l) (leading-cut d t (and-right (is-digit b) (all-in is-digit d) h) e))
 
-front-cut : (p t : List ℕ) → T (all-in is-digit (digits p)) → front t ≡ [] → leading-digits t ≡ [] →
+pub front-cut : (p t : List ℕ) → T (all-in is-digit (digits p)) → front t ≡ [] → leading-digits t ≡ [] →
     front (p ++ t) ≡ p
 unfolding digits
 front-cut [] t h e f = e
@@ -145,7 +145,7 @@ front-cut (b ∷ p) t h e f =
     rw (front-digit b (p ++ t) n) (leading-cut (b ∷ p) t (rw (ne-eqb b minus n) at h) f))
     (same-or-not b minus)
 
-number-digits : (p : List ℕ) → T (is-number p) → T (all-in is-digit (digits p))
+pub number-digits : (p : List ℕ) → T (is-number p) → T (all-in is-digit (digits p))
 number-digits p t =
     magnitude-digits (digits p)
     (and-left (is-magnitude (digits p)) (not (has-minus p && eqb (magnitude p) 0))

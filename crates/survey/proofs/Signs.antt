@@ -17,10 +17,10 @@ use lib.Seq.{take-all}
 use Rattle.finite.specs.Tests.{decide, is-true, is-false, of-true, and-left, and-right}
 use Rattle.finite.specs.Lists.{all-in}
 use Rattle.model.specs.Spelling.{digit-zero, minus}
-use Rattle.model.specs.Text.{digit-limit, digits, has-minus, is-digit, is-number, magnitude, number-value, value-after}
+use Rattle.model.specs.Text.{digit-limit, digits, front, has-minus, is-digit, is-number, leading-digits, magnitude, number-value, value-after}
 use Rattle.survey.specs.declared.numbers.Front.{Front}
 use Rattle.survey.specs.declared.numbers.Magnitude.{Magnitude}
-use Rattle.survey.specs.Numbers.{front, front-number, is-magnitude, leading-digits, magnitude-read, no-leading-zero}
+use Rattle.survey.specs.Numbers.{front-number, is-magnitude, magnitude-read, no-leading-zero}
 use Rattle.survey.proofs.Digits.{magnitude-digits, digit-small, below-limit, digit-or-not, leading-none, leading-more, magnitude-value, magnitude-none}
 
 -- ---- magnitudes

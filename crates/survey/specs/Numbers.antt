@@ -2,7 +2,7 @@
 -- front of a list; a number that is a whole list; two numbers. Document 01, "The text program": "A
 -- number is an optional minus and 1 to .. digits, no leading zero save 0 itself, no -0."
 use mathlib.Core.Bool.{Bool, not, cond, _&&_, _||_}
-use mathlib.Core.List.{List, [], _∷_}
+use mathlib.Core.List.{List}
 use Prim.Native.Nat.{ℕ}
 use lib.Dec.{leb, eqb}
 use lib.IntN.{ℤ}
@@ -10,8 +10,8 @@ use lib.ListN.{length, getD}
 use Rattle.finite.specs.Lists.{all-in}
 use Rattle.model.specs.declared.Line.{Line}
 use Rattle.model.specs.declared.Refusal.{Refusal}
-use Rattle.model.specs.Spelling.{digit-zero, minus}
-use Rattle.model.specs.Text.{digit-limit, is-digit, value-after, is-number, number-value}
+use Rattle.model.specs.Spelling.{digit-zero}
+use Rattle.model.specs.Text.{digit-limit, is-digit, value-after, is-number, number-value, leading-digits, front}
 use Rattle.survey.specs.declared.numbers.Front.{Front}
 use Rattle.survey.specs.declared.numbers.Magnitude.{Magnitude}
 
@@ -24,23 +24,13 @@ unfoldable pub is-magnitude : List ℕ → Bool
 is-magnitude d =
     leb 1 (length d) && leb (length d) digit-limit && all-in is-digit d && no-leading-zero d
 
--- the digits at the front of a list, as many as there are
-unfoldable pub leading-digits : List ℕ → List ℕ
-leading-digits [] = []
-leading-digits (b ∷ s) = cond (is-digit b) (b ∷ leading-digits s) []
-
--- what they stand for, and how many they are
+-- what the digits at the front of a list stand for, and how many they are
 unfoldable pub magnitude-read : List ℕ → Magnitude
 magnitude-read s =
     let d = leading-digits s in
     cond (is-magnitude d) (Magnitude.Value (value-after 0 d) (length d)) Magnitude.Malformed
 
--- the optional minus and the digits at the front of a list
-unfoldable pub front : List ℕ → List ℕ
-front [] = []
-front (b ∷ s) = cond (eqb b minus) (b ∷ leading-digits s) (leading-digits (b ∷ s))
-
--- the number that they spell, and the place after it
+-- the number at the front of a list, and the place after it
 unfoldable pub front-number : List ℕ → Front
 front-number s =
     let f = front s in cond (is-number f) (Front.Value (number-value f) (length f)) Front.Malformed

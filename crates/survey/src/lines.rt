@@ -9,18 +9,30 @@ use model::Point;
 use model::Refusal;
 ghost use mathlib.Core.Path.{_≡_};
 ghost use Prim.Native.Nat.{_+_};
+ghost use lib.Dec.{ltb};
 ghost use lib.ListN.{drop, getD, length};
 ghost use Rattle.finite.specs.Lists.{before};
 ghost use Rattle.model.specs.declared.Line.{Line};
 ghost use Rattle.model.specs.declared.Refusal.{Refusal};
 ghost use Rattle.model.specs.Text.{line-read, lines, one-line};
+ghost use Rattle.model.specs.Report.{text-limit};
 ghost use Rattle.survey.specs.Numbers.{front-number, named, number-read, value-of};
 ghost use Rattle.survey.specs.Places.{at-end, found-at, line-bytes, read-at};
+
+// A text above so many bytes is refused.
+pub const TEXT_LIMIT: usize = 65536;
 
 // What a line names, and the place at which the next line begins.
 pub struct Read {
     pub line: Line,
     pub next: usize,
+}
+
+// Whether a text is too long to be read: number 9.
+pub fn is_too_long(text: &[u8]) -> bool
+    ensures { λ r. ⌜ r ≡ ltb text-limit (length (now (text .entry))) ⌝ }
+{
+    TEXT_LIMIT < text.len()
 }
 
 // The point that a line names which is lent by itself, with its one line feed or without it.
@@ -114,7 +126,7 @@ fn front_at(text: &[u8], at: usize) -> Front
 }
 
 // What stands at a place of a list, or 0 past its end.
-fn byte_at(list: &[u8], at: usize) -> u8
+pub fn byte_at(list: &[u8], at: usize) -> u8
     ensures { λ r. ⌜ r ≡ getD (now (list .entry)) at 0 ⌝ }
 {
     if at < list.len() { list[at] } else { 0 }

@@ -6,7 +6,7 @@ use crate::points;
 use crate::stack::on_stack;
 use crate::tally::{Difference, Outcome, Tally, hex};
 use reach::raw;
-use reference::{Answer, Arrival, Ending, Kind, Map, Placed, Point, refusal};
+use reference::{Answer, Arrival, Ending, Kind, Map, POINT_LIMIT, Placed, Point, refusal};
 use std::fmt::Debug;
 
 pub struct Comparison {
@@ -14,6 +14,8 @@ pub struct Comparison {
     pub tally: Tally,
     /// Whether every call is made on as little stack as it is said to need.
     pub is_on_small_stacks: bool,
+    /// Whether every call is made with lists of every kind of length.
+    pub is_lent_every_length: bool,
     calls: u64,
 }
 
@@ -105,6 +107,7 @@ impl Comparison {
             draw: Draw::new(seed),
             tally: Tally::default(),
             is_on_small_stacks: false,
+            is_lent_every_length: false,
             calls: 0,
         }
     }
@@ -170,36 +173,60 @@ impl Comparison {
         expected: &Answer<(Vec<T>, Vec<U>)>,
         call: impl Fn(&mut [T], &mut [U]) -> u32 + Sync,
     ) -> Outcome {
-        let (first_needed, second_needed) = match expected {
-            Ok((first, second)) => (first.len(), second.len()),
-            Err(_) => (self.draw.below(20), self.draw.below(5)),
+        // a refused call is lent lists that would do, or drawn ones
+        let needed = match expected {
+            Ok((first, second)) => [first.len(), second.len()],
+            Err(_) if self.is_lent_every_length => [2 * POINT_LIMIT, 1],
+            Err(_) => [self.draw.below(20), self.draw.below(5)],
         };
-        for length in self.lengths(first_needed) {
-            let second_length = match second_needed {
-                0 => 0,
-                _ => self.lengths(second_needed)[0],
-            };
-            let mut first = Lent::new(&mut self.draw, length);
-            let mut second = Lent::new(&mut self.draw, second_length);
-            let (number, first_result, second_result): (u32, &[T], &[U]) = match expected {
-                Err(number) => (*number, &[], &[]),
-                Ok((a, b)) if length < a.len() || second_length < b.len() => {
-                    (refusal::SHORT_LIST, &[], &[])
+        if self.is_lent_every_length {
+            let [near_first, near_second] = needed.map(|n| [n.saturating_sub(1), n, n + 1]);
+            for first in near_first.into_iter().chain([0]) {
+                for second in near_second {
+                    self.lists_of([first, second], entry, input, expected, &call)?;
                 }
-                Ok((a, b)) => (0, a, b),
-            };
-            let got = self.called(entry, || call(first.list(), second.list()));
-            if got != number || !first.holds(first_result) || !second.holds(second_result) {
-                return Err(Difference(format!(
-                    "{entry}\n{}\nexpected {number}\n     got {got}\nfirst list: {}\n\
-                     second list: {}",
-                    input(),
-                    first.describe(first_result),
-                    second.describe(second_result)
-                )));
             }
-            self.tally.add(entry, number);
+            return Ok(());
         }
+        for length in self.lengths(needed[0]) {
+            let second_length = match needed[1] {
+                0 => 0,
+                n => self.lengths(n)[0],
+            };
+            self.lists_of([length, second_length], entry, input, expected, &call)?;
+        }
+        Ok(())
+    }
+
+    /// Compares a call that is lent two lists of these lengths.
+    fn lists_of<T: Element, U: Element>(
+        &mut self,
+        [length, second_length]: [usize; 2],
+        entry: &'static str,
+        input: &dyn Fn() -> String,
+        expected: &Answer<(Vec<T>, Vec<U>)>,
+        call: &(impl Fn(&mut [T], &mut [U]) -> u32 + Sync),
+    ) -> Outcome {
+        let mut first = Lent::new(&mut self.draw, length);
+        let mut second = Lent::new(&mut self.draw, second_length);
+        let (number, first_result, second_result): (u32, &[T], &[U]) = match expected {
+            Err(number) => (*number, &[], &[]),
+            Ok((a, b)) if length < a.len() || second_length < b.len() => {
+                (refusal::SHORT_LIST, &[], &[])
+            }
+            Ok((a, b)) => (0, a, b),
+        };
+        let got = self.called(entry, || call(first.list(), second.list()));
+        if got != number || !first.holds(first_result) || !second.holds(second_result) {
+            return Err(Difference(format!(
+                "{entry}\n{}\nexpected {number}\n     got {got}\nfirst list: {}\n\
+                 second list: {}",
+                input(),
+                first.describe(first_result),
+                second.describe(second_result)
+            )));
+        }
+        self.tally.add(entry, number);
         Ok(())
     }
 
@@ -257,7 +284,10 @@ impl Comparison {
         self.one_list("reach_counts", &input, &counts, |out| raw::counts(file, out))?;
         let corners = refused.map(|m| with_length(m.corners().into_iter().map(word).collect()));
         let call = |out: &mut [u64], length: &mut [u64]| raw::corners(file, out, length);
-        self.two_lists("reach_corners", &input, &corners, call)
+        self.two_lists("reach_corners", &input, &corners, call)?;
+        let outline = refused.map(|m| with_length(m.outline_text().into_bytes()));
+        let call = |out: &mut [u8], length: &mut [u64]| raw::write_outline(file, out, length);
+        self.two_lists("reach_write_outline", &input, &outline, call)
     }
 
     /// A dart of the map, or an absent one.
@@ -318,5 +348,13 @@ impl Comparison {
         let input = || format!("text of {} bytes \"{}\"", text.len(), text.escape_ascii());
         let call = |out: &mut [u8], length: &mut [u64]| raw::report(text, out, length);
         self.two_lists("reach_report", &input, &expected, call)
+    }
+
+    pub fn read_outline(&mut self, text: &[u8]) -> Outcome {
+        let numbers = |corners: Vec<Point>| corners.iter().flat_map(|p| [p.x, p.y]).collect();
+        let expected = reference::read_outline(text).map(numbers).map(with_length);
+        let input = || format!("text of {} bytes \"{}\"", text.len(), text.escape_ascii());
+        let call = |out: &mut [i64], length: &mut [u64]| raw::read_outline(text, out, length);
+        self.two_lists("reach_read_outline", &input, &expected, call)
     }
 }

@@ -27,6 +27,8 @@ impl Comparison {
             ("REACH_BAD_LINE", Refusal::BadLine, refusal::BAD_LINE),
             ("REACH_LONG_TEXT", Refusal::LongText, refusal::LONG_TEXT),
             ("REACH_SHORT_LIST", Refusal::ShortList, refusal::SHORT_LIST),
+            ("REACH_BAD_OUTLINE", Refusal::BadOutline, refusal::BAD_OUTLINE),
+            ("REACH_NO_SURVEY", Refusal::NoSurvey, refusal::NO_SURVEY),
         ]
         .map(|(name, refusal, number)| (name, i64::from(refusal.number()), i64::from(number)));
         let limits = [
@@ -34,13 +36,14 @@ impl Comparison {
             ("REACH_COORDINATE_LIMIT", reach::COORDINATE_LIMIT, reference::LIMIT),
             ("REACH_TEXT_LIMIT", reach::TEXT_LIMIT as i64, reference::TEXT_LIMIT as i64),
         ];
-        let stacks = [
+        let of_the_crate = [
+            ("REACH_OUTLINE_BYTES", "the crate", reach::OUTLINE_BYTES as i64),
             ("REACH_REPORT_STACK", "the crate", reach::REPORT_STACK as i64),
             ("REACH_CALL_STACK", "the crate", reach::CALL_STACK as i64),
         ];
         let shared = refusals.into_iter().chain(limits);
         let both = |(name, a, b)| [(name, "the crate", a), (name, "the reference", b)];
-        for (name, whose, number) in shared.flat_map(both).chain(stacks) {
+        for (name, whose, number) in shared.flat_map(both).chain(of_the_crate) {
             let of_header = constant(name);
             if of_header != Some(number) {
                 let said = format!("{name}\nreach.h {of_header:?}, {whose} {number}");

@@ -3,16 +3,21 @@
 //!
 //!     compare [--seed N] [--seconds S | --texts N --files N --maps N]
 //!             [--program PATH | --without-program]
+//!     compare [--seed N] --outlines N
 //!
-//! A text is reported, and its first line read; a file, damaged or with changed fields, goes
-//! through every function that reads a map; a map is built point after point and then read in every
-//! way, as it is and rearranged. One text in fifty, or in a thousand of a hundred thousand and
-//! more, also goes through the program, in reads of drawn sizes. One call in sixty-one, and each
-//! call on a full map, is made on as little stack as `reach.h` says that it needs.
+//! A text is reported, a line is read, and so is an outline's text; a file, damaged or with changed
+//! fields, goes through every function that reads a map; a map is built point after point and then
+//! read in every way, as it is and rearranged. One text in fifty, or in a thousand of a hundred
+//! thousand and more, also goes through the program, in reads of drawn sizes. One call in
+//! sixty-one, and each call on a full map, is made on as little stack as `reach.h` says that it
+//! needs.
 //!
 //! The seed, the calls of each entry by the number they answer and the number of differences are
 //! printed; the same seed gives the same inputs. The exit status is 1 on a difference, with the
 //! input that shows it, and 2 where the arguments are wrong or the program is not there.
+//!
+//! The second form compares nothing: it prints a line for each of so many surveys, its points and
+//! after a tab the text of their outline, as the archive writes it, for others to read.
 
 mod draw;
 mod entries;
@@ -20,6 +25,7 @@ mod header;
 mod lent;
 mod maps;
 mod null;
+mod outlines;
 mod points;
 mod program;
 mod stack;
@@ -45,6 +51,8 @@ struct Arguments {
     seed: u64,
     extent: Extent,
     program: Option<PathBuf>,
+    /// So many outlines are printed, and nothing is compared.
+    outlines: Option<u64>,
 }
 
 fn arguments() -> Result<Arguments, String> {
@@ -52,6 +60,7 @@ fn arguments() -> Result<Arguments, String> {
     let mut seed = clock % 1_000_000_007;
     let mut seconds = None;
     let mut numbers = [None; 3];
+    let mut outlines = None;
     let built = concat!(env!("CARGO_MANIFEST_DIR"), "/../../target/bin/outline");
     let mut program = Some(PathBuf::from(built));
     let mut words = std::env::args().skip(1);
@@ -67,6 +76,7 @@ fn arguments() -> Result<Arguments, String> {
             "--maps" => numbers[2] = Some(number(value()?)?),
             "--program" => program = Some(value()?.into()),
             "--without-program" => program = None,
+            "--outlines" => outlines = Some(number(value()?)?),
             _ => return Err(format!("{word} is not an argument")),
         }
     }
@@ -81,15 +91,15 @@ fn arguments() -> Result<Arguments, String> {
         (Some(_), _) => return Err("--seconds stands alone".into()),
     };
     match &program {
-        Some(path) if !path.is_file() => {
+        Some(path) if outlines.is_none() && !path.is_file() => {
             Err(format!("there is no {}: build it, or --without-program", path.display()))
         }
-        _ => Ok(Arguments { seed, extent, program }),
+        _ => Ok(Arguments { seed, extent, program, outlines }),
     }
 }
 
 /// What is compared whatever the seed: the header's constants, short lines, the ends of the range as
-/// it is and as it was, rails across it, full maps, long texts.
+/// it is and as it was, rails across it, outlines, full maps, long texts.
 fn fixed(c: &mut Comparison) -> Outcome {
     c.header()?;
     c.null_lists()?;
@@ -123,6 +133,7 @@ fn fixed(c: &mut Comparison) -> Outcome {
         let map = c.survey(&rail)?;
         c.file(&map.save(), 20)?;
     }
+    c.fixed_outlines()?;
     let convex = (0..POINT_LIMIT as i64).map(|i| Point::new(i, i * i));
     // each beyond an end, twice in turn beyond the same
     let rail = (0..POINT_LIMIT as i64).map(|i| Point::new(if i % 4 < 2 { i } else { -i }, 0));
@@ -212,6 +223,11 @@ impl Session {
         }
         let survey = points::survey(&mut c.draw, 3);
         c.orientation([survey[0], survey[1], survey[2]])?;
+        let outline = outlines::text(&mut c.draw, &self.pool);
+        c.read_outline(&outline)?;
+        if c.draw.one_in(50) {
+            c.wrapper_outline(&outline)?;
+        }
         if c.draw.one_in(sample)
             && let Some(program) = &self.program
         {
@@ -277,6 +293,10 @@ fn main() -> ExitCode {
             return ExitCode::from(2);
         }
     };
+    if let Some(number) = arguments.outlines {
+        let printed = outlines::print(arguments.seed, number);
+        return if printed.is_ok() { ExitCode::SUCCESS } else { ExitCode::FAILURE };
+    }
     println!("seed {}", arguments.seed);
     let session = Session::new(&arguments).and_then(|mut session| {
         session.compare(&arguments.extent, start)?;

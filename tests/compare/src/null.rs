@@ -18,12 +18,29 @@ unsafe extern "C" {
         length: *mut u64,
         k: usize,
     ) -> u32;
+    fn reach_write_outline(
+        map: *const u8,
+        n: usize,
+        out: *mut u8,
+        m: usize,
+        length: *mut u64,
+        k: usize,
+    ) -> u32;
+    fn reach_read_outline(
+        text: *const u8,
+        n: usize,
+        out: *mut i64,
+        m: usize,
+        length: *mut u64,
+        k: usize,
+    ) -> u32;
 }
 
 impl Comparison {
     pub fn null_lists(&mut self) -> Outcome {
         let file = reference::Map::empty().save();
         let text = [0; reference::TEXT_LIMIT + 1];
+        let none = b"POLYGON EMPTY";
         let mut printed = [0; 64];
         let mut length = [0];
         // every list has no elements, or is a slice with its own length
@@ -45,6 +62,38 @@ impl Comparison {
                     "reach_report",
                     0,
                     reach_report(null(), 0, printed.as_mut_ptr(), 64, length.as_mut_ptr(), 1),
+                ),
+                (
+                    "reach_write_outline",
+                    7,
+                    reach_write_outline(null(), 0, null_mut(), 0, null_mut(), 0),
+                ),
+                (
+                    "reach_write_outline",
+                    10,
+                    reach_write_outline(file.as_ptr(), file.len(), null_mut(), 0, null_mut(), 0),
+                ),
+                (
+                    "reach_read_outline",
+                    11,
+                    reach_read_outline(null(), 0, null_mut(), 0, null_mut(), 0),
+                ),
+                (
+                    "reach_read_outline",
+                    10,
+                    reach_read_outline(none.as_ptr(), none.len(), null_mut(), 0, null_mut(), 0),
+                ),
+                (
+                    "reach_read_outline",
+                    0,
+                    reach_read_outline(
+                        none.as_ptr(),
+                        none.len(),
+                        null_mut(),
+                        0,
+                        length.as_mut_ptr(),
+                        1,
+                    ),
                 ),
             ]
         };

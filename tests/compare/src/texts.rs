@@ -34,14 +34,16 @@ const NUMBERS: &[&str] = &[
     "9223372036854775808",
 ];
 
-fn damage(draw: &mut Draw, line: &mut Vec<u8>) {
+/// Puts a byte or two of an alphabet into a text, in place of another or between two, or takes some
+/// out.
+pub fn damage(draw: &mut Draw, alphabet: &[u8], text: &mut Vec<u8>) {
     for _ in 0..1 + draw.below(2) {
-        let place = draw.below(line.len() + 1);
+        let place = draw.below(text.len() + 1);
         match draw.below(3) {
-            0 => line.insert(place, draw.pick(ALPHABET)),
-            1 if place < line.len() => line[place] = draw.pick(ALPHABET),
-            _ if place < line.len() => {
-                line.remove(place);
+            0 => text.insert(place, draw.pick(alphabet)),
+            1 if place < text.len() => text[place] = draw.pick(alphabet),
+            _ if place < text.len() => {
+                text.remove(place);
             }
             _ => {}
         }
@@ -66,7 +68,7 @@ pub fn line(draw: &mut Draw) -> Vec<u8> {
         }
         3 => {
             let mut line = format!("{} {}", p.x % FEW_DIGITS, p.y % FEW_DIGITS).into();
-            damage(draw, &mut line);
+            damage(draw, ALPHABET, &mut line);
             line
         }
         _ => format!("{} {}", p.x % FEW_DIGITS, p.y % FEW_DIGITS).into(),
@@ -100,7 +102,7 @@ pub fn text(draw: &mut Draw) -> Vec<u8> {
         text.pop();
     }
     if draw.one_in(8) {
-        damage(draw, &mut text);
+        damage(draw, ALPHABET, &mut text);
     }
     text
 }

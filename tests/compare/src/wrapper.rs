@@ -12,6 +12,10 @@ fn number<T>(answer: Result<T, reach::Refusal>) -> Answer<T> {
     answer.map_err(reach::Refusal::number)
 }
 
+fn point(p: reach::Point) -> Point {
+    Point::new(p.x, p.y)
+}
+
 fn arrival(arrival: reach::Arrival) -> Arrival {
     match arrival {
         reach::Arrival::First => Arrival::First,
@@ -68,9 +72,10 @@ impl Comparison {
         let numbers = [c.darts, c.vertices, c.edges, c.faces, c.parts];
         self.same("Map::counts", &input, Ok(numbers), Ok(counts(&map)))?;
         self.same("Map::corners", &input, Ok(expected.corners()), Ok(map.corners()))?;
-        let points: Vec<_> = (0..map.len()).filter_map(|k| map.point(k)).collect();
-        let points = points.iter().map(|p| Point::new(p.x, p.y)).collect();
+        let points: Vec<_> = (0..map.len()).filter_map(|k| map.point(k)).map(point).collect();
         self.same("Map::point", &input, Ok(expected.points.clone()), Ok(points))?;
+        let outline = on_stack("Map::outline_text", reach::CALL_STACK, || map.outline_text());
+        self.same("Map::outline_text", &input, Ok(expected.outline_text()), Ok(outline))?;
 
         let dart = self.draw.below(2 * map.len() + 2);
         let input = || format!("dart {dart} of map {}", hex(file));
@@ -111,5 +116,13 @@ impl Comparison {
         let input = || format!("text \"{}\"", text.escape_ascii());
         let got = number(on_stack("report", reach::REPORT_STACK, || reach::report(text)));
         self.same("report", &input, reference::report_or_refusal(text), got)
+    }
+
+    /// The crate's function on an outline's text.
+    pub fn wrapper_outline(&mut self, text: &[u8]) -> Outcome {
+        let input = || format!("text \"{}\"", text.escape_ascii());
+        let got = number(on_stack("read_outline", reach::CALL_STACK, || reach::read_outline(text)));
+        let got = got.map(|corners| corners.into_iter().map(point).collect());
+        self.same("read_outline", &input, reference::read_outline(text), got)
     }
 }

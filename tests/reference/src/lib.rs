@@ -4,7 +4,8 @@
 //! orientations are 128-bit, an outline is computed from the coordinates alone (Andrew's monotone
 //! chain) instead of being read from the links, links stand in a hash map, orbits are sets that
 //! grow until they are closed, parts are a union-find, a point in line with two others is between
-//! them by the order of the coordinates, and the farther of two corners by squared distances.
+//! them by the order of the coordinates, the farther of two corners by squared distances, and an
+//! outline's text is split at its separators and held to the text of its points' hull.
 //!
 //! Every function answers its value or the number of its refusal. A [`Map`] that comes out of
 //! [`Map::load`] or was built by [`Map::offer`] from [`Map::empty`] is sound, and the functions
@@ -13,6 +14,7 @@
 pub mod arrival;
 pub mod map;
 pub mod orbits;
+pub mod outline;
 pub mod place;
 pub mod plane;
 pub mod refusal;
@@ -24,6 +26,7 @@ pub mod walk;
 pub use arrival::Arrival;
 pub use map::{DART_LIMIT, Map, NO_DART, POINT_LIMIT};
 pub use orbits::{Counts, Kind, Orbit};
+pub use outline::read_outline;
 pub use place::Placed;
 pub use plane::{LIMIT, Point, orientation};
 pub use text::{DIGIT_LIMIT, TEXT_LIMIT, read_line, report, report_or_refusal};

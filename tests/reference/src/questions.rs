@@ -334,3 +334,200 @@ fn reports() {
     assert_eq!(printed(&[b'\n'; TEXT_LIMIT + 1]), "OUTLINE 1\nrefused 9\n");
     assert_eq!(report_or_refusal(&[b'\n'; TEXT_LIMIT + 1]), Err(9));
 }
+
+/// The four texts of request 101, each with the points of its survey.
+const OUTLINES: [(&str, &[(i64, i64)]); 4] = [
+    ("POLYGON EMPTY", &[]),
+    ("POINT (0 0)", &[(0, 0)]),
+    ("LINESTRING (0 0, 4 0)", &[(0, 0), (4, 0)]),
+    ("POLYGON ((0 0, 4 0, 6 7, 1 3, 0 0))", &SESSION),
+];
+
+fn points(coordinates: &[(i64, i64)]) -> Vec<Point> {
+    coordinates.iter().map(|&(x, y)| Point::new(x, y)).collect()
+}
+
+/// A ring through these positions in turn, the first again at the end.
+fn ring(positions: &[(i64, i64)]) -> String {
+    let closed = positions.iter().chain(positions.first());
+    let spelt: Vec<String> = closed.map(|(x, y)| format!("{x} {y}")).collect();
+    format!("POLYGON (({}))", spelt.join(", "))
+}
+
+/// So many corners of a parabola, listed from the lowest.
+fn parabola(corners: i64) -> Vec<(i64, i64)> {
+    (0..corners).map(|x| (x, x * x)).collect()
+}
+
+#[test]
+fn outlines_written_and_read() {
+    for (text, survey) in OUTLINES {
+        let map = built(survey);
+        assert_eq!(map.outline_text(), text);
+        let corners: Vec<Point> = map.corners().iter().map(|&k| map.points[k]).collect();
+        assert_eq!(read_outline(text.as_bytes()), Ok(corners));
+    }
+    assert_eq!(built(&RAIL).outline_text(), "LINESTRING (0 0, 4 0)");
+    let square = [(-LIMIT, -LIMIT), (LIMIT, -LIMIT), (LIMIT, LIMIT), (-LIMIT, LIMIT)];
+    let text = "POLYGON ((-1000000000 -1000000000, 1000000000 -1000000000, 1000000000 1000000000, \
+                -1000000000 1000000000, -1000000000 -1000000000))";
+    assert_eq!(built(&square).outline_text(), text);
+    assert_eq!(read_outline(text.as_bytes()), Ok(points(&square)));
+}
+
+/// Every number that refuses a text, in the order in which they are looked at.
+#[test]
+fn outlines_refused() {
+    let misspelt = [
+        "",
+        "POLYGON",
+        "POLYGON EMPTY ",
+        "POLYGON EMPTY\n",
+        "POLYGON ()",
+        "POLYGON (())",
+        "POINT EMPTY",
+        "POINT ()",
+        "POINT (0)",
+        "POINT (0 0",
+        "POINT (0 0))",
+        "POINT (0 0) ",
+        "POINT (0 0)\n",
+        "POINT(0 0)",
+        "POINT  (0 0)",
+        "POINT ( 0 0)",
+        "POINT (0  0)",
+        "POINT (0 0, 1 1)",
+        "POINT (0 0 0)",
+        "POINT (00 0)",
+        "POINT (-0 0)",
+        "POINT (+1 0)",
+        "POINT (0.0 0)",
+        "POINT (10000000000 0)",
+        "POINT (0 -10000000000)",
+        "point (0 0)",
+        "LINESTRING (0 0)",
+        "LINESTRING (0 0, 4 0, 6 7)",
+        "LINESTRING (0 0,4 0)",
+        "LINESTRING (0 0,  4 0)",
+        "LINESTRING (0 0, 4 0, )",
+        "LINESTRING EMPTY",
+        "POLYGON ((0 0))",
+        "POLYGON ((0 0, 0 0))",
+        "POLYGON ((0 0, 4 0, 0 0))",
+        "POLYGON ((0 0, 4 0, 6 7, 1 3))",
+        "POLYGON ((0 0, 4 0, 6 7, 1 3, 0 1))",
+        "POLYGON ((0 0, 4 0, 6 7, 1 3, 1 0))",
+        "POLYGON ((0 0, 4 0, 6 7, 1 3, 0 0)",
+        "POLYGON ((0 0, 4 0, 6 7, 1 3, 0 0)))",
+        "POLYGON ((0 0, 4 0, 6 7, 1 3, 0 0))\n",
+        "POLYGON (0 0, 4 0, 6 7, 1 3, 0 0)",
+        "POLYGON ((0 0, 4 0, 6 7, 1 3, 0 0), (1 1, 2 1, 2 2, 1 1))",
+        "MULTIPOINT (0 0, 4 0)",
+        // 11 comes before 3
+        "POINT (1000000001 00)",
+        "POLYGON ((0 0, 1000000001 0, 6 7, 1 3))",
+    ];
+    for text in misspelt {
+        assert_eq!(read_outline(text.as_bytes()), Err(11), "{text:?}");
+    }
+    assert_eq!(read_outline(b"POINT (0 \xff)"), Err(11));
+    let far = [
+        "POINT (1000000001 0)",
+        "POINT (0 -1000000001)",
+        "POINT (9999999999 -9999999999)",
+        // 3 comes before 12
+        "LINESTRING (4 0, 0 -1000000001)",
+        "POLYGON ((0 0, 0 0, 1000000001 0, 0 0))",
+    ];
+    for text in far {
+        assert_eq!(read_outline(text.as_bytes()), Err(3), "{text:?}");
+    }
+    let unlisted = [
+        "LINESTRING (4 0, 0 0)",
+        "LINESTRING (0 4, 0 0)",
+        "LINESTRING (0 0, 0 0)",
+        "POLYGON ((0 0, 0 0, 0 0, 0 0))",
+        // begun at another corner, clockwise, in line, a corner twice, all corners twice
+        "POLYGON ((4 0, 6 7, 1 3, 0 0, 4 0))",
+        "POLYGON ((0 0, 1 3, 6 7, 4 0, 0 0))",
+        "POLYGON ((0 0, 2 0, 4 0, 0 0))",
+        "POLYGON ((0 0, 2 0, 4 0, 1 3, 0 0))",
+        "POLYGON ((0 0, 4 0, 4 0, 1 3, 0 0))",
+        "POLYGON ((0 0, 4 0, 1 3, 0 0, 4 0, 1 3, 0 0))",
+        // from the smallest y, and of these from the smallest x
+        "POLYGON ((4 0, 4 4, 0 4, 0 0, 4 0))",
+        "POLYGON ((-1 1, 0 0, 4 0, -1 1))",
+        // each turn is left, but they go round twice
+        "POLYGON ((0 0, 2 5, -3 2, 3 2, -2 5, 0 0))",
+        // a turn to the right
+        "POLYGON ((0 0, 4 0, 2 1, 1 3, 0 0))",
+    ];
+    for text in unlisted {
+        assert_eq!(read_outline(text.as_bytes()), Err(12), "{text:?}");
+    }
+}
+
+#[test]
+fn long_outlines() {
+    for corners in [511, 512] {
+        let listed = parabola(corners);
+        assert_eq!(built(&listed).outline_text(), ring(&listed));
+        assert_eq!(read_outline(ring(&listed).as_bytes()), Ok(points(&listed)));
+    }
+    let many = ring(&parabola(600));
+    assert_eq!(read_outline(ring(&parabola(513)).as_bytes()), Err(12));
+    assert_eq!(read_outline(many.as_bytes()), Err(12));
+    // the last corner misspelt, or out of range
+    let with_last = |corner: &str| read_outline(many.replace("599 358801", corner).as_bytes());
+    assert_eq!(with_last("599 358801"), Err(12));
+    assert_eq!(with_last("599 0358801"), Err(11));
+    assert_eq!(with_last("599 10000000000"), Err(11));
+    assert_eq!(with_last("599 1000000001"), Err(3));
+    // 9 comes before all others
+    let padded = |bytes: usize| ring(&[(0, 0); 13_104]).replacen("0 0", &"0".repeat(bytes), 1);
+    assert_eq!(padded(4).len(), TEXT_LIMIT);
+    assert_eq!(read_outline(padded(4).as_bytes()), Err(11));
+    assert_eq!(read_outline(padded(5).as_bytes()), Err(9));
+    for byte in [b'0', b'\n', 0xff] {
+        assert_eq!(read_outline(&[byte; TEXT_LIMIT]), Err(11));
+        assert_eq!(read_outline(&[byte; TEXT_LIMIT + 1]), Err(9));
+    }
+}
+
+/// Numbers of 11 bytes are -1000000000 alone: of the corners two have it as x and two as y, and the
+/// first, which is written twice, as both. All others have 10.
+#[test]
+fn the_longest_outline() {
+    let arc = (0..511).map(|i: i64| (1000 * (510 * 510 - i * i) - LIMIT, 1000 * i - LIMIT));
+    let corners: Vec<(i64, i64)> = [(-LIMIT, -LIMIT)].into_iter().chain(arc).collect();
+    let text = built(&corners).outline_text();
+    assert_eq!(text, ring(&corners));
+    assert_eq!(text.len(), 12 + 2 * 512 + 21 * 513 + 6);
+    assert_eq!(text.len(), 11_815);
+    assert_eq!(read_outline(text.as_bytes()), Ok(points(&corners)));
+}
+
+/// A text is accepted if and only if the survey of its points writes it: every ring of up to four
+/// corners of a grid, by the map that offers build.
+#[test]
+fn every_short_ring_of_a_small_grid() {
+    let grid: Vec<(i64, i64)> = (0..9).map(|i| (i % 3, i / 3)).collect();
+    let mut rings: Vec<Vec<(i64, i64)>> = vec![Vec::new()];
+    for corners in 1..=4 {
+        let longer = |ring: &Vec<(i64, i64)>| {
+            let ring = ring.clone();
+            grid.iter().map(move |&p| [&ring[..], &[p]].concat()).collect::<Vec<_>>()
+        };
+        rings = rings.iter().flat_map(longer).collect();
+        for positions in rings.iter().filter(|_| corners > 2) {
+            let mut map = Map::empty();
+            for p in points(positions) {
+                let _ = map.offer(p);
+            }
+            let text = ring(positions);
+            let is_written = map.outline_text() == text;
+            let expected = if is_written { Ok(points(positions)) } else { Err(12) };
+            assert_eq!(read_outline(text.as_bytes()), expected, "{text}");
+        }
+    }
+}

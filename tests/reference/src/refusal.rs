@@ -9,3 +9,5 @@ pub const BAD_FILE: u32 = 7;
 pub const BAD_LINE: u32 = 8;
 pub const LONG_TEXT: u32 = 9;
 pub const SHORT_LIST: u32 = 10;
+pub const BAD_OUTLINE: u32 = 11;
+pub const NO_SURVEY: u32 = 12;

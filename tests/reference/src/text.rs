@@ -19,7 +19,7 @@ fn read_number(bytes: &[u8]) -> Option<i64> {
 }
 
 /// The point that the bytes of a line name, its line feed left out, or number 8.
-fn read_bytes(line: &[u8]) -> Answer<Point> {
+pub(crate) fn read_bytes(line: &[u8]) -> Answer<Point> {
     let mut parts = line.split(|&b| b == b' ');
     let numbers = [parts.next(), parts.next()].map(|part| part.and_then(read_number));
     match (numbers, parts.next()) {

@@ -41,10 +41,20 @@ returns-9 : tie.Need-returns-9
 unfolding number
 returns-9 c = sym (ap number (c .enum-told9 .given .1))
 
+returns-10 : tie.Need-returns-10
+unfolding number
+returns-10 c = sym (ap number (c .enum-told10 .given .1))
+
+returns-11 : tie.Need-returns-11
+unfolding number
+returns-11 c = sym (ap number (c .enum-told11 .given .1))
+
 pub refusal-number-spec : {M : Type 1} → statement M
 refusal-number-spec =
     tie.close
     (tie.spec
+    (λ c. search needs)
+    (λ c. search needs)
     (λ c. search needs)
     (λ c. search needs)
     (λ c. search needs)
@@ -62,4 +72,6 @@ refusal-number-spec =
     returns-6
     returns-7
     returns-8
-    returns-9)
+    returns-9
+    returns-10
+    returns-11)

@@ -10,8 +10,7 @@ use native.Mathlib.Omega.{arith}
 use borrow.Author.Tests.{not-true, not-false}
 use Rattle.finite.specs.Tests.{of-true}
 use Rattle.model.specs.Spelling.{digit-zero}
-use Rattle.model.specs.Text.{digit-limit, is-digit}
-use Rattle.survey.specs.Numbers.{leading-digits}
+use Rattle.model.specs.Text.{digit-limit, is-digit, leading-digits}
 use Rattle.survey.proofs.Digits.{Valued, valued-none, valued-more, valued-end, valued-stop, below-limit, magnitude-digits, magnitude-none, read-empty, read-value, read-zero}
 use borrow.Author.Needs.{needs}
 use Rattle.survey.proofs.numbers.front_digits.Statement.{statement}

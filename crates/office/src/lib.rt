@@ -1,0 +1,43 @@
+// What the drawing office asks for: the outline of a map as text, for its viewer, and the corners of such a
+// text. These are entry points, as those of `engine` are: each checks for itself, asks nothing of its caller, and
+// promises its answer and what the lent list holds, for every argument.
+
+use corners::listing::corners_of;
+use drawings::text_length;
+use drawings::write_text;
+use model::Map;
+use model::Refusal;
+use model::Written;
+use soundness::is_sound;
+ghost use mathlib.Core.List.{[], _∷_};
+ghost use Rattle.model.specs.Reading.{unsound};
+ghost use Rattle.model.specs.Lent.{Wrote};
+ghost use Rattle.model.specs.Outlines.{coordinates, corner-points, corners-spelt, outline-rules, outline-text};
+
+// The text of a map's outline, written into a lent list: numbers 1 and 10. A longer list keeps its tail,
+// and a refused call writes nothing.
+pub fn write_outline(map: Map, lent: &mut [u8]) -> Written
+    ensures { λ r. ⌜ Wrote (unsound map ∷ []) (outline-text (corner-points map))
+        (now (lent .entry)) (now (lent .exit)) r ⌝ }
+{
+    if !is_sound(map) {
+        return Written::Refused(Refusal::NotSound);
+    }
+    let list = corners_of(map);
+    let count = list.count;
+    let length = text_length(&map.xs, &map.ys, &list.points, count);
+    if lent.len() < length {
+        return Written::Refused(Refusal::ShortList);
+    }
+    write_text(&map.xs, &map.ys, &list.points, count, lent);
+    Written::Length(length)
+}
+
+// The corners of an outline's text, their coordinates x and y in turn written into a lent list: numbers 9,
+// 11, 3, 12 and 10. A longer list keeps its tail, and a refused call writes nothing.
+pub fn read_outline(text: &[u8], lent: &mut [i64]) -> Written
+    ensures { λ r. ⌜ Wrote (outline-rules (now (text .entry)))
+        (coordinates (corners-spelt (now (text .entry)))) (now (lent .entry)) (now (lent .exit)) r ⌝ }
+{
+    listings::read_outline(text, lent, true)
+}

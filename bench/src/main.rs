@@ -121,6 +121,12 @@ impl Table {
             |(out, length)| plain::write_outline(file, out, length),
         );
         self.line(
+            &named("area,"),
+            [0],
+            |out| raw::area(file, 0, out),
+            |out| plain::area(file, 0, out),
+        );
+        self.line(
             &named("offer and save the last of"),
             (vec![0; file.len()], [0; 4]),
             |(out, arrival)| raw::offer(smaller, x, y, out, arrival),

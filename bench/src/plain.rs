@@ -7,7 +7,7 @@
 //! a later arrival looks at every outline edge once, going from own dart to own dart. A map grows in
 //! place. Other than in the engine, a new point is compared with all points, four at a time. The
 //! positions of an outline's text are read from its front on, and its corners are tested by their
-//! turns, as in the engine.
+//! turns, as in the engine. An area is the sum over a fan of triangles, as it is there.
 
 const POINT_LIMIT: usize = 512;
 const DART_LIMIT: usize = 2 * POINT_LIMIT;
@@ -493,6 +493,28 @@ impl Map {
         (outline, lowest)
     }
 
+    /// Twice the outline's area, by the triangles from the corner at a place of the listing to each
+    /// edge.
+    fn area(&self, place: u64) -> Result<i64, u32> {
+        if self.count < 3 {
+            return Ok(0);
+        }
+        let (outline, lowest) = self.corners();
+        let corners = outline.list();
+        if place >= corners.len() as u64 {
+            return Err(NO_SUCH_DART);
+        }
+        let at = |i: usize| self.point(usize::from(corners[i]));
+        let start = at((lowest + place as usize) % corners.len());
+        let (mut from, mut sum) = (at(corners.len() - 1), 0);
+        for i in 0..corners.len() {
+            let to = at(i);
+            sum += determinant(start, from, to);
+            from = to;
+        }
+        Ok(sum)
+    }
+
     /// Where it lies, and two values.
     fn place(&self, x: i64, y: i64) -> Result<[u64; 3], u32> {
         if !in_range(x) || !in_range(y) {
@@ -895,4 +917,9 @@ pub fn read_outline(text: &[u8], out: &mut [i64], length: &mut [u64]) -> u32 {
         *pair = [i64::from(x), i64::from(y)];
     }
     0
+}
+
+#[inline(never)]
+pub fn area(file: &[u8], place: u64, out: &mut [i64]) -> u32 {
+    answer(Map::load(file).and_then(|map| Ok(write(&[map.area(place)?], out))))
 }

@@ -12,7 +12,7 @@ const PAGE: usize = 4096;
 const LEAST_PAGES: usize = 4;
 const MOST_PAGES: usize = 1024;
 
-const CALLS: [&str; 12] = [
+const CALLS: [&str; 13] = [
     "report, 65,536 bytes",
     "report, 65,537 bytes (number 9)",
     "check, 512 points",
@@ -24,6 +24,7 @@ const CALLS: [&str; 12] = [
     "corners, 512 points",
     "write the outline, 512 corners",
     "read the outline, 512 corners",
+    "area, 512 points",
     "line",
 ];
 
@@ -62,6 +63,7 @@ fn call(name: &str) -> Option<Box<dyn FnOnce() -> u32 + Send>> {
             let (text, mut out, mut length) = (inputs::outline(&points), vec![0; 1024], [0]);
             Box::new(move || raw::read_outline(&text, &mut out, &mut length))
         }
+        "area, 512 points" => Box::new(move || raw::area(&file, 0, &mut [0])),
         "line" => Box::new(|| raw::line(LINE, &mut [0; 2])),
         _ => return None,
     })

@@ -40,6 +40,13 @@ fn compare(file: &[u8], p: Point, dart: u64) {
     let right = |outline: String| assert_eq!(outline.as_bytes(), written);
     number(map.as_ref().map(|m| m.outline_text()).map_err(|e| *e), right, got);
 
+    for place in [0, 1, 2, dart, u64::MAX] {
+        let mut area = [-1];
+        let got = plain::area(file, place, &mut area);
+        let expected = map.as_ref().map_err(|e| *e).and_then(|m| m.doubled_area(place));
+        number(expected, |doubled| assert_eq!(area, [doubled], "{place} {file:?}"), got);
+    }
+
     let mut walk = [0; 3];
     let got = plain::walk(file, dart, &mut walk);
     let expected = map.as_ref().map_err(|e| *e).and_then(|m| m.walk(dart));

@@ -12,8 +12,8 @@
 #include <stdio.h>
 #include <string.h>
 
-#if REACH_HEADER_VERSION != 4
-#error "this program is for version 4 of reach.h"
+#if REACH_HEADER_VERSION != 5
+#error "this program is for version 5 of reach.h"
 #endif
 
 static int values, differences;
@@ -73,6 +73,31 @@ static void writes(const char *expected) {
     IS(reach_write_outline(map, bytes, outline, sizeof outline, NULL, 0), REACH_SHORT_LIST);
 }
 
+/* Twice the outline's area from a place: it is this, and the tail of the list stays. */
+static void measures(uint64_t place, int64_t expected) {
+    number[0] = number[1] = -1;
+    IS(reach_area(map, bytes, place, number, 1), 0);
+    IS(number[0], expected);
+    number[0] = -1;
+    IS(reach_area(map, bytes, place, number, 2), 0);
+    IS(number[0], expected);
+    IS(number[1], -1);
+    number[0] = -1;
+    IS(reach_area(map, bytes, place, number, 0), REACH_SHORT_LIST);
+    IS(reach_area(map, bytes, place, NULL, 0), REACH_SHORT_LIST);
+    IS(number[0], -1);
+}
+
+/* A place from which no area is given, of the map in so many bytes: the list stays. */
+static void measures_not(size_t n, uint64_t place, uint32_t refusal) {
+    number[0] = number[1] = -1;
+    for (size_t m = 0; m <= 2; m++) {
+        IS(reach_area(map, n, place, number, m), refusal);
+    }
+    IS(number[0], -1);
+    IS(number[1], -1);
+}
+
 static void without_points(void) {
     bytes = REACH_EMPTY_BYTES;
     IS(reach_empty(map, bytes - 1), REACH_SHORT_LIST);
@@ -84,21 +109,30 @@ static void without_points(void) {
     IS(reach_corners(map, bytes, NULL, 0, length, 1), 0);
     IS(length[0], 0);
     writes("POLYGON EMPTY");
+    measures(0, 0);
+    measures(UINT64_MAX, 0);
 }
 
 static void arrivals(void) {
     IS(offer(0, 0), 0);
     IS(out[0], REACH_FIRST);
     writes("POINT (0 0)");
+    measures(1, 0);
     IS(offer(4, 0), 0);
     IS(out[0], REACH_SECOND);
     writes("LINESTRING (0 0, 4 0)");
+    measures(1, 0);
+    measures(2, 0);
     IS(offer(1, 3), 0);
+    measures(2, 12);
+    measures_not(bytes, 3, REACH_NO_DART);
     IS(offer(5, 4), 0);
+    measures(3, 27);
     IS(offer(4, 0), REACH_REPEATED);
     IS(offer(REACH_COORDINATE_LIMIT + 1, 0), REACH_OUT_OF_RANGE);
     IS(offer(2, 1), 0);
     IS(out[0], REACH_INSIDE);
+    measures(0, 27);
     IS(offer(6, 7), 0);
     IS(out[0], REACH_OUTSIDE);
     IS(out[1], 1);
@@ -259,6 +293,33 @@ static void outlines(void) {
     IS(reach_read_outline(text, sizeof text, number, 0, length, 1), REACH_LONG_TEXT);
 }
 
+/* The session's area, from each corner; then that of the whole range. */
+static void areas(void) {
+    const int64_t most = REACH_COORDINATE_LIMIT;
+    for (uint64_t place = 0; place < 4; place++) {
+        measures(place, 39);
+    }
+    measures_not(bytes, 4, REACH_NO_DART);
+    measures_not(bytes, REACH_POINTS, REACH_NO_DART);
+    measures_not(bytes, UINT64_C(1) << 32, REACH_NO_DART);
+    measures_not(bytes, UINT64_MAX, REACH_NO_DART);
+    measures_not(bytes - 1, 0, REACH_BAD_FILE);
+    measures_not(bytes - 1, 4, REACH_BAD_FILE);
+    map[REACH_REFERENCE_PLACE + 1] = 6;
+    measures_not(bytes, 0, REACH_NOT_SOUND);
+    measures_not(bytes, 4, REACH_NOT_SOUND);
+    bytes = REACH_EMPTY_BYTES;
+    IS(reach_empty(map, sizeof map), 0);
+    IS(offer(-most, -most), 0);
+    IS(offer(most, most), 0);
+    IS(offer(-most, most), 0);
+    IS(offer(most, -most), 0);
+    for (uint64_t place = 0; place < 4; place++) {
+        measures(place, 8 * most * most);
+    }
+    measures_not(bytes, 4, REACH_NO_DART);
+}
+
 /* Marks along a rail: beyond an end, beyond the other, between them, beside the rail. */
 static void rail(void) {
     bytes = REACH_EMPTY_BYTES;
@@ -270,6 +331,9 @@ static void rail(void) {
     IS(out[1], 0);
     IS(out[2], 0);
     IS(out[3], 2);
+    measures(0, 0);
+    measures(1, 0);
+    measures_not(bytes, 2, REACH_NO_DART);
     IS(offer(-2, 0), 0);
     IS(out[0], REACH_OUTSIDE);
     IS(out[1], 2);
@@ -294,6 +358,8 @@ static void rail(void) {
     IS(out[1], 2);
     IS(out[2], 3);
     IS(out[3], 1);
+    measures(2, 6);
+    measures_not(bytes, 3, REACH_NO_DART);
 }
 
 /* A map of so many points as there may be, each a corner. */
@@ -314,6 +380,8 @@ static void full(void) {
         IS(number[2 * k], k);
         IS(number[2 * k + 1], k * k);
     }
+    measures(REACH_POINTS - 1, 510 * 511 * 512 / 3);
+    measures_not(bytes, REACH_POINTS, REACH_NO_DART);
     IS(reach_walker(map, bytes, REACH_DARTS - 1, out, 1), 0);
     IS(reach_walker(map, bytes, REACH_DARTS, out, 1), REACH_NO_DART);
 }
@@ -335,8 +403,8 @@ int main(void) {
         {REACH_CALL_STACK, saved_form},     {REACH_CALL_STACK, orbits},
         {REACH_CALL_STACK, walks},          {REACH_CALL_STACK, places},
         {REACH_CALL_STACK, numbers},        {REACH_REPORT_STACK, reports},
-        {REACH_CALL_STACK, outlines},       {REACH_CALL_STACK, rail},
-        {REACH_CALL_STACK, full},
+        {REACH_CALL_STACK, outlines},       {REACH_CALL_STACK, areas},
+        {REACH_CALL_STACK, rail},           {REACH_CALL_STACK, full},
     };
     for (size_t i = 0; i < sizeof parts / sizeof parts[0]; i++) {
         pthread_attr_t attributes;

@@ -33,7 +33,7 @@
 
 /* The version of this header: it grows with each change of a function, a number, a limit or the
    saved form. */
-#define REACH_HEADER_VERSION 4
+#define REACH_HEADER_VERSION 5
 
 #ifdef __cplusplus
 extern "C" {
@@ -46,7 +46,7 @@ enum {
     REACH_OUT_OF_RANGE = 3, /* offered or query point, or point of an orientation or of an
                                outline's text: coordinate out of range */
     REACH_REPEATED = 4,     /* offered point: equal to an accepted point */
-    REACH_NO_DART = 6,      /* dart absent or above 1,023 */
+    REACH_NO_DART = 6,      /* dart absent or above 1,023; area: no place of the listing */
     REACH_BAD_FILE = 7,     /* file under 9 bytes, length not matching n and the bytes lent, n above
                                512, version not 1, or helper byte above 1 */
     REACH_BAD_LINE = 8,     /* text line not in form */
@@ -222,6 +222,13 @@ uint32_t reach_write_outline(const uint8_t *map, size_t n, uint8_t *out, size_t 
    survey writes it. Refusals: 9, 11, 3, 12, 10. */
 uint32_t reach_read_outline(const uint8_t *text, size_t n, int64_t *out, size_t m, uint64_t *length,
                             size_t k);
+
+/* Writes twice the area of the outline to out[0]: the sum of orientations over a fan of triangles
+   from the corner at a place of the listing, 0 for the first that reach_corners lists. It is the
+   same from each corner, and from 0 to 8 * 10^18. Fewer than three points give 0 for any place;
+   else a place that is not below the number of corners is refused as REACH_NO_DART. Refusals: 7, 1,
+   6, 10. */
+uint32_t reach_area(const uint8_t *map, size_t n, uint64_t place, int64_t *out, size_t m);
 
 #ifdef __cplusplus
 }

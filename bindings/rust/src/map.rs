@@ -463,6 +463,34 @@ impl Map {
         text.truncate(usize::try_from(length[0]).expect("the length of a list"));
         String::from_utf8(text).expect("a text of ASCII")
     }
+
+    /// Twice the area of the outline: the sum of orientations over a fan of triangles from the
+    /// corner at a place of [`Map::corners`]. It is the same from each corner, and from 0 to
+    /// 8 × 10^18. Fewer than three points give 0 for any place.
+    ///
+    /// # Errors
+    ///
+    /// [`Refusal::NoDart`] where there are three points or more, and the place is not below the
+    /// number of corners.
+    ///
+    /// ```
+    /// use reach::{Map, Point, Refusal};
+    ///
+    /// let mut map = Map::new();
+    /// assert_eq!(map.doubled_area(4), Ok(0));
+    /// for (x, y) in [(0, 0), (4, 0), (1, 3), (5, 4), (2, 1), (6, 7)] {
+    ///     map.offer(Point { x, y })?;
+    /// }
+    /// assert_eq!(map.corners().len(), 4);
+    /// assert_eq!([0, 1, 2, 3].map(|place| map.doubled_area(place)), [Ok(39); 4]);
+    /// assert_eq!(map.doubled_area(4), Err(Refusal::NoDart));
+    /// # Ok::<(), reach::Refusal>(())
+    /// ```
+    pub fn doubled_area(&self, place: usize) -> Result<i64, Refusal> {
+        let mut out = [0];
+        Refusal::of(raw::area(&self.bytes, place as u64, &mut out))?;
+        Ok(out[0])
+    }
 }
 
 impl Default for Map {

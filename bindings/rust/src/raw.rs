@@ -117,6 +117,7 @@ mod engine {
             length: *mut u64,
             k: usize,
         ) -> u32;
+        pub fn reach_area(map: *const u8, n: usize, place: u64, out: *mut i64, m: usize) -> u32;
     }
 }
 
@@ -215,4 +216,9 @@ pub fn read_outline(text: &[u8], out: &mut [i64], length: &mut [u64]) -> u32 {
     let (list, m) = (out.as_mut_ptr(), out.len());
     let (values, k) = (length.as_mut_ptr(), length.len());
     unsafe { engine::reach_read_outline(text.as_ptr(), text.len(), list, m, values, k) }
+}
+
+/// 7, 1, 6, 10: twice the outline's area.
+pub fn area(map: &[u8], place: u64, out: &mut [i64]) -> u32 {
+    unsafe { engine::reach_area(map.as_ptr(), map.len(), place, out.as_mut_ptr(), out.len()) }
 }

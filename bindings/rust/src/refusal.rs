@@ -14,7 +14,7 @@ pub enum Refusal {
     OutOfRange,
     /// The offered point equals an accepted point.
     Repeated,
-    /// The dart is absent or above 1,023.
+    /// The dart is absent or above 1,023, or an area is asked for from no place of the listing.
     NoDart,
     /// The bytes are not in the saved form.
     BadFile,
@@ -94,7 +94,7 @@ impl fmt::Display for Refusal {
                  coordinate out of range"
             }
             Refusal::Repeated => "offered point: equal to an accepted point",
-            Refusal::NoDart => "dart absent or above 1,023",
+            Refusal::NoDart => "dart absent or above 1,023; area: no place of the listing",
             Refusal::BadFile => {
                 "file under 9 bytes, length not matching n and the bytes lent, n above 512, \
                  version not 1, or helper byte above 1"

@@ -41,7 +41,7 @@ use Rattle.corners.proofs.Corners.{lowest-below, lowest-only, corners-l
 -- ---- the places of a list
 
 -- what stands at a place is a member ..
-elem-at : (s : List ℕ) (i d : ℕ) → i < length s → T (elem (getD s i d) s)
+pub elem-at : (s : List ℕ) (i d : ℕ) → i < length s → T (elem (getD s i d) s)
 elem-at [] i d h = absurd (not-suc-le-zero h)
 elem-at (x ∷ s) zero d h = elem-head x s
 elem-at (x ∷ s) (suc i) d h = elem-tail (getD s i d) x s (elem-at s i d (le-of-suc-le-suc h))

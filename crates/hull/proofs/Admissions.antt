@@ -60,7 +60,7 @@ module _ {m : Map} (s : Shaped m) (p : Point) where
 
 -- ---- how large the numbers are that an arrival reports
 
-outline-most : (m : Map) → length (outline m) ≤ m .count
+pub outline-most : (m : Map) → length (outline m) ≤ m .count
 unfolding outline corners-from
 outline-most m =
     go (ltb (m .count) 2)

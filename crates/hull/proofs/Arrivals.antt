@@ -60,7 +60,7 @@ module _ {m : Map} {p : Point} (a : Accepted m p) (two : 2 ≤ m .count) where
     farther-kept =
         spliced-single (a .is-sound) (a .room) p far (outline m) (outline-circuit (a .is-sound) two) (farther-on a two beyond)
 
-    beyond-outline : outline (spliced m p far far) ≡ m .count ∷ far ∷ []
+    pub beyond-outline : outline (spliced m p far far) ≡ m .count ∷ far ∷ []
     beyond-outline = spliced-outline (a .is-sound) two (a .room) p far far (far ∷ []) farther-kept
 
     -- all other points lie between it and p
@@ -99,7 +99,7 @@ module _ {m : Map} {p : Point} (a : Accepted m p) (two : 2 ≤ m .count) where
     arc-kept : Kept m (spliced m p l r) l r (remaining split-is)
     arc-kept = spliced-arc (a .is-sound) (a .room) p l r (split-is .middle) (split-is .inner) rotated-circuit
 
-    turning-outline : outline (spliced m p l r) ≡ m .count ∷ remaining split-is
+    pub turning-outline : outline (spliced m p l r) ≡ m .count ∷ remaining split-is
     turning-outline = spliced-outline (a .is-sound) two (a .room) p l r (remaining split-is) arc-kept
 
     hidden-kept : (c : ℕ) → T (elem c (remaining split-is)) → c ≢ l →

@@ -177,7 +177,7 @@ invariant-more r k p o a =
     }
 
 -- with fewer than two points there is no outline, and nothing is visible
-few-outline : (m : Map) → m .count < 2 → outline m ≡ []
+pub few-outline : (m : Map) → m .count < 2 → outline m ≡ []
 unfolding outline
 few-outline m few = rw (is-true (ltb (m .count) 2) (lt→ltb (m .count) 2 few)) refl
 

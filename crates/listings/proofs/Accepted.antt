@@ -26,7 +26,7 @@ use Rattle.model.specs.History.{run}
 use Rattle.model.specs.Outlines.{coordinates, corner-points, corners-in, corners-spelt, is-outline, is-some, listable, or-none, outline-rules, outline-text}
 use Rattle.hull.proofs.History.{run-sound}
 use Rattle.corners.proofs.Listings.{listable-holds, listing-listable, listable-listing}
-use Rattle.polygons.proofs.PositionLaws.{few-digits}
+use Rattle.positions.proofs.PositionLaws.{few-digits}
 use Rattle.polygons.proofs.RoundTrip.{text-read, read-text}
 use Rattle.polygons.proofs.Few.{range-few, text-short}
 

@@ -1,10 +1,10 @@
 -- Corners that some survey lists, in the order of this page: the tests at two arrays that hold corners are
 -- those at the corners; what is answered for a text, by what was found; the coordinates of points; what a
--- caller has of the answer; a loop that writes coordinates; a result that is written where there is room.
+-- caller has of the answer; a loop that writes coordinates.
 use mathlib.Core.Path.{_≡_, refl, sym, ap, ap₂, subst, _∙_}
 use mathlib.Core.Logic.{⊎-elim}
 use mathlib.Core.Bool.{Bool, true, false, not, _&&_}
-use mathlib.Core.List.{List, [], _∷_, _++_}
+use mathlib.Core.List.{List, [], _∷_}
 use mathlib.Core.Option.{Option, none, some}
 use Prim.Native.Nat.{ℕ, zero, suc, _+_, _-_, _*_, _≤_, _<_}
 use native.Mathlib.Omega.{arith}
@@ -17,24 +17,23 @@ use Rattle.finite.specs.Tests.{_⇒_, decide, of-true, is-true, is-false}
 use Rattle.finite.specs.Bounded.{all, table, length-table, getD-table, lt-or-ge}
 use Rattle.finite.specs.Lists.{all-in}
 use Rattle.finite.specs.ListLaws.{all-in-by}
-use Rattle.finite.specs.Overwriting.{over, Copied, one-copied}
+use Rattle.finite.specs.Overwriting.{Copied, one-copied}
 use Rattle.model.specs.declared.Refusal.{Refusal}
 use Rattle.model.specs.declared.Outcome.{Outcome}
-use Rattle.model.specs.declared.Written.{Written}
 use Rattle.model.specs.declared.Point.{Point}
-use Rattle.model.specs.Refusals.{Rule, _when_, unless}
+use Rattle.model.specs.Refusals.{unless}
 use Rattle.model.specs.Answers.{outcome-by}
 use Rattle.model.specs.Plane.{in-range, left-of, lower, origin}
 use Rattle.model.specs.Maps.{point-at, point-limit}
 use Rattle.model.specs.Report.{text-limit}
 use Rattle.model.specs.Outlines.{coordinates, corners-in, corners-spelt, is-outline, is-some, listable, lowest-is-first, or-none, outline-rules}
-use Rattle.model.proofs.Answers.{outcome-refuses, outcome-serves, unless-append, unless-made}
+use Rattle.model.proofs.Answers.{outcome-serves, unless-made}
 use Rattle.maps.specs.Places.{PlacesFor}
-use Rattle.polygons.specs.declared.spellings.Corners.{Corners}
+use Rattle.polygons.specs.declared.Corners.{Corners}
 use Rattle.listings.specs.declared.Listing.{Listing}
 use Rattle.polygons.specs.Spellings.{CornersRead, corners-as}
 use Rattle.corners.proofs.Listings.{listable-holds}
-use Rattle.listings.specs.Listings.{Holds, ListingRead, WroteBy, lowest-at, turns-at}
+use Rattle.listings.specs.Listings.{Holds, ListingRead, lowest-at, turns-at}
 use Rattle.listings.proofs.Turning.{turns, turns-same}
 
 -- ---- the tests at the arrays
@@ -310,42 +309,3 @@ module _ (xs ys : List ℤ) (n : ℕ) where
       let both = one-copied one (pos 0) {k = 2 * k + 1} (omega arith) (omega (arith, source-length)) (omega arith) in
       let next : 2 * (k + 1) ≡ 2 * k + 1 + 1 = omega arith in
       rw (next, ← x-is, ← y-is) both
-
--- ---- a result that is written where there is room
-
-module _ {A : Type 0} (rules : List Rule) (short : Bool) (result lent : List A) where
-  -- number 10 comes after the other rules
-  abbrev last : List Rule
-  last = (Refusal.ShortList when short) ∷ []
-
-  pub by-refused : {x : Refusal} → Outcome.Refused x ≡ outcome-by rules →
-      WroteBy rules short result lent lent (Written.Refused x)
-  by-refused {x} e =
-      record {
-        answer =
-            outcome-refuses Written.Refused _ rules x e
-            ∙ sym (unless-append Written.Refused rules last (Written.Length (length result)));
-        list = outcome-refuses (λ y. lent) _ rules x e ∙ sym (unless-append (λ y. lent) rules last (over result lent));
-      }
-
-  module _ (served : Outcome.Served ≡ outcome-by rules) where
-    -- what stands after the rules, where they serve
-    after-rules : {B : Type 0} (f : Refusal → B) (a : B) → unless f last a ≡ unless f (rules ++ last) a
-    after-rules f a = outcome-serves f (unless f last a) rules served ∙ sym (unless-append f rules last a)
-
-    pub by-short : short ≡ true → WroteBy rules short result lent lent (Written.Refused Refusal.ShortList)
-    unfolding unless
-    by-short e =
-        record {
-          answer = sym (rw e) ∙ after-rules Written.Refused (Written.Length (length result));
-          list = sym (rw e) ∙ after-rules (λ y. lent) (over result lent);
-        }
-
-    pub by-written : {n : ℕ} {after : List A} → short ≡ false → n ≡ length result → after ≡ over result lent →
-        WroteBy rules short result lent after (Written.Length n)
-    unfolding unless
-    by-written e size holds =
-        record {
-          answer = ap Written.Length size ∙ sym (rw e) ∙ after-rules Written.Refused (Written.Length (length result));
-          list = holds ∙ sym (rw e) ∙ after-rules (λ y. lent) (over result lent);
-        }

@@ -12,10 +12,10 @@ use Rattle.finite.specs.Tests.{_⇒_}
 use Rattle.finite.specs.Bounded.{all}
 use Rattle.model.specs.declared.Point.{Point}
 use Rattle.model.specs.declared.Written.{Written}
-use Rattle.model.specs.Refusals.{Rule, unless}
+use Rattle.model.specs.Refusals.{unless}
 use Rattle.model.specs.Plane.{left-of, lower, origin}
 use Rattle.model.specs.Maps.{point-at, point-limit}
-use Rattle.model.specs.Lent.{is-short, and-short, lent-after}
+use Rattle.model.specs.Lent.{is-short, WroteBy}
 use Rattle.model.specs.Outlines.{coordinates, corners-spelt, outline-rules}
 use Rattle.listings.specs.declared.Listing.{Listing}
 
@@ -41,12 +41,6 @@ pub record Holds (cs : List Point) (xs ys : List ℤ) : Type 0 where
 pub record ListingRead (t : List ℕ) (r : Listing) (xs ys : List ℤ) : Type 0 where
   pub answer : r ≡ unless Listing.Refused (outline-rules t) (Listing.Corners (length (corners-spelt t)))
   pub held : (n : ℕ) → r ≡ Listing.Corners n → Holds (corners-spelt t) xs ys
-
--- a result that is written into a lent list, where `short` says whether there is room for all that is asked:
--- the answer and the list, as `Wrote` of model/specs/Lent has them for one list
-pub record WroteBy {A : Type 0} (rules : List Rule) (short : Bool) (result before after : List A) (r : Written) : Type 0 where
-  pub answer : r ≡ unless Written.Refused (and-short rules short) (Written.Length (length result))
-  pub list : after ≡ lent-after (and-short rules short) result before
 
 -- the coordinates of a text's corners, written where there is room for them and, by `room`, for their number
 abbrev pub CoordinatesWritten : List ℕ → Bool → List ℤ → List ℤ → Written → Type 0

@@ -33,13 +33,14 @@ use Rattle.model.specs.declared.Counted.{Counted}
 use Rattle.model.specs.declared.Walked.{Walked}
 use Rattle.model.specs.declared.Moved.{Moved}
 use Rattle.model.specs.declared.Placed.{Placed}
+use Rattle.model.specs.declared.Doubled.{Doubled}
 use Rattle.model.specs.declared.Written.{Written}
 use Rattle.model.specs.declared.Line.{Line}
 use Rattle.model.specs.Spelling.{bytes, decimal, spelt}
 use Rattle.model.specs.Refusals.{number, Rule, unless}
 use Rattle.model.specs.Answers.{Answer, answer-of, oriented-answer, arrival-answer, outcome-answer}
 use Rattle.model.specs.Answers.{orbit-answer, counted-answer, walked-answer, moved-answer}
-use Rattle.model.specs.Answers.{placed-answer, written-answer, line-answer}
+use Rattle.model.specs.Answers.{placed-answer, doubled-answer, written-answer, line-answer}
 use Rattle.model.specs.Plane.{coordinate-limit, coordinate-in-range, in-range, at, origin}
 use Rattle.model.specs.Plane.{same-point, orientation, orientation-limit, left-of}
 use Rattle.model.specs.Plane.{visible-from, in-line, beside, sees-edge, strictly-between}
@@ -135,6 +136,8 @@ answers =
     ∷ (told (placed-answer Placed.Inside) is says "inside\n")
     ∷ (told (placed-answer (Placed.Outside 1)) is says "outside 1\n")
     ∷ (told (placed-answer (Placed.Refused Refusal.ShortList)) is short)
+    ∷ (told (doubled-answer (Doubled.Value (pos 39))) is says "area 39\n")
+    ∷ (told (doubled-answer (Doubled.Refused Refusal.ShortList)) is short)
     ∷ (told (written-answer (Written.Length 1)) is says "length 1\n")
     ∷ (told (written-answer (Written.Refused Refusal.ShortList)) is short)
     ∷ (told (line-answer (Line.Named (at (pos 1) (negℤ (pos 2))))) is says "point 1 -2\n")
@@ -457,7 +460,7 @@ unfolding table-onto all any sum count one-if table elem all-in all-places any-i
     before beyond total ring insert union flatMap flatten spread reached reaches is-least classes
     is-fixed is-closed closed-walks bits set-of bytes decimal spelt number unless oriented-answer
     arrival-answer outcome-answer orbit-answer counted-answer walked-answer moved-answer
-    placed-answer written-answer line-answer coordinate-in-range in-range same-point orientation
+    placed-answer doubled-answer written-answer line-answer coordinate-in-range in-range same-point orientation
     left-of visible-from in-line beside sees-edge strictly-between lower other-dart point has-helper
     is-present edge-link point-link face-link empty-map next-corner previous-corner corners-from
     outline sees visible-edges lowest-corner corners arrays-whole count-fits points-in-range

@@ -1,6 +1,6 @@
 -- Results that are written into a lent list of any element, in the order of this page: number 10;
 -- the call, with the rules that come before it; what the list then holds; what an entry promises of
--- both.
+-- both; what an inner function promises that is told whether there is room.
 -- Document 01, number 10: "lent list shorter than the result; a longer one keeps its tail". A
 -- refused call leaves the list as it was.
 use mathlib.Core.Path.{_≡_}
@@ -42,3 +42,8 @@ lent-after rules result lent = unless (λ r. lent) rules (over result lent)
 pub record Wrote {A : Type 0} (rules : List Rule) (result before after : List A) (r : Written) : Type 0 where
   pub answer : Answered (writing rules result before) r
   pub list : after ≡ lent-after (writing rules result before .rules) result before
+
+-- the same, where `short` says that there is not room for all that is asked, this result and others
+pub record WroteBy {A : Type 0} (rules : List Rule) (short : Bool) (result before after : List A) (r : Written) : Type 0 where
+  pub answer : r ≡ unless Written.Refused (and-short rules short) (Written.Length (length result))
+  pub list : after ≡ lent-after (and-short rules short) result before

@@ -20,6 +20,7 @@ use Rattle.model.specs.Saved.{saved, load-call}
 use Rattle.model.specs.Text.{line-call}
 use Rattle.model.specs.Report.{report-rules, report}
 use Rattle.model.specs.Outlines.{coordinates, corner-points, corners-spelt, outline-rules, outline-text}
+use Rattle.model.specs.Area.{area-call}
 
 abbrev pub numbers-of : List Rule → List ℕ
 numbers-of rules = map (λ rule. number (rule .refusal)) rules
@@ -84,3 +85,7 @@ module _ (m : Map) (p q r : Point) (kind : Kind) (link : Link) (d : ℕ) (s lent
       ≡ 9 ∷ 11 ∷ 3 ∷ 12 ∷ 10 ∷ []
   unfolding number
   read-outline-order = refl
+
+  pub area-order : numbers-of (area-call m d .rules) ≡ 1 ∷ 6 ∷ []
+  unfolding number
+  area-order = refl

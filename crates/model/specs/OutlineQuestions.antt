@@ -1,7 +1,6 @@
 -- Questions of ours about outlines as text (request 101): one list and one check over it, in the order of
 -- this page: the request's four texts, written for the session; what they are read as; texts in another
 -- spelling, out of range, and of corners that no survey lists; the ends of the numbers.
-use mathlib.Core.Bool.{Bool, true, false, not, cond, _&&_}
 use mathlib.Core.List.{List, [], _∷_, _++_, map, flatMap, flatten}
 use Prim.Native.Nat.{ℕ}
 use Prim.Native.String.{String}
@@ -44,7 +43,7 @@ reads-as : String → String → List ℕ
 reads-as t values = 0 ∷ bytes values ++ bytes t
 
 -- three marks on a rail: two corners
-on-rail : List Point
+unfoldable pub on-rail : List Point
 on-rail = at (pos 0) (pos 0) ∷ at (pos 4) (pos 0) ∷ at (pos 2) (pos 0) ∷ []
 
 pub outline-questions : List Question

@@ -153,6 +153,12 @@ pub enum Placed {
     Refused(Refusal),
 }
 
+// Twice the area of an outline.
+pub enum Doubled {
+    Value(i64),
+    Refused(Refusal),
+}
+
 // How many places of a lent list were written.
 pub enum Written {
     Length(usize),

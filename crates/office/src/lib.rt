@@ -1,18 +1,23 @@
-// What the drawing office asks for: the outline of a map as text, for its viewer, and the corners of such a
-// text. These are entry points, as those of `engine` are: each checks for itself, asks nothing of its caller, and
-// promises its answer and what the lent list holds, for every argument.
+// What is asked for beyond document 01: by the drawing office, the outline of a map as text, for its viewer, and
+// the corners of such a text; by candidates, twice the outline's area. These are entry points, as those of `engine`
+// are: each checks for itself, asks nothing of its caller, and promises its answer and what a lent list holds, for
+// every argument.
 
 use corners::listing::corners_of;
 use drawings::text_length;
 use drawings::write_text;
+use measures::area_of;
+use model::Doubled;
 use model::Map;
 use model::Refusal;
 use model::Written;
 use soundness::is_sound;
 ghost use mathlib.Core.List.{[], _∷_};
 ghost use Rattle.model.specs.Reading.{unsound};
+ghost use Rattle.model.specs.Answers.{Answered};
 ghost use Rattle.model.specs.Lent.{Wrote};
 ghost use Rattle.model.specs.Outlines.{coordinates, corner-points, corners-spelt, outline-rules, outline-text};
+ghost use Rattle.model.specs.Area.{area-call};
 
 // The text of a map's outline, written into a lent list: numbers 1 and 10. A longer list keeps its tail,
 // and a refused call writes nothing.
@@ -40,4 +45,15 @@ pub fn read_outline(text: &[u8], lent: &mut [i64]) -> Written
         (coordinates (corners-spelt (now (text .entry)))) (now (lent .entry)) (now (lent .exit)) r ⌝ }
 {
     listings::read_outline(text, lent, true)
+}
+
+// Twice the area of a map's outline, as a fan of triangles from the corner at a place of the listing: numbers 1
+// and 6. Fewer than three points give 0 for any place.
+pub fn area(map: Map, place: usize) -> Doubled
+    ensures { λ r. ⌜ Answered (area-call map place) r ⌝ }
+{
+    if !is_sound(map) {
+        return Doubled::Refused(Refusal::NotSound);
+    }
+    area_of(map, place)
 }

@@ -2,7 +2,8 @@
 -- the corners, round which `next` and `prev` lead, so that all other points lie beside each edge, left
 -- of it or on it between its ends; the list may begin at any corner, and is the ring that `next` makes;
 -- `next` and `prev` lead from corner to corner and back; corners lie strictly left of each edge but
--- their own; of three corners or more no point sees all edges (of two: proofs/Beyond).
+-- their own; three corners or more enclose something, and no point sees all of their edges (of two:
+-- proofs/Beyond).
 use mathlib.Core.Path.{_≡_, sym, ap, subst, _∙_}
 use mathlib.Core.Logic.{_≢_, ⊎-elim}
 use mathlib.Core.Bool.{Bool, not}
@@ -12,7 +13,7 @@ use native.Mathlib.Omega.{arith}
 use lib.Dec.{T, T-not}
 use lib.IntN.{pos}
 use lib.ListN.{length, length-append}
-use lib.Signed.{_≤ℤ_}
+use lib.Signed.{_≤ℤ_, _<ℤ_}
 use Rattle.integers.specs.Order.{order, ≡-≤ℤ}
 use Rattle.finite.specs.Tests.{and-left, same-or-not}
 use Rattle.finite.specs.Counting.{count-small}
@@ -23,6 +24,7 @@ use Rattle.finite.specs.Cycles.{Chain, Cycle}
 use Rattle.finite.specs.CycleLaws.{cycle-swap, cycle-change, cycle-after, cycle-before, cycle-map, chain-last, ring-of-cycle}
 use Rattle.model.specs.declared.Point.{Point}
 use Rattle.model.specs.Plane.{orientation, left-of, beside, sees-edge}
+use Rattle.model.specs.Area.{fan}
 use Rattle.plane.proofs.Orientation.{orientation-cyclic, orientation-twice, left-positive, positive-left}
 use Rattle.plane.proofs.Fan.{fan-fixed, fan-pos, fan-nonpos}
 use Rattle.plane.proofs.Betweenness.{Between, between-symmetric, between-both-left, between-one-side, beside-between, beside-cases, beside-nonneg, beside-zero, not-both-beside, seen-nonpos}
@@ -202,7 +204,7 @@ module _ {n : ℕ} {P : ℕ → Point} {next prev : ℕ → ℕ} {s : List ℕ} 
 abbrev pub sees : (ℕ → Point) → (ℕ → ℕ) → Point → ℕ → Bool
 sees P next q a = sees-edge (P a) (P (next a)) q
 
--- ---- not all edges of three or more corners are visible from a point
+-- ---- three corners or more enclose something, and not all of their edges are visible from a point
 
 -- Seen from a corner no edge bends right and one bends left, so the fan is positive; seen from a point
 -- from which all edges are visible none bends left, so it is not. It is one fan.
@@ -223,35 +225,42 @@ module _ {n : ℕ} {P : ℕ → Point} {next prev : ℕ → ℕ} {s : List ℕ} 
       (same-or-not c a)
 
   -- what holds of the points of each edge holds round the list of points
-  points-round : (E : Point → Point → Type 0) → ((a : ℕ) → T (elem a s) → E (P a) (P (next a))) →
+  pub points-round : (E : Point → Point → Type 0) → ((a : ℕ) → T (elem a s) → E (P a) (P (next a))) →
       Cycle E (map P s)
   points-round E f =
       cycle-map P E s
       (cycle-change (Link next prev) (λ a b. E (P a) (P b)) s
       (λ a b i j e. subst (λ (c : ℕ). E (P a) (P c)) (e .0) (f a i)) (C .round))
 
-sees-not-all : {n : ℕ} {P : ℕ → Point} {next prev : ℕ → ℕ} (s : List ℕ) →
-    Convex n P next prev s → 3 ≤ length s → (q : Point) → ¬ ((a : ℕ) → T (elem a s) → T (sees P next q a))
-unfolding Cycle Chain
-sees-not-all [] C three q all = omega arith
-sees-not-all (x ∷ []) C three q all = omega arith
-sees-not-all (x ∷ y ∷ []) C three q all = omega arith
-sees-not-all {P} {next} {prev} (x ∷ y ∷ z ∷ s) C three q all =
-    omega (
-      arith,
-      order,
-      fan-fixed (P x) q (map P (x ∷ y ∷ z ∷ s)),
-      fan-pos (P x) (P x) (P y) (P z) (map P s)
-          (points-round C (λ b c. pos 0 ≤ℤ orientation (P x) b c)
-          (λ a m. not-right C x a (C .below x (elem-head x (y ∷ z ∷ s))) m))
-          (left-positive (P x) (P y) (P z)
-          (rw (← C .round .0 .1, ← C .round .1 .0 .0)
-          (turns-left C three y (elem-tail y x (y ∷ z ∷ s) (elem-head y (z ∷ s)))))),
-      fan-nonpos q (map P (x ∷ y ∷ z ∷ s))
-          (points-round C (λ b c. orientation q b c ≤ℤ pos 0)
-          (λ a m. rw orientation-cyclic (seen-nonpos (P a) (P (next a)) q (all a m)))),
-    )
+module _ {n : ℕ} {P : ℕ → Point} {next prev : ℕ → ℕ} where
+  -- seen from one of the numbered points no edge bends right, so nothing is subtracted
+  pub fan-terms : {s : List ℕ} → Convex n P next prev s → (c : ℕ) → c < n →
+      Cycle (λ a b. pos 0 ≤ℤ orientation (P c) a b) (map P s)
+  fan-terms C c h = points-round C (λ a b. pos 0 ≤ℤ orientation (P c) a b) (λ a m. not-right C c a h m)
+
+  -- three corners or more enclose something
+  pub fan-positive : {s : List ℕ} → Convex n P next prev s → 3 ≤ length s → (q : Point) →
+      pos 0 <ℤ fan q (map P s)
+  unfolding Cycle Chain
+  fan-positive {s = []} C three q = omega (arith, order)
+  fan-positive {s = x ∷ []} C three q = omega (arith, order)
+  fan-positive {s = x ∷ y ∷ []} C three q = omega (arith, order)
+  fan-positive {s = x ∷ y ∷ z ∷ s} C three q =
+      rw (fan-fixed (P x) q (map P (x ∷ y ∷ z ∷ s)))
+      (fan-pos (P x) (P x) (P y) (P z) (map P s)
+      (fan-terms C x (C .below x (elem-head x (y ∷ z ∷ s))))
+      (left-positive (P x) (P y) (P z)
+      (rw (← C .round .0 .1, ← C .round .1 .0 .0)
+      (turns-left C three y (elem-tail y x (y ∷ z ∷ s) (elem-head y (z ∷ s)))))))
 
 module _ {n : ℕ} {P : ℕ → Point} {next prev : ℕ → ℕ} {s : List ℕ} (C : Convex n P next prev s) (q : Point) where
   pub not-all-seen : 3 ≤ length s → ¬ ((a : ℕ) → T (elem a s) → T (sees P next q a))
-  not-all-seen three = sees-not-all s C three q
+  not-all-seen three all =
+      omega (
+        arith,
+        order,
+        fan-positive C three q,
+        fan-nonpos q (map P s)
+            (points-round C (λ b c. orientation q b c ≤ℤ pos 0)
+            (λ a m. rw orientation-cyclic (seen-nonpos (P a) (P (next a)) q (all a m)))),
+      )

@@ -23,7 +23,7 @@ use Rattle.survey.proofs.Digits.{below-limit, magnitude-digits}
 use Rattle.printing.proofs.RoundTrip.{spelt-read}
 use Rattle.survey.proofs.Signs.{number-is, value-small}
 use Rattle.model.specs.Outlines.{after-position, corners-in, exactly, is-position, is-word, positions-in, outline-text, joined, point-text, position, positions, ring-of, second, starts-with, with-first}
-use Rattle.polygons.proofs.PositionLaws.{few-digits, has-position}
+use Rattle.positions.proofs.PositionLaws.{few-digits, has-position}
 use Rattle.polygons.proofs.RoundTrip.{few-snoc, text-read, read-text}
 
 -- ---- numbers

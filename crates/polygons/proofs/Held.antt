@@ -22,9 +22,9 @@ use Rattle.model.specs.Plane.{at, coordinate-in-range, in-range, origin, same-p
 use Rattle.model.specs.Maps.{point-at, point-limit}
 use Rattle.model.specs.Spelling.{bytes}
 use Rattle.model.specs.Outlines.{corners-in, exactly, is-word, positions, positions-in, ring-of, starts-with}
-use Rattle.polygons.specs.declared.positions.Listed.{Listed}
-use Rattle.polygons.specs.declared.spellings.Corners.{Corners}
-use Rattle.polygons.specs.Positions.{Kept, ReadAll, listed-as}
+use Rattle.positions.specs.declared.Listed.{Listed}
+use Rattle.polygons.specs.declared.Corners.{Corners}
+use Rattle.positions.specs.Positions.{Kept, ReadAll, listed-as}
 use Rattle.polygons.specs.Spellings.{CornersRead, Held, ReadBetween, Ready, corners-as, counted-as, ring-as}
 use Rattle.polygons.proofs.RoundTrip.{closed, cut-closed, exactly-some, is-closed, ring-some}
 

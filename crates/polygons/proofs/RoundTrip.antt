@@ -21,8 +21,8 @@ use Rattle.model.specs.Spelling.{bytes, space, spelt}
 use Rattle.model.specs.Text.{is-digit, front, leading-digits}
 use Rattle.model.proofs.Sound.{same-point-eq, same-point-by}
 use Rattle.model.specs.Outlines.{corners-in, exactly, is-word, joined, positions-in, outline-text, point-text, positions, ring-of, starts-with}
-use Rattle.polygons.proofs.WordLaws.{word-then, word-whole}
-use Rattle.polygons.proofs.PositionLaws.{few-digits, none-some, Closes, joined-read, read-joined}
+use Rattle.positions.proofs.WordLaws.{word-then, word-whole}
+use Rattle.positions.proofs.PositionLaws.{few-digits, none-some, Closes, joined-read, read-joined}
 
 -- ---- positions between two words
 

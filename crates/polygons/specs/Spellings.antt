@@ -14,9 +14,9 @@ use Rattle.model.specs.declared.Point.{Point}
 use Rattle.model.specs.Plane.{at, in-range, origin, same-point}
 use Rattle.model.specs.Maps.{point-at, point-limit}
 use Rattle.model.specs.Outlines.{corners-in, positions-in}
-use Rattle.polygons.specs.declared.positions.Listed.{Listed}
-use Rattle.polygons.specs.declared.spellings.Corners.{Corners}
-use Rattle.polygons.specs.Positions.{Kept, listed-as}
+use Rattle.positions.specs.declared.Listed.{Listed}
+use Rattle.polygons.specs.declared.Corners.{Corners}
+use Rattle.positions.specs.Positions.{Kept, listed-as}
 
 -- the positions between the first word of a text and its closing
 pub record ReadBetween (opening closing t : List ℕ) (r : Listed) (before-xs before-ys xs ys : List ℤ) : Type 0 where

@@ -16,6 +16,8 @@ use maps::traversal::counts_of;
 use maps::traversal::moved;
 use maps::traversal::orbit_of;
 use maps::traversal::walk_of;
+use measures::area_of;
+use model::Doubled;
 use model::Kind;
 use model::Line;
 use model::Link;
@@ -57,7 +59,8 @@ ghost use Rattle.model.specs.Report.{report, report-rules};
 ghost use Rattle.model.specs.Outlines.{coordinates, corner-points, corners-spelt, outline-rules, outline-text};
 ghost use Rattle.replies.specs.Served.{Served, ServedBoth, number-by, only};
 ghost use Rattle.replies.specs.Opened.{of-file};
-ghost use Rattle.replies.specs.Replies.{Offering, counts-reply, from-file, length-told};
+ghost use Rattle.measures.specs.Areas.{sound-area-call};
+ghost use Rattle.replies.specs.Replies.{Offering, area-reply, counts-reply, from-file, length-told};
 ghost use Rattle.replies.specs.Replies.{orbit-reply, place-reply, reply, values-of};
 ghost use Rattle.replies.specs.Replies.{walk-reply, walker-reply};
 
@@ -404,5 +407,32 @@ pub extern "C" fn reach_read_outline(text: &[u8], out: &mut [i64], count: &mut [
             count[0] = length;
             0
         }
+    }
+}
+
+// Twice the area of the outline, from the corner at a place of the listing: numbers 7, 1, 6 and 10.
+#[no_mangle]
+pub extern "C" fn reach_area(map: &[u8], place: usize, out: &mut [i64]) -> u32
+    ensures { λ r. ⌜ Served (from-file (area-reply place) (now (map .entry)))
+        (now (out .entry)) (now (out .exit)) r ⌝ }
+{
+    let loaded = load(map);
+    let outcome = loaded.outcome;
+    match outcome {
+        Outcome::Refused(refusal) => code(refusal),
+        Outcome::Served => write_area(loaded.map, place, out),
+    }
+}
+
+// Writes twice the area of a sound map's outline: numbers 6 and 10.
+fn write_area(map: Map, place: usize, out: &mut [i64]) -> u32
+    requires { ⌜ Shaped map ⌝ }
+    ensures { λ r. ⌜ Served (reply values-of (sound-area-call map place))
+        (now (out .entry)) (now (out .exit)) r ⌝ }
+{
+    let doubled = area_of(map, place);
+    match doubled {
+        Doubled::Refused(refusal) => code(refusal),
+        Doubled::Value(z) => write_number(z, out),
     }
 }

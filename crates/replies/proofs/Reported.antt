@@ -17,9 +17,8 @@ use Rattle.model.specs.declared.Outcome.{Outcome}
 use Rattle.model.specs.declared.Written.{Written}
 use Rattle.model.specs.Refusals.{number, NoneApplies, nor, Rule, _when_, unless}
 use Rattle.model.specs.Answers.{outcome-by}
-use Rattle.model.specs.Lent.{is-short, and-short, lent-after, Wrote}
+use Rattle.model.specs.Lent.{is-short, and-short, lent-after, Wrote, WroteBy}
 use Rattle.model.proofs.Answers.{outcome-refuses, outcome-serves, served-none, unless-append}
-use Rattle.listings.specs.Listings.{WroteBy}
 use Rattle.replies.specs.Served.{number-by, ServedBoth}
 use Rattle.replies.proofs.Serving.{answer-outcome, stored, room-serves}
 

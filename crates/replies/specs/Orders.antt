@@ -23,7 +23,7 @@ use Rattle.model.specs.Lent.{and-short}
 use Rattle.replies.specs.Served.{Reply, only}
 use Rattle.replies.specs.Opened.{of-file}
 use Rattle.replies.specs.Replies.{values-of, reply, from-file, counts-reply, orbit-reply}
-use Rattle.replies.specs.Replies.{walk-reply, walker-reply, place-reply}
+use Rattle.replies.specs.Replies.{walk-reply, walker-reply, place-reply, area-reply}
 
 -- the numbers of rules with number 10 after them, whether a lent list is short or not
 module _ (short : Bool) where
@@ -92,3 +92,7 @@ module _ (short : Bool) where
     pub reach-read-outline-order : with-10 (outline-rules s) ≡ 9 ∷ 11 ∷ 3 ∷ 12 ∷ 10 ∷ []
     unfolding number
     reach-read-outline-order = refl
+
+    pub reach-area-order : replied (from-file (area-reply d) s) ≡ 7 ∷ 1 ∷ 6 ∷ 10 ∷ []
+    unfolding number
+    reach-area-order = refl

@@ -19,6 +19,7 @@ use Rattle.model.specs.Answers.{Answer, Call, written-answer}
 use Rattle.model.specs.Reading.{counts-call, orbit-call, walk-call, walker-call}
 use Rattle.model.specs.Placing.{place-call}
 use Rattle.model.specs.Offers.{offer-call}
+use Rattle.model.specs.Area.{area-call}
 use Rattle.model.specs.Saved.{map-in, saved}
 use Rattle.replies.specs.Served.{Reply, ServedBoth}
 use Rattle.replies.specs.Opened.{of-file}
@@ -95,6 +96,9 @@ walker-reply link d m = reply naturals (walker-call m link d)
 
 abbrev pub place-reply : Point → Map → Reply ℕ
 place-reply p m = reply place-told (place-call m p)
+
+abbrev pub area-reply : ℕ → Map → Reply ℤ
+area-reply place m = reply values-of (area-call m place)
 
 -- a point offered to the map of a file: the bytes of the map after it, and the arrival
 module _ (s : List ℕ) (p : Point) where

@@ -12,6 +12,7 @@ use crate::telling::tell_numbers;
 use crate::telling::tell_refused;
 use model::Arrival;
 use model::Counted;
+use model::Doubled;
 use model::Kind;
 use model::Line;
 use model::Link;
@@ -233,5 +234,19 @@ pub(crate) fn read_outline(text: &[u8], lent: &mut [i64]) {
     match written {
         Written::Length(length) => tell_numbers(&lent[..length]),
         Written::Refused(refusal) => tell_refused(refusal),
+    }
+}
+
+pub(crate) fn area(map: Map, place: usize) {
+    say(b"area");
+    say_natural(place);
+    let doubled = office::area(map, place);
+    match doubled {
+        Doubled::Value(z) => {
+            say(b": ");
+            say_number(z);
+            say(b"\n");
+        }
+        Doubled::Refused(refusal) => tell_refused(refusal),
     }
 }

@@ -8,6 +8,7 @@
 //     move_walker    the dart that the walker has reached
 //     place          the corner; the ends of the edge; the visible edges
 //     read_outline   x and y of each corner
+//     area           twice the area
 // A refused call prints `refused` and the number of document 01's table; every number that is in use is
 // seen.
 
@@ -33,6 +34,7 @@ fn main() {
     files();
     texts();
     outlines(map);
+    areas(map);
     unsound(map);
     calls::offer(full_map(), at(512, 0));
 }
@@ -169,6 +171,26 @@ fn outlines(map: Map) {
     calls::read_outline(b"POINT (0 0)", &mut few);
 }
 
+// Twice the area: from each corner of the worked survey, and at a place that no corner has; of no points, from any
+// place; of the whole range.
+fn areas(map: Map) {
+    calls::area(map, 0);
+    calls::area(map, 1);
+    calls::area(map, 2);
+    calls::area(map, 3);
+    calls::area(map, 4);
+    calls::area(engine::empty_map(), 9);
+    calls::area(whole_range(), 3);
+}
+
+// The corners of the range.
+fn whole_range() -> Map {
+    let one = calls::offer(engine::empty_map(), at(-1000000000, -1000000000));
+    let two = calls::offer(one, at(1000000000, 1000000000));
+    let three = calls::offer(two, at(-1000000000, 1000000000));
+    calls::offer(three, at(1000000000, -1000000000))
+}
+
 // One byte more than a survey text may have.
 fn long_text() -> [u8; 65537]
     ensures { λ r. ⌜ 65537 ≡ length r ⌝ }
@@ -192,6 +214,7 @@ fn unsound(map: Map) {
     let mut file = [0u8; 87];
     calls::save(map, &mut file);
     calls::write_outline(map, &mut file);
+    calls::area(map, 0);
 }
 
 // As many points as a map has, along a parabola.

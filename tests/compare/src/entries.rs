@@ -22,6 +22,9 @@ pub struct Comparison {
 /// Of so many calls, one is made on as little stack as it is said to need.
 const STACK_SAMPLE: u64 = 61;
 
+/// A drawn map with more corners than this is measured from so many drawn places.
+const MANY_CORNERS: usize = 8;
+
 /// The entries that start from a dart.
 type FromDart = fn(&[u8], u64, &mut [u64]) -> u32;
 
@@ -273,7 +276,7 @@ impl Comparison {
         Ok(())
     }
 
-    /// The entries that read a map and nothing else.
+    /// The entries that read a map and nothing else, and its area.
     pub fn whole(&mut self, file: &[u8], map: &Answer<Map>) -> Outcome {
         let input = || format!("map {}", hex(file));
         let refused = map.as_ref().map_err(|number| *number);
@@ -287,7 +290,33 @@ impl Comparison {
         self.two_lists("reach_corners", &input, &corners, call)?;
         let outline = refused.map(|m| with_length(m.outline_text().into_bytes()));
         let call = |out: &mut [u8], length: &mut [u64]| raw::write_outline(file, out, length);
-        self.two_lists("reach_write_outline", &input, &outline, call)
+        self.two_lists("reach_write_outline", &input, &outline, call)?;
+        self.area(file, map)
+    }
+
+    /// Twice the outline's area, from every place of the listing, or from some where a drawn map
+    /// has many corners, and from places beyond it, into lists of no, one or two elements.
+    fn area(&mut self, file: &[u8], map: &Answer<Map>) -> Outcome {
+        let refused = map.as_ref().map_err(|number| *number);
+        let corners = refused.map_or(0, |m| m.corners().len());
+        let places: Vec<usize> = if self.is_lent_every_length || corners <= MANY_CORNERS {
+            (0..corners).collect()
+        } else {
+            (0..MANY_CORNERS).map(|_| self.draw.below(corners)).collect()
+        };
+        let beyond = [corners, corners + 1, 1023, 1 << 32, usize::MAX];
+        for place in places.into_iter().chain(beyond).map(word) {
+            let area = refused.and_then(|m| m.doubled_area(place));
+            let expected = area.map(|area| (vec![area], Vec::<u64>::new()));
+            let input = || format!("place {place} of map {}", hex(file));
+            let call = |out: &mut [i64], _: &mut [u64]| raw::area(file, place, out);
+            let lengths =
+                if self.is_lent_every_length { vec![0, 1, 2] } else { vec![self.draw.below(3)] };
+            for length in lengths {
+                self.lists_of([length, 0], "reach_area", &input, &expected, &call)?;
+            }
+        }
+        Ok(())
     }
 
     /// A dart of the map, or an absent one.

@@ -99,7 +99,7 @@ fn arguments() -> Result<Arguments, String> {
 }
 
 /// What is compared whatever the seed: the header's constants, short lines, the ends of the range as
-/// it is and as it was, rails across it, outlines, full maps, long texts.
+/// it is and as it was, rails across it, outlines and their areas, full maps, long texts.
 fn fixed(c: &mut Comparison) -> Outcome {
     c.header()?;
     c.null_lists()?;

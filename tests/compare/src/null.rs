@@ -34,6 +34,7 @@ unsafe extern "C" {
         length: *mut u64,
         k: usize,
     ) -> u32;
+    fn reach_area(map: *const u8, n: usize, place: u64, out: *mut i64, m: usize) -> u32;
 }
 
 impl Comparison {
@@ -95,6 +96,8 @@ impl Comparison {
                         1,
                     ),
                 ),
+                ("reach_area", 7, reach_area(null(), 0, 0, null_mut(), 0)),
+                ("reach_area", 10, reach_area(file.as_ptr(), file.len(), 0, null_mut(), 0)),
             ]
         };
         for (entry, expected, got) in calls {

@@ -177,7 +177,7 @@ fn with_many_bytes() -> Vec<Vec<u8>> {
 }
 
 impl Comparison {
-    /// What is read and written whatever the seed, with lists of every kind of length.
+    /// What is read, written and measured whatever the seed, with lists of every kind of length.
     pub fn fixed_outlines(&mut self) -> Outcome {
         self.is_lent_every_length = true;
         for text in WRITTEN.iter().chain(OTHERS).map(|text| text.as_bytes()) {
@@ -287,17 +287,21 @@ fn rearrange(draw: &mut Draw, corners: &mut Vec<Point>) {
     }
 }
 
-/// Surveys whose outlines are written whatever the seed: the session, from no point on, the corners
-/// of the range, as many corners as there may be, the longest text, and marks along rails.
+/// Surveys whose outlines are written and measured whatever the seed: the session, from no point
+/// on, the corners of the range, points near them whose area is odd, as many corners as there may
+/// be, the longest text, and marks along rails, three of them and all.
 fn surveys() -> Vec<Vec<Point>> {
     let session = [(0, 0), (4, 0), (1, 3), (5, 4), (2, 1), (6, 7)].map(|(x, y)| Point::new(x, y));
     let square = [(-LIMIT, -LIMIT), (LIMIT, -LIMIT), (LIMIT, LIMIT), (-LIMIT, LIMIT)];
     let square = square.map(|(x, y)| Point::new(x, y));
+    let odd = [(-LIMIT, -LIMIT), (LIMIT, 1 - LIMIT), (LIMIT - 1, LIMIT)];
+    let odd = odd.map(|(x, y)| Point::new(x, y));
     // a number of 11 bytes is x of two corners and y of two, and of the first both
     let arc = (0..511).map(|i| Point::new(1000 * (510 * 510 - i * i) - LIMIT, 1000 * i - LIMIT));
     let longest = [Point::new(-LIMIT, -LIMIT)].into_iter().chain(arc).collect();
     let mut surveys: Vec<Vec<Point>> = (0..=session.len()).map(|n| session[..n].into()).collect();
-    surveys.extend([square.into(), parabola(POINT_LIMIT), longest]);
+    surveys.extend([square.into(), odd.into(), parabola(POINT_LIMIT), longest]);
+    surveys.extend(crate::rails().map(|rail| rail[..3].into()));
     surveys.extend(crate::rails().map(Vec::from));
     surveys
 }

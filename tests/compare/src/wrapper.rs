@@ -76,6 +76,14 @@ impl Comparison {
         self.same("Map::point", &input, Ok(expected.points.clone()), Ok(points))?;
         let outline = on_stack("Map::outline_text", reach::CALL_STACK, || map.outline_text());
         self.same("Map::outline_text", &input, Ok(expected.outline_text()), Ok(outline))?;
+        let corners = expected.corners().len();
+        for place in [0, self.draw.below(corners + 2), corners, usize::MAX] {
+            let input = || format!("place {place} of map {}", hex(file));
+            let area = || map.doubled_area(place);
+            let got = number(on_stack("Map::doubled_area", reach::CALL_STACK, area));
+            let area = expected.doubled_area(place as u64);
+            self.same("Map::doubled_area", &input, area, got)?;
+        }
 
         let dart = self.draw.below(2 * map.len() + 2);
         let input = || format!("dart {dart} of map {}", hex(file));

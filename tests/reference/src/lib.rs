@@ -4,13 +4,15 @@
 //! orientations are 128-bit, an outline is computed from the coordinates alone (Andrew's monotone
 //! chain) instead of being read from the links, links stand in a hash map, orbits are sets that
 //! grow until they are closed, parts are a union-find, a point in line with two others is between
-//! them by the order of the coordinates, the farther of two corners by squared distances, and an
-//! outline's text is split at its separators and held to the text of its points' hull.
+//! them by the order of the coordinates, the farther of two corners by squared distances, an
+//! outline's text is split at its separators and held to the text of its points' hull, and an area
+//! is worked out by the shoelace formula, not by triangles.
 //!
 //! Every function answers its value or the number of its refusal. A [`Map`] that comes out of
 //! [`Map::load`] or was built by [`Map::offer`] from [`Map::empty`] is sound, and the functions
 //! that read a map speak of sound maps; [`sound::is_sound`] judges any other.
 
+pub mod area;
 pub mod arrival;
 pub mod map;
 pub mod orbits;

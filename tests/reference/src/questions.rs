@@ -359,6 +359,10 @@ fn parabola(corners: i64) -> Vec<(i64, i64)> {
     (0..corners).map(|x| (x, x * x)).collect()
 }
 
+/// The corners of the range, as they are listed.
+const SQUARE: [(i64, i64); 4] =
+    [(-LIMIT, -LIMIT), (LIMIT, -LIMIT), (LIMIT, LIMIT), (-LIMIT, LIMIT)];
+
 #[test]
 fn outlines_written_and_read() {
     for (text, survey) in OUTLINES {
@@ -368,11 +372,10 @@ fn outlines_written_and_read() {
         assert_eq!(read_outline(text.as_bytes()), Ok(corners));
     }
     assert_eq!(built(&RAIL).outline_text(), "LINESTRING (0 0, 4 0)");
-    let square = [(-LIMIT, -LIMIT), (LIMIT, -LIMIT), (LIMIT, LIMIT), (-LIMIT, LIMIT)];
     let text = "POLYGON ((-1000000000 -1000000000, 1000000000 -1000000000, 1000000000 1000000000, \
                 -1000000000 1000000000, -1000000000 -1000000000))";
-    assert_eq!(built(&square).outline_text(), text);
-    assert_eq!(read_outline(text.as_bytes()), Ok(points(&square)));
+    assert_eq!(built(&SQUARE).outline_text(), text);
+    assert_eq!(read_outline(text.as_bytes()), Ok(points(&SQUARE)));
 }
 
 /// Every number that refuses a text, in the order in which they are looked at.
@@ -528,6 +531,108 @@ fn every_short_ring_of_a_small_grid() {
             let is_written = map.outline_text() == text;
             let expected = if is_written { Ok(points(positions)) } else { Err(12) };
             assert_eq!(read_outline(text.as_bytes()), expected, "{text}");
+        }
+    }
+}
+
+#[test]
+fn areas() {
+    let each = |map: &Map, places: &[u64]| -> Vec<_> {
+        places.iter().map(|&place| map.doubled_area(place)).collect()
+    };
+    // "The result is the same from each corner"; there is no corner at place 4
+    assert_eq!(each(&after(6), &[0, 1, 2, 3]), [Ok(39); 4]);
+    assert_eq!(each(&after(6), &[4, 5, 6, 1023, 1 << 32, u64::MAX]), [Err(6); 6]);
+    for (points, area) in [0, 0, 0, 12, 27, 27, 39].into_iter().enumerate() {
+        assert_eq!(after(points).doubled_area(0), Ok(area));
+    }
+    // "Fewer than three points give 0 for any index."
+    for points in 0..3 {
+        assert_eq!(each(&after(points), &[0, 1, 2, 3, 9, u64::MAX]), [Ok(0); 6]);
+    }
+    assert_eq!(each(&after(3), &[0, 1, 2]), [Ok(12); 3]);
+    assert_eq!(each(&after(3), &[3, 9, u64::MAX]), [Err(6); 3]);
+    // three points, of which two are corners
+    for rail in [RAIL, [(0, 0), (4, 0), (2, 0)], [(-3, -2), (9, 6), (3, 2)]] {
+        assert_eq!(each(&built(&rail), &[0, 1]), [Ok(0); 2]);
+        assert_eq!(each(&built(&rail), &[2, 3, u64::MAX]), [Err(6); 3]);
+    }
+    // as large as it can be, whatever the order of the points
+    for order in [[0, 1, 2, 3], [0, 2, 3, 1], [3, 1, 0, 2]] {
+        let square = built(&order.map(|k| SQUARE[k]));
+        assert_eq!(each(&square, &[0, 1, 2, 3]), [Ok(8_000_000_000_000_000_000); 4]);
+        assert_eq!(square.doubled_area(4), Err(6));
+    }
+    // 4 × 10^18 - 2 × 10^9 + 1, which a number of 53 bits does not hold
+    let odd = built(&[(-LIMIT, -LIMIT), (LIMIT, 1 - LIMIT), (LIMIT - 1, LIMIT)]);
+    assert_eq!(each(&odd, &[0, 1, 2]), [Ok(3_999_999_998_000_000_001); 3]);
+    // the session elsewhere, up to the ends of the range
+    for (x, y) in [(-LIMIT, -LIMIT), (LIMIT - 6, -LIMIT), (LIMIT - 6, LIMIT - 7), (7, -5)] {
+        let shifted = built(&SESSION.map(|(across, up)| (x + across, y + up)));
+        assert_eq!(each(&shifted, &[0, 1, 2, 3, 4]), [Ok(39), Ok(39), Ok(39), Ok(39), Err(6)]);
+    }
+    // as many corners as there may be: the sum of k × (k + 1) for k below 511
+    let full = built(&parabola(512));
+    assert_eq!(each(&full, &[0, 1, 255, 511]), [Ok(510 * 511 * 512 / 3); 4]);
+    assert_eq!(each(&full, &[512, 513]), [Err(6); 2]);
+}
+
+/// What an offer adds to the area: "the negated orientations of the edges that were visible", as
+/// many as the arrival reports, from its left corner on to its right.
+fn area_added(map: &mut Map, p: Point) -> i128 {
+    let before = map.clone();
+    let Ok(Arrival::Outside { left, right, visible }) = map.offer(p) else {
+        return 0;
+    };
+    let (mut corner, mut added) = (left, 0);
+    for _ in 0..visible {
+        let next = before.edge_link(2 * corner) / 2;
+        added -= cross(before.points[corner], before.points[next], p);
+        corner = next;
+    }
+    assert_eq!(corner, right);
+    added
+}
+
+/// The sum of orientations over a fan of triangles from one of the corners.
+fn fan(corners: &[Point], place: usize) -> i128 {
+    let next = corners.iter().cycle().skip(1);
+    corners.iter().zip(next).map(|(&a, &b)| cross(corners[place], a, b)).sum()
+}
+
+/// "For a survey from empty it also equals the history's total", after each offer of drawn surveys,
+/// rails among them; and a fan from any corner gives it.
+#[test]
+fn areas_by_history() {
+    let mut map = Map::empty();
+    let added = SESSION.map(|(x, y)| area_added(&mut map, Point::new(x, y)));
+    assert_eq!(added, [0, 0, 12, 15, 0, 12]);
+
+    let mut state = 8u64;
+    let mut below = |n: i64| {
+        state =
+            state.wrapping_mul(6_364_136_223_846_793_005).wrapping_add(1_442_695_040_888_963_407);
+        (state >> 33) as i64 % n
+    };
+    for survey in 0..4000 {
+        // the widest goes one beyond the range
+        let width = [2, 5, 100, LIMIT + 1][survey % 4];
+        let has_rail = survey / 4 % 4 == 0;
+        let mut map = Map::empty();
+        let mut total = 0;
+        for _ in 0..below(40) {
+            let [x, y] = [0; 2].map(|_| match below(4) {
+                0 => (width - below(2)) * (2 * below(2) - 1),
+                _ => below(2 * width + 1) - width,
+            });
+            let is_on_rail = has_rail && below(8) != 0;
+            total += area_added(&mut map, Point::new(x, if is_on_rail { -x } else { y }));
+            let corners: Vec<Point> = map.corners().iter().map(|&k| map.points[k]).collect();
+            for place in 0..corners.len() {
+                let area = map.doubled_area(place as u64).map(i128::from);
+                assert_eq!(area, Ok(total), "{:?}", map.points);
+                assert_eq!(fan(&corners, place), total, "{:?}", map.points);
+            }
         }
     }
 }

@@ -14,8 +14,9 @@ use Rattle.finite.specs.Overwriting.{over}
 use Rattle.model.specs.Maps.{point-limit}
 use Rattle.model.specs.Lent.{is-short}
 use Rattle.model.specs.Outlines.{coordinates, corners-spelt, outline-rules}
+use Rattle.model.proofs.Lent.{by-refused, by-short, by-written}
 use Rattle.polygons.proofs.Held.{zeros-ready}
-use Rattle.listings.proofs.Listed.{listing-refused, listing-served, listing-coordinates, listing-length, listing-places, listing-few, by-refused, by-short, by-written}
+use Rattle.listings.proofs.Listed.{listing-refused, listing-served, listing-coordinates, listing-length, listing-places, listing-few}
 use Rattle.listings.proofs.read_outline.Statement.{statement}
 use Rattle.listings.proofs.read_outline.Tie as tie
 

@@ -1,7 +1,7 @@
 -- `office::read_outline` meets its contract, by that of the function that it calls.
 use borrow.Author.Needs.{needs}
 use mathlib.Core.Bool.{or-false}
-use Rattle.office.proofs.Entries.{wrote-by}
+use Rattle.model.proofs.Lent.{wrote-by}
 use Rattle.office.proofs.read_outline.Statement.{statement}
 use Rattle.office.proofs.read_outline.Tie as tie
 

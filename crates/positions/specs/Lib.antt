@@ -1,0 +1,3 @@
+-- What the functions of this crate answer. Nothing is assumed.
+--     Positions    positions at the front of a text
+pub mod Positions

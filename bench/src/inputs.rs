@@ -59,3 +59,9 @@ pub fn file(points: &[(i64, i64)]) -> Vec<u8> {
 pub fn outline(points: &[(i64, i64)]) -> Vec<u8> {
     map(points).outline_text().into_bytes()
 }
+
+/// These points, x and y in turn, and a right claim on them.
+pub fn claim(points: &[(i64, i64)]) -> (Vec<i64>, Vec<u64>) {
+    let corners = map(points).corners().into_iter().map(|k| k as u64).collect();
+    (points.iter().flat_map(|&(x, y)| [x, y]).collect(), corners)
+}

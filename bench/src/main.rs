@@ -147,6 +147,19 @@ impl Table {
         }
     }
 
+    /// A right claim on so many points, each a corner.
+    fn marks(&self) {
+        for corners in [8, 64, 512] {
+            let (points, claim) = &inputs::claim(&inputs::convex(corners));
+            self.line(
+                &format!("mark a right claim, {corners} corners"),
+                [0],
+                |out| raw::mark(points, claim, out),
+                |out| plain::mark(points, claim, out),
+            );
+        }
+    }
+
     /// The calls that take no map.
     fn small(&self) {
         let corners = [[-LIMIT, LIMIT - 1], [LIMIT, -3], [7, LIMIT]];
@@ -202,6 +215,7 @@ fn times(samples: &str) -> Option<()> {
         table.calls("random", &inputs::random(points));
     }
     table.outlines();
+    table.marks();
     table.small();
     Some(())
 }

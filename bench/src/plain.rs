@@ -7,7 +7,8 @@
 //! a later arrival looks at every outline edge once, going from own dart to own dart. A map grows in
 //! place. Other than in the engine, a new point is compared with all points, four at a time. The
 //! positions of an outline's text are read from its front on, and its corners are tested by their
-//! turns, as in the engine. An area is the sum over a fan of triangles, as it is there.
+//! turns, as in the engine. An area is the sum over a fan of triangles, as it is there, and a claim
+//! is tested edge by edge against every point, without a map.
 
 const POINT_LIMIT: usize = 512;
 const DART_LIMIT: usize = 2 * POINT_LIMIT;
@@ -73,6 +74,36 @@ fn is_beside(a: [i32; 2], b: [i32; 2], p: [i32; 2]) -> bool {
         0 => are_opposite(a, b, p),
         side => side > 0,
     }
+}
+
+/// Whether all points but a and b are left of the edge from a to b or on it. Most often all are
+/// strictly left: with its ends exchanged, so many determinants are negative. The sign bit is added
+/// up, since a comparison of 64-bit numbers costs more. As a call of its own it takes half as long
+/// again.
+#[inline(always)]
+fn is_supporting_edge(xs: &[i32], ys: &[i32], a: usize, b: usize) -> bool {
+    let (start, end) = ([xs[a], ys[a]], [xs[b], ys[b]]);
+    let others = xs.len() - 1 - usize::from(a != b);
+    let left = |(&x, &y): (&i32, &i32)| determinant(end, start, [x, y]) as u64 >> 63;
+    let beside = |&(&x, &y): &(&i32, &i32)| is_beside(start, end, [x, y]);
+    xs.iter().zip(ys).map(left).sum::<u64>() == others as u64
+        || xs.iter().zip(ys).filter(beside).count() == others
+}
+
+/// Whether a point is accepted after these, or why it is refused.
+fn admission(xs: &[i32], ys: &[i32], x: i64, y: i64) -> u32 {
+    if xs.len() == POINT_LIMIT {
+        return FULL;
+    }
+    if !in_range(x) || !in_range(y) {
+        return OUT_OF_RANGE;
+    }
+    let (x, y) = (x as i32, y as i32);
+    let is_at = |(&px, &py): (&i32, &i32)| (px ^ x) | (py ^ y) == 0;
+    if xs.iter().zip(ys).map(is_at).fold(false, |is_repeated, is_at| is_repeated | is_at) {
+        return REPEATED;
+    }
+    0
 }
 
 /// What the links of a map lead to, from its reference.
@@ -256,19 +287,13 @@ impl Map {
         [self.xs[k], self.ys[k]]
     }
 
-    /// All points but the two ends are left of each outline edge or on it. Most often all are
-    /// strictly left: with its ends exchanged, so many determinants are negative. The sign bit is
-    /// added up, since a comparison of 64-bit numbers costs more.
+    /// All points but the two ends are left of each outline edge or on it.
     fn others_beside(&self, outline: &[u16]) -> bool {
         let n = self.count;
         let (xs, ys) = (&self.xs[..n], &self.ys[..n]);
         outline.iter().all(|&a| {
             let a = usize::from(a);
-            let (start, end) = (self.point(a), self.point(self.next(a)));
-            let left = |(&x, &y): (&i32, &i32)| determinant(end, start, [x, y]) as u64 >> 63;
-            let beside = |&(&x, &y): &(&i32, &i32)| is_beside(start, end, [x, y]);
-            xs.iter().zip(ys).map(left).sum::<u64>() == n as u64 - 2
-                || xs.iter().zip(ys).filter(beside).count() == n - 2
+            is_supporting_edge(xs, ys, a, self.next(a))
         })
     }
 
@@ -292,34 +317,17 @@ impl Map {
 
     // ---- offering
 
-    fn admits(&self, x: i64, y: i64) -> u32 {
-        let n = self.count;
-        if n == POINT_LIMIT {
-            return FULL;
-        }
-        if !in_range(x) || !in_range(y) {
-            return OUT_OF_RANGE;
-        }
-        let (x, y) = (x as i32, y as i32);
-        let (xs, ys) = (&self.xs[..n], &self.ys[..n]);
-        let is_at = |(&px, &py): (&i32, &i32)| (px ^ x) | (py ^ y) == 0;
-        if xs.iter().zip(ys).map(is_at).fold(false, |is_repeated, is_at| is_repeated | is_at) {
-            return REPEATED;
-        }
-        0
-    }
-
     fn join(&mut self, a: usize, b: usize) {
         self.edge[a] = b as u16;
         self.edge[b] = a as u16;
     }
 
     fn offer(&mut self, x: i64, y: i64) -> Result<Arrival, u32> {
-        match self.admits(x, y) {
+        let k = self.count;
+        match admission(&self.xs[..k], &self.ys[..k], x, y) {
             0 => {}
             refusal => return Err(refusal),
         }
-        let k = self.count;
         self.xs[k] = x as i32;
         self.ys[k] = y as i32;
         self.edge[2 * k] = 2 * k as u16;
@@ -779,6 +787,22 @@ impl Positions {
     }
 }
 
+// ---- marks
+
+/// Whether a claim on these points is right: no number is beyond them, the first does not come
+/// again, and each edge has all other points beside it.
+fn is_outline(xs: &[i32], ys: &[i32], claim: &[u64]) -> bool {
+    let n = xs.len() as u64;
+    let Some(&first) = claim.first() else {
+        return n == 0;
+    };
+    let next = claim.iter().skip(1).chain([&first]);
+    claim.iter().zip(next).enumerate().all(|(i, (&a, &b))| {
+        let is_in_place = a < n && b < n && (i == 0 || a != first);
+        is_in_place && is_supporting_edge(xs, ys, a as usize, b as usize)
+    })
+}
+
 // ---- the boundary, as the engine has it
 
 /// Writes a result into a lent list, or answers number 10.
@@ -922,4 +946,20 @@ pub fn read_outline(text: &[u8], out: &mut [i64], length: &mut [u64]) -> u32 {
 #[inline(never)]
 pub fn area(file: &[u8], place: u64, out: &mut [i64]) -> u32 {
     answer(Map::load(file).and_then(|map| Ok(write(&[map.area(place)?], out))))
+}
+
+#[inline(never)]
+pub fn mark(points: &[i64], claim: &[u64], out: &mut [u64]) -> u32 {
+    let (mut xs, mut ys) = ([0; POINT_LIMIT], [0; POINT_LIMIT]);
+    let points = points.as_chunks::<2>().0;
+    for (k, &[x, y]) in points.iter().enumerate() {
+        match admission(&xs[..k], &ys[..k], x, y) {
+            0 => {}
+            refusal => return refusal,
+        }
+        xs[k] = x as i32;
+        ys[k] = y as i32;
+    }
+    let n = points.len();
+    write(&[u64::from(is_outline(&xs[..n], &ys[..n], claim))], out)
 }

@@ -12,7 +12,7 @@ const PAGE: usize = 4096;
 const LEAST_PAGES: usize = 4;
 const MOST_PAGES: usize = 1024;
 
-const CALLS: [&str; 13] = [
+const CALLS: [&str; 14] = [
     "report, 65,536 bytes",
     "report, 65,537 bytes (number 9)",
     "check, 512 points",
@@ -25,6 +25,7 @@ const CALLS: [&str; 13] = [
     "write the outline, 512 corners",
     "read the outline, 512 corners",
     "area, 512 points",
+    "mark a right claim, 512 corners",
     "line",
 ];
 
@@ -64,6 +65,10 @@ fn call(name: &str) -> Option<Box<dyn FnOnce() -> u32 + Send>> {
             Box::new(move || raw::read_outline(&text, &mut out, &mut length))
         }
         "area, 512 points" => Box::new(move || raw::area(&file, 0, &mut [0])),
+        "mark a right claim, 512 corners" => {
+            let (points, claim) = inputs::claim(&points);
+            Box::new(move || raw::mark(&points, &claim, &mut [0]))
+        }
         "line" => Box::new(|| raw::line(LINE, &mut [0; 2])),
         _ => return None,
     })

@@ -191,6 +191,58 @@ fn the_yardstick_is_right_on_outlines() {
     }
 }
 
+fn compare_mark(points: &[i64], claim: &[u64]) {
+    let expected = reference::mark(points, claim);
+    assert_eq!(plain::mark(points, claim, &mut []), expected.err().unwrap_or(10));
+    let mut out = [7, 7];
+    let got = plain::mark(points, claim, &mut out);
+    number(expected, |is_right| assert_eq!(out, [u64::from(is_right), 7]), got);
+}
+
+#[test]
+fn the_yardstick_is_right_on_marks() {
+    let mut state = 9;
+    for drawn in 0..40_000 {
+        // the widest goes one beyond the range
+        let width = [1, 3, 100, LIMIT + 1][drawn % 4];
+        let mut coordinate = || below(&mut state, 2 * width as u64 + 1) as i64 - width;
+        let mut points: Vec<i64> = (0..drawn / 4 % 16).map(|_| coordinate()).collect();
+        let mut map = Map::empty();
+        let is_new = |pair: &&[i64]| map.offer(Point::new(pair[0], pair[1])).is_ok();
+        if drawn % 8 > 0 {
+            points = points.chunks_exact(2).filter(is_new).flatten().copied().collect();
+        }
+        let mut claim: Vec<u64> = map.corners().into_iter().map(|k| k as u64).collect();
+        let start = drawn % claim.len().max(1);
+        claim.rotate_left(start);
+        compare_mark(&points, &claim);
+        // a number put in, taken out or changed
+        let place = below(&mut state, claim.len() as u64 + 1) as usize;
+        let number = below(&mut state, points.len() as u64 / 2 + 2);
+        match drawn % 3 {
+            0 => claim.insert(place, number),
+            _ if place == claim.len() => claim.extend(claim.clone()),
+            1 => claim[place] = number,
+            _ => drop(claim.remove(place)),
+        }
+        compare_mark(&points, &claim);
+        claim.reverse();
+        compare_mark(&points, &claim);
+    }
+    for corners in [511, 512, 513, 600] {
+        let mut points: Vec<i64> = (0..corners).flat_map(|x| [x, x * x]).collect();
+        let mut claim: Vec<u64> = (0..corners as u64).collect();
+        compare_mark(&points, &claim);
+        claim.swap(509, 510);
+        compare_mark(&points, &claim);
+        for (x, y) in [(0, 0), (LIMIT + 1, 0)] {
+            points.truncate(2 * corners as usize - 2);
+            points.extend([x, y]);
+            compare_mark(&points, &claim);
+        }
+    }
+}
+
 #[test]
 fn the_yardstick_is_right_on_texts() {
     let mut state = 6;

@@ -12,8 +12,8 @@
 #include <stdio.h>
 #include <string.h>
 
-#if REACH_HEADER_VERSION != 5
-#error "this program is for version 5 of reach.h"
+#if REACH_HEADER_VERSION != 6
+#error "this program is for version 6 of reach.h"
 #endif
 
 static int values, differences;
@@ -38,6 +38,9 @@ static uint64_t out[REACH_POINTS], length[1];
 static int64_t number[2 * REACH_POINTS];
 static uint8_t text[REACH_TEXT_LIMIT + 1], printed[REACH_REPORT_BYTES(REACH_TEXT_LIMIT)];
 static uint8_t outline[REACH_OUTLINE_BYTES];
+
+/* Points that claims are made on: the session's at first, with room for more than are accepted. */
+static int64_t points[2 * REACH_POINTS + 3] = {0, 0, 4, 0, 1, 3, 5, 4, 2, 1, 6, 7};
 
 /* Offers a point; the map is then the one after it. Its arrival is in out. */
 static uint32_t offer(int64_t x, int64_t y) {
@@ -96,6 +99,34 @@ static void measures_not(size_t n, uint64_t place, uint32_t refusal) {
     }
     IS(number[0], -1);
     IS(number[1], -1);
+}
+
+/* A claim on the first n numbers of the points: it is marked so, and the tail of the list stays. */
+static void marks(size_t n, const uint64_t *claim, size_t m, uint64_t expected) {
+    out[0] = out[1] = 9;
+    IS(reach_mark(points, n, claim, m, out, 1), 0);
+    IS(out[0], expected);
+    out[0] = 9;
+    IS(reach_mark(points, n, claim, m, out, 2), 0);
+    IS(out[0], expected);
+    IS(out[1], 9);
+    out[0] = 9;
+    IS(reach_mark(points, n, claim, m, out, 0), REACH_SHORT_LIST);
+    IS(reach_mark(points, n, claim, m, NULL, 0), REACH_SHORT_LIST);
+    IS(out[0], 9);
+}
+
+/* The first n numbers of the points are refused, whatever is claimed: the list stays. */
+static void marks_not(size_t n, uint32_t refusal) {
+    static const uint64_t claim[] = {0, UINT64_MAX};
+    out[0] = out[1] = 9;
+    for (size_t m = 0; m <= 2; m++) {
+        for (size_t k = 0; k <= 2; k++) {
+            IS(reach_mark(points, n, claim, m, out, k), refusal);
+        }
+    }
+    IS(out[0], 9);
+    IS(out[1], 9);
 }
 
 static void without_points(void) {
@@ -320,6 +351,51 @@ static void areas(void) {
     measures_not(bytes, 4, REACH_NO_DART);
 }
 
+/* Claims on the session, on fewer points and on as many as there may be; then refused points. */
+static void claims(void) {
+    static const uint64_t listing[] = {0, 1, 5, 2, 0, 1, 5, 2}, clockwise[] = {2, 5, 1, 0};
+    static const uint64_t beyond[] = {0, 1, 5, 6}, wide[] = {UINT64_C(1) << 32, 1, 5, 2};
+    static uint64_t all[REACH_POINTS];
+    const size_t most = 2 * REACH_POINTS;
+    for (size_t i = 0; i <= 4; i++) {
+        marks(12, listing + i, 4, REACH_RIGHT);
+        marks(13, listing + i, 4, REACH_RIGHT);
+        marks(12, listing + i, 3, REACH_WRONG);
+    }
+    marks(12, listing, 8, REACH_WRONG);
+    marks(12, clockwise, 4, REACH_WRONG);
+    marks(12, beyond, 4, REACH_WRONG);
+    marks(12, wide, 4, REACH_WRONG);
+    marks(12, NULL, 0, REACH_WRONG);
+    marks(4, listing, 2, REACH_RIGHT);
+    marks(2, listing, 1, REACH_RIGHT);
+    marks(2, NULL, 0, REACH_WRONG);
+    marks(1, NULL, 0, REACH_RIGHT);
+    marks(0, listing, 1, REACH_WRONG);
+    out[0] = REACH_WRONG;
+    IS(reach_mark(NULL, 0, NULL, 0, out, 1), 0);
+    IS(out[0], REACH_RIGHT);
+    for (int64_t k = 0; k <= REACH_POINTS; k++) {
+        points[2 * k] = k;
+        points[2 * k + 1] = k * k;
+    }
+    for (uint64_t k = 0; k < REACH_POINTS; k++) {
+        all[k] = k;
+    }
+    marks(most, all, REACH_POINTS, REACH_RIGHT);
+    marks(most + 1, all, REACH_POINTS, REACH_RIGHT);
+    marks(most, all, REACH_POINTS - 1, REACH_WRONG);
+    marks_not(most + 2, REACH_FULL);
+    points[most] = points[most + 1] = 0;
+    marks_not(most + 2, REACH_FULL);
+    points[most - 1] = REACH_COORDINATE_LIMIT + INT64_C(1);
+    marks_not(most, REACH_OUT_OF_RANGE);
+    points[4] = points[5] = 1;
+    marks_not(most, REACH_REPEATED);
+    points[2] = INT64_MIN;
+    marks_not(most + 3, REACH_OUT_OF_RANGE);
+}
+
 /* Marks along a rail: beyond an end, beyond the other, between them, beside the rail. */
 static void rail(void) {
     bytes = REACH_EMPTY_BYTES;
@@ -404,7 +480,8 @@ int main(void) {
         {REACH_CALL_STACK, walks},          {REACH_CALL_STACK, places},
         {REACH_CALL_STACK, numbers},        {REACH_REPORT_STACK, reports},
         {REACH_CALL_STACK, outlines},       {REACH_CALL_STACK, areas},
-        {REACH_CALL_STACK, rail},           {REACH_CALL_STACK, full},
+        {REACH_CALL_STACK, claims},         {REACH_CALL_STACK, rail},
+        {REACH_CALL_STACK, full},
     };
     for (size_t i = 0; i < sizeof parts / sizeof parts[0]; i++) {
         pthread_attr_t attributes;

@@ -16,10 +16,10 @@
  * The length that goes with a map is the map's own number of bytes, not that of the buffer it lies
  * in: bytes after the map are refused as REACH_BAD_FILE.
  *
- * A list may not overlap another of the same call. A map, a line and a text are lists too: the
- * bytes after an offer go into another buffer than the map that is offered to. The pointer of a
- * list of no elements may be null. The functions keep no state and may be called from several
- * threads, whose stacks have the sizes below.
+ * A list may not overlap another of the same call. A map, a line, a text, points and a claim are
+ * lists too: the bytes after an offer go into another buffer than the map that is offered to. The
+ * pointer of a list of no elements may be null. The functions keep no state and may be called from
+ * several threads, whose stacks have the sizes below.
  */
 #ifndef REACH_H
 #define REACH_H
@@ -33,7 +33,7 @@
 
 /* The version of this header: it grows with each change of a function, a number, a limit or the
    saved form. */
-#define REACH_HEADER_VERSION 5
+#define REACH_HEADER_VERSION 6
 
 #ifdef __cplusplus
 extern "C" {
@@ -71,6 +71,9 @@ enum {
     REACH_PLACED_INSIDE = 3,
     REACH_PLACED_OUTSIDE = 4
 };
+
+/* The mark of a claim. */
+enum { REACH_WRONG = 0, REACH_RIGHT = 1 };
 
 /* The limits of points, darts, coordinates (from -REACH_COORDINATE_LIMIT to REACH_COORDINATE_LIMIT)
    and bytes of a text. They are of type int, which holds twice the limit of coordinates and not
@@ -229,6 +232,16 @@ uint32_t reach_read_outline(const uint8_t *text, size_t n, int64_t *out, size_t 
    else a place that is not below the number of corners is refused as REACH_NO_DART. Refusals: 7, 1,
    6, 10. */
 uint32_t reach_area(const uint8_t *map, size_t n, uint64_t place, int64_t *out, size_t m);
+
+/* Marks a claim on points, and writes REACH_RIGHT or REACH_WRONG to out[0]. The points are n
+   numbers, x and y in turn; an odd last number names no point. The claim is m point numbers: it is
+   right where it is the listing of reach_corners, begun at any corner, for the map that these
+   points build, offered one after another to the map without points. Without points the empty claim
+   is right. A claim with a number that no point has is wrong. Where the points are not all
+   accepted, the first refusal met is returned, whatever is claimed. Refusals: 2, 3, 4 of each point
+   in turn, 10. */
+uint32_t reach_mark(const int64_t *points, size_t n, const uint64_t *claim, size_t m, uint64_t *out,
+                    size_t k);
 
 #ifdef __cplusplus
 }

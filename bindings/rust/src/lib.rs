@@ -2,8 +2,8 @@
 //!
 //! The engine is written in Rattle and proved: every function meets its contract for every
 //! argument. This crate calls it safely. [`Map`] is where to begin; [`orientation`], [`read_line`],
-//! [`read_outline`] and [`report`] need no map. What cannot be served is a [`Refusal`], which has a
-//! number and words.
+//! [`read_outline`], [`report`] and [`mark`] need no map. What cannot be served is a [`Refusal`],
+//! which has a number and words.
 //!
 //! ```
 //! use reach::{Map, Point};
@@ -159,6 +159,34 @@ pub fn read_outline(text: &[u8]) -> Result<Vec<Point>, Refusal> {
     Refusal::of(raw::read_outline(text, &mut numbers, &mut length))?;
     let numbers = &numbers[..usize::try_from(length[0]).expect("the length of a list")];
     Ok(numbers.chunks_exact(2).map(|pair| Point { x: pair[0], y: pair[1] }).collect())
+}
+
+/// Whether a claim on points is right: it lists the corners of the map that these points build,
+/// offered one after another, as [`Map::corners`] does or begun at another corner. Without points
+/// the empty claim is right. No map is built.
+///
+/// # Errors
+///
+/// The first refusal met where the points are not all accepted: [`Refusal::Full`],
+/// [`Refusal::OutOfRange`] or [`Refusal::Repeated`], whatever is claimed.
+///
+/// ```
+/// use reach::{Point, Refusal, mark};
+///
+/// let session = [(0, 0), (4, 0), (1, 3), (5, 4), (2, 1), (6, 7)].map(|(x, y)| Point { x, y });
+/// assert_eq!(mark(&session, &[0, 1, 5, 2]), Ok(true));
+/// assert_eq!(mark(&session, &[5, 2, 0, 1]), Ok(true));
+/// assert_eq!(mark(&session, &[2, 5, 1, 0]), Ok(false));
+/// assert_eq!(mark(&session, &[0, 1, 5, 6]), Ok(false));
+/// assert_eq!(mark(&[], &[]), Ok(true));
+/// assert_eq!(mark(&[session[0]; 2], &[0]), Err(Refusal::Repeated));
+/// ```
+pub fn mark(points: &[Point], claim: &[usize]) -> Result<bool, Refusal> {
+    let coordinates: Vec<i64> = points.iter().flat_map(|point| [point.x, point.y]).collect();
+    let claim: Vec<u64> = claim.iter().map(|&number| number as u64).collect();
+    let mut out = [0];
+    Refusal::of(raw::mark(&coordinates, &claim, &mut out))?;
+    Ok(out[0] == 1)
 }
 
 #[cfg(doctest)]

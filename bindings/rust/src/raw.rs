@@ -118,6 +118,14 @@ mod engine {
             k: usize,
         ) -> u32;
         pub fn reach_area(map: *const u8, n: usize, place: u64, out: *mut i64, m: usize) -> u32;
+        pub fn reach_mark(
+            points: *const i64,
+            n: usize,
+            claim: *const u64,
+            m: usize,
+            out: *mut u64,
+            k: usize,
+        ) -> u32;
     }
 }
 
@@ -221,4 +229,11 @@ pub fn read_outline(text: &[u8], out: &mut [i64], length: &mut [u64]) -> u32 {
 /// 7, 1, 6, 10: twice the outline's area.
 pub fn area(map: &[u8], place: u64, out: &mut [i64]) -> u32 {
     unsafe { engine::reach_area(map.as_ptr(), map.len(), place, out.as_mut_ptr(), out.len()) }
+}
+
+/// 2, 3, 4 of each point in turn, 10: whether a claim on points, x and y in turn, is right.
+pub fn mark(points: &[i64], claim: &[u64], out: &mut [u64]) -> u32 {
+    let (numbers, m) = (claim.as_ptr(), claim.len());
+    let (list, k) = (out.as_mut_ptr(), out.len());
+    unsafe { engine::reach_mark(points.as_ptr(), points.len(), numbers, m, list, k) }
 }

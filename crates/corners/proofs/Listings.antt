@@ -47,7 +47,7 @@ elem-at (x ∷ s) zero d h = elem-head x s
 elem-at (x ∷ s) (suc i) d h = elem-tail (getD s i d) x s (elem-at s i d (le-of-suc-le-suc h))
 
 -- .. and no other place has it, where no member stands twice
-places-differ : (s : List ℕ) → T (distinct s) → (i j d : ℕ) → i < length s → j < length s → i ≢ j →
+pub places-differ : (s : List ℕ) → T (distinct s) → (i j d : ℕ) → i < length s → j < length s → i ≢ j →
     getD s i d ≢ getD s j d
 unfolding distinct
 places-differ [] t i j d h k n = absurd (not-suc-le-zero h)
@@ -217,7 +217,7 @@ listing-listable {m} s = (
 -- ---- the points of a listable list differ
 
 -- nothing is beside an edge from a point to itself, and its start is not beside an edge
-not-beside-point : (x z : Point) → ¬ T (beside x x z)
+pub not-beside-point : (x z : Point) → ¬ T (beside x x z)
 not-beside-point x z t = between-ends-differ x x z (beside-zero x x z t (orientation-twice x z)) refl
 
 not-beside-start : (x y : Point) → ¬ T (beside x y x)

@@ -66,7 +66,7 @@ module _ {A : Type 0} {rules : List Rule} {result before after : List A} {r : Wr
           RulesDecide Written.Refused (writing rules result before .rules) (Written.Length (length result)) x →
           r ≡ x → n ≤ length after
       go x (refuses y _) e = absurd (let z : _≡_ {A = ℕ} 0 1 = cc in omega arith)
-      go x (serves none) e =
+      go x (serves free) e =
           let size : length result ≡ n = cc in
-          let held : after ≡ over result before = wrote .list ∙ unless-none (λ y. before) (over result before) none in
+          let held : after ≡ over result before = wrote .list ∙ unless-none (λ y. before) (over result before) free in
           omega (arith, simp length-append at (ap length held))

@@ -1,7 +1,7 @@
 -- The laws of membership and of tests over lists, in the order of this page: a member of a list; a
 -- test that passes at all members; membership in what is put together; a member that cuts its list
--- in two; the members of a list place by place; the sum of what is put together. No number of
--- members is compared here: that is Distinct.
+-- in two; the members of a list place by place; the test that two lists are the same; the sum of what
+-- is put together. No number of members is compared here: that is Distinct.
 use mathlib.Core.Path.{_≡_, refl, sym, ap, subst, _∙_}
 use mathlib.Core.Logic.{_⊎_, inl, inr, ⊎-elim}
 use mathlib.Core.Bool.{Bool, not, _&&_}
@@ -13,7 +13,7 @@ use lib.Dec.{T, eqb, eqb→eq, eqb-refl, T-not}
 use lib.ListN.{length, getD}
 use Rattle.finite.specs.Tests.{and-left, and-right, and-both, or-cases, or-left, or-right}
 use Rattle.finite.specs.Tests.{decide, is-true, is-false, and-true, and-assoc}
-use Rattle.finite.specs.Lists.{elem, all-in, all-places, total, insert, union}
+use Rattle.finite.specs.Lists.{elem, same-list, all-in, all-places, total, insert, union}
 
 -- ---- a member
 
@@ -238,6 +238,23 @@ module _ {ℓ} {A : Type ℓ} where
   getD-any [] k d e h = absurd (not-suc-le-zero h)
   getD-any (x ∷ s) zero d e h = refl
   getD-any (x ∷ s) (suc k) d e h = getD-any s k d e (le-of-suc-le-suc h)
+
+-- ---- two lists: the test that they are the same, and the statement
+
+pub same-list-eq : (s t : List ℕ) → T (same-list s t) → s ≡ t
+unfolding same-list
+same-list-eq [] [] h = refl
+same-list-eq [] (y ∷ t) h = absurd h
+same-list-eq (x ∷ s) [] h = absurd h
+same-list-eq (x ∷ s) (y ∷ t) h =
+    rw (eqb→eq x y (and-left (eqb x y) (same-list s t) h), same-list-eq s t (and-right (eqb x y) (same-list s t) h))
+
+pub same-list-refl : (s : List ℕ) → T (same-list s s)
+unfolding same-list
+same-list-refl [] = tt
+same-list-refl (x ∷ s) = and-both (eqb x x) (same-list s s) (eqb-refl x) (same-list-refl s)
+
+-- ---- the sum of what is put together
 
 pub total-append : (s t : List ℕ) → total (s ++ t) ≡ total s + total t
 unfolding total

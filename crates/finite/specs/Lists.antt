@@ -1,5 +1,5 @@
--- What is asked of lists, in the order of this page: membership of a number; all, any, the count
--- and the first of the members that pass a test; what stands before and after a number; the sum; a
+-- What is asked of lists, in the order of this page: membership of a number; whether two lists are the
+-- same; all, any, the count and the first of the members that pass a test; what stands before and after a number; the sum; a
 -- ring of numbers; the union of two lists without repetition; lists in which no member stands
 -- twice, and the list of all that pass a test below a bound. The prover runs every one of them.
 -- This page has the definitions alone: their laws stand in ListLaws, Distinct, FirstPassing and
@@ -14,6 +14,13 @@ use Rattle.finite.specs.Bounded.{one-if}
 unfoldable pub elem : ℕ → List ℕ → Bool
 elem x [] = false
 elem x (y ∷ s) = eqb x y || elem x s
+
+-- the same numbers in the same order
+unfoldable pub same-list : List ℕ → List ℕ → Bool
+same-list [] [] = true
+same-list [] (y ∷ t) = false
+same-list (x ∷ s) [] = false
+same-list (x ∷ s) (y ∷ t) = eqb x y && same-list s t
 
 module _ {ℓ} {A : Type ℓ} where
   -- p passes at every member

@@ -1,11 +1,13 @@
 -- Rings read place by place, in the order of this page: a ring is its first member and the ring
--- from the next one; it has no more members than it may have; the member after a place of a cycle.
+-- from the next one; it has no more members than it may have; the member after a place of a cycle, and a
+-- list round which that leads.
 use mathlib.Core.Path.{_≡_, sym, ap, subst, _∙_}
 use mathlib.Core.Logic.{_≢_, ⊎-elim}
 use mathlib.Core.Bool.{Bool, true, false, cond}
 use mathlib.Core.List.{List, [], _∷_, _++_}
 use Prim.Native.Nat.{ℕ, zero, suc, _+_, _-_, _%_, _≤_, _<_}
 use native.Mathlib.Nat.{not-suc-le-zero, le-of-suc-le-suc, mod-eq-of-lt, mod-self}
+use native.Mathlib.Numerals.{add-one}
 use native.Mathlib.Omega.{arith}
 use lib.Dec.{eqb}
 use lib.ListN.{length, getD, length-append, List·getD-append}
@@ -80,3 +82,23 @@ module _ {A : Type 0} (E : A → A → Type 0) where
           ∙ ap (λ (j : ℕ). getD (a ∷ s) j d)
           (sym (ap (λ (j : ℕ). j % suc (length s)) w ∙ mod-self (suc (length s)))))
           (lt-or-ge (i + 1) (suc (length s)))
+
+  -- the other way round: what holds from each place to the next, and from the last one to x, holds along the list and
+  -- on to x ..
+  chain-by : (x a : A) (s : List A) (d : A) → ((i : ℕ) → i < length s → E (getD (a ∷ s) i d) (getD s i d)) →
+      E (getD (a ∷ s) (length s) d) x → Chain E (a ∷ s ++ x ∷ [])
+  unfolding Chain
+  chain-by x a [] d f last = (last, tt)
+  chain-by x a (b ∷ s) d f last = (f 0 (omega arith), chain-by x b s d (λ i h. f (suc i) (omega arith)) last)
+
+  -- .. and round it, where x is the first
+  pub cycle-by : (s : List A) (d : A) → ((i : ℕ) → i < length s → E (getD s i d) (getD s ((i + 1) % length s) d)) →
+      Cycle E s
+  unfolding Cycle
+  cycle-by [] d f = tt
+  cycle-by (a ∷ s) d f =
+      chain-by a a s d
+      (λ i h.
+      let next : i + 1 < suc (length s) = omega arith in
+      rw (mod-eq-of-lt next, add-one i) at (f i (omega arith)))
+      (rw (add-one (length s), mod-self (suc (length s))) at (f (length s) (omega arith)))

@@ -6,7 +6,7 @@ use mathlib.Core.Bool.{Bool, true, false, not, cond}
 use mathlib.Core.List.{[]}
 use Prim.Native.Nat.{_≤_, _<_}
 use native.Mathlib.Omega.{arith}
-use lib.Dec.{T-not, ltb}
+use lib.Dec.{ltb}
 use lib.ListN.{length}
 use Rattle.finite.specs.Tests.{is-true}
 use Rattle.finite.specs.Distinct.{count-in-most}
@@ -18,7 +18,6 @@ use Rattle.model.specs.declared.Map.{Map}
 use Rattle.model.specs.Maps.{point-limit, owner, point}
 use Rattle.model.specs.Sound.{sound, Shaped}
 use Rattle.model.specs.Outline.{next-corner, outline, corners-from, visible-edges, sees}
-use Rattle.model.specs.Refusals.{nor}
 use Rattle.model.specs.Reading.{unsound}
 use Rattle.model.specs.Arrival.{arrive, refusing, admission-rules, is-repeated, left-corner, right-corner}
 use Rattle.model.specs.Offers.{offer}
@@ -28,7 +27,7 @@ use Rattle.maps.specs.Places.{PlacesFor}
 use Rattle.admission.specs.Admission.{admission-by}
 use Rattle.hull.specs.Requires.{Accepted}
 use Rattle.hull.proofs.Indices.{spliceable}
-use Rattle.hull.proofs.Outcomes.{accepted-by}
+use Rattle.hull.proofs.Building.{accepted-sound}
 
 not-sound : {m : Map} → Shaped m → not (sound m) ≡ false
 not-sound {m} s = ap not (is-true (sound m) (sound-by m s))
@@ -54,9 +53,7 @@ module _ {m : Map} (s : Shaped m) (p : Point) where
 
     pub admission-accepted : Accepted m p
     unfolding admission-by is-repeated point
-    admission-accepted =
-        accepted-by m p
-        (nor (λ t. T-not (sound m) t (sound-by m s)) (served-none (admission-rules m p) e))
+    admission-accepted = accepted-sound s p (served-none (admission-rules m p) e)
 
 -- ---- how large the numbers are that an arrival reports
 

@@ -1,7 +1,7 @@
 -- A survey of points that all differ, in the order of this page: points of which no two are equal; a point
 -- that no condition refuses is not refused; one such offer adds its point after the points of the map; so
 -- different points in range, no more than there is room for, are not refused, and in their order they are
--- the map's points (`built`).
+-- the map's points (`points-kept`).
 use mathlib.Core.Path.{_≡_, sym, ap, subst, _∙_}
 use mathlib.Core.Logic.{_≢_}
 use mathlib.Core.List.{List, [], _∷_, _++_, append-assoc, append-nil}
@@ -18,15 +18,15 @@ use Rattle.model.specs.declared.Map.{Map}
 use Rattle.model.specs.Refusals.{NoneApplies, none, nor}
 use Rattle.model.specs.Plane.{origin, in-range}
 use Rattle.model.specs.Maps.{point-limit, point, empty-map}
-use Rattle.model.specs.Sound.{sound, Shaped}
-use Rattle.model.specs.Arrival.{arrive, is-repeated, refusing}
-use Rattle.model.specs.Offers.{offer-rules, offer}
+use Rattle.model.specs.Sound.{Shaped}
+use Rattle.model.specs.Arrival.{arrive, is-repeated, admission-rules, refusing}
+use Rattle.model.specs.Offers.{offer}
 use Rattle.model.specs.History.{Run, extended, run-from, run}
-use Rattle.model.proofs.Sound.{sound-by, same-point-eq}
+use Rattle.model.proofs.Sound.{same-point-eq}
 use Rattle.model.proofs.Answers.{unless-none}
 use Rattle.maps.proofs.Empty.{empty-sound}
 use Rattle.hull.specs.Requires.{Accepted}
-use Rattle.hull.proofs.Outcomes.{arrive-arrives}
+use Rattle.hull.proofs.Outcomes.{sound-passes, arrive-arrives}
 use Rattle.hull.proofs.History.{Adds, arrival-adds}
 
 -- no two of the points are equal
@@ -40,22 +40,21 @@ map-points m = table (m .count) (point m)
 -- ---- a point that no condition refuses
 
 module _ {m : Map} {p : Point} (a : Accepted m p) where
-  none-applies : NoneApplies (offer-rules m p)
+  pub none-applies : NoneApplies (admission-rules m p)
   unfolding is-repeated
   none-applies =
       let not-full : ¬ T (leb point-limit (m .count)) = λ t. omega (arith, leb→le point-limit (m .count) t) in
-      nor (λ t. T-not (sound m) t (sound-by m (a .is-sound)))
-      (nor not-full
+      nor not-full
       (nor (λ t. T-not (in-range p) t (a .ranged))
       (nor
       (λ t.
       let found = any-at (m .count) _ t in
       a .fresh (found .0) (found .1) (same-point-eq (point m (found .0)) p (found .2)))
-      none)))
+      none))
 
   pub not-refused : offer m p ≡ arrive m p
   unfolding offer
-  not-refused = unless-none (refusing m) (arrive m p) none-applies
+  not-refused = unless-none (refusing m) (arrive m p) (nor (sound-passes (a .is-sound)) none-applies)
 
   offer-adds : Adds m p (offer m p)
   offer-adds = subst (Adds m p) (sym not-refused) (arrival-adds m p a (arrive m p) (arrive-arrives m p))
@@ -94,14 +93,14 @@ built-from r s (p ∷ ps) room ranged different =
 
 -- from the empty map none is refused, and they are the map's points in order
 module _ (ps : List Point) (few : length ps ≤ point-limit) (ranged : T (all-in in-range ps)) (different : Different ps) where
-  pub built : map-points (run ps .map) ≡ ps
+  pub points-kept : map-points (run ps .map) ≡ ps
   unfolding run table table-onto empty-map
-  built = built-from (record { map = empty-map; history = [] }) empty-sound ps (omega arith) ranged different
+  points-kept = built-from (record { map = empty-map; history = [] }) empty-sound ps (omega arith) ranged different
 
   pub built-count : run ps .map .count ≡ length ps
-  built-count = sym (length-table (run ps .map .count) (point (run ps .map))) ∙ ap length built
+  built-count = sym (length-table (run ps .map .count) (point (run ps .map))) ∙ ap length points-kept
 
   pub built-point : (k : ℕ) → k < length ps → point (run ps .map) k ≡ getD ps k origin
   built-point k h =
       sym (getD-table (run ps .map .count) (point (run ps .map)) k origin (rw built-count h))
-      ∙ ap (λ (s : List Point). getD s k origin) built
+      ∙ ap (λ (s : List Point). getD s k origin) points-kept

@@ -1,8 +1,8 @@
 -- Demand 3 as one theorem: after every list of offers from the empty map all of its claims hold
 -- (`always-balanced`). What every offer keeps is the record `Invariant`; from it follow the claims, by the
--- laws of sound maps. In the order of this page: one induction over runs, for any property that every
--- arrival keeps (`run-keeps`); the invariant; the start; one accepted offer; every list of offers; the
--- claims; a refused offer.
+-- laws of sound maps. In the order of this page: what one offer makes of a run (`offer-either`), and one
+-- induction over runs, for any property that every arrival keeps (`run-keeps`); the invariant; the start; one
+-- accepted offer; every list of offers; the claims; a refused offer.
 use mathlib.Core.Path.{_≡_, refl, sym, ap, subst, _∙_}
 use mathlib.Core.Logic.{_≢_, ⊎-elim}
 use mathlib.Core.Bool.{Bool, cond}
@@ -15,14 +15,16 @@ use Rattle.finite.specs.Tests.{is-true, is-false, same-or-not}
 use Rattle.finite.specs.Bounded.{one-if, table, table-onto, table-more, table-same, lt-or-ge}
 use Rattle.finite.specs.Lists.{distinct, count-in, total}
 use Rattle.finite.specs.ListLaws.{total-append}
+use Rattle.model.specs.declared.Refusal.{Refusal}
 use Rattle.model.specs.declared.Point.{Point}
 use Rattle.model.specs.declared.Map.{Map}
 use Rattle.model.specs.declared.Offered.{Offered}
+use Rattle.model.specs.Refusals.{Refuses}
 use Rattle.model.specs.Maps.{point, empty-map}
 use Rattle.model.specs.Outline.{outline, sees, visible-edges}
 use Rattle.model.specs.Sound.{Shaped}
 use Rattle.model.specs.Arrival.{with-point, alone, pair, spliced, arrive}
-use Rattle.model.specs.Offers.{offer}
+use Rattle.model.specs.Offers.{offer-rules, offer}
 use Rattle.model.specs.History.{Entry, Run, is-accepted, extended, run-from, run, offered-point, reported, reported-edges, edges-seen, is-outside, outside-arrivals, Balanced}
 use Rattle.maps.proofs.Darts.{point-twice}
 use Rattle.maps.proofs.Links.{counts-balance}
@@ -54,24 +56,35 @@ after-offer r p o =
       history = cond (is-accepted (o .arrival)) (with-entry r p o .history) (r .history);
     }
 
+-- what holds of the run with one entry more if the point is accepted, and of the run as it was if it is refused,
+-- holds after the offer
+module _ (Q : Run → Type 0) (r : Run) (p : Point)
+    (if-accepted : Accepted (r .map) p → Q (with-entry r p (arrive (r .map) p)))
+    (if-refused : (refusal : Refusal) → Refuses refusal (offer-rules (r .map) p) → Q r)
+  where
+    decided-either : (o : Offered) → Decided (r .map) p o → Q (after-offer r p o)
+    unfolding is-accepted
+    decided-either o (accepted a) =
+        let arrives = arrive-arrives (r .map) p in
+        rw (is-true (is-accepted (o .arrival)) (arrival-accepted (r .map) p o arrives)) (if-accepted a)
+    decided-either o (refused refusal first-rule) = if-refused refusal first-rule
+
+    pub offer-either : Q (extended r p)
+    unfolding extended
+    offer-either = decided-either (offer (r .map) p) (offer-decided (r .map) p)
+
 -- a property of runs that every arrival of an accepted point keeps
 module _ (Q : Run → Type 0)
     (keeps : (r : Run) → Q r → (p : Point) → Accepted (r .map) p → (o : Offered) → Arrives (r .map) p o → Q (with-entry r p o))
   where
-    -- every offer keeps it, since a refused one changes nothing ..
-    offer-keeps : (r : Run) → Q r → (p : Point) (o : Offered) → Decided (r .map) p o → Q (after-offer r p o)
-    unfolding is-accepted
-    offer-keeps r q p o (accepted a) =
-        let arrives = arrive-arrives (r .map) p in
-        rw (is-true (is-accepted (o .arrival)) (arrival-accepted (r .map) p o arrives)) (keeps r q p a o arrives)
-    offer-keeps r q p o (refused refusal first-rule) = q
-
-    -- .. so every list of offers keeps it, from any run on ..
+    -- every list of offers keeps it, from any run on, since a refused one changes nothing ..
     pub run-keeps-from : (r : Run) → Q r → (ps : List Point) → Q (run-from r ps)
-    unfolding run-from extended
+    unfolding run-from
     run-keeps-from r q [] = q
     run-keeps-from r q (p ∷ ps) =
-        run-keeps-from (extended r p) (offer-keeps r q p (offer (r .map) p) (offer-decided (r .map) p)) ps
+        let m = r .map in
+        run-keeps-from (extended r p)
+        (offer-either Q r p (λ a. keeps r q p a (arrive m p) (arrive-arrives m p)) (λ refusal first-rule. q)) ps
 
     -- .. and from the empty map
     pub run-keeps : Q (record { map = empty-map; history = [] }) → (ps : List Point) → Q (run ps)

@@ -7,6 +7,7 @@
 --     Theorems       what holds of offers and outlines, each under one name
 --     History        demand 3: `always-balanced`
 --     Built          points that all differ are not refused, and are the map's points
+--     Building       the rules and the map of model/Building are those of offers to the empty map
 --     Indices        what the code takes for an index lies within its array
 --     Seeing         the way round an outline on which a point looks for the corners where what it sees turns
 --     Admissions     from a sound map's coordinates to the offer of a point
@@ -18,6 +19,7 @@ pub mod Cases
 pub mod Theorems
 pub mod History
 pub mod Built
+pub mod Building
 pub mod Indices
 pub mod Seeing
 pub mod Admissions

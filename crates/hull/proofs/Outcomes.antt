@@ -6,7 +6,7 @@ use mathlib.Core.Bool.{Bool, cond}
 use Prim.Native.Nat.{ℕ, _≤_}
 use native.Mathlib.Omega.{arith}
 use borrow.Author.Tests.{eq-eqb, ne-eqb}
-use lib.Dec.{T, not-T, leb, eqb, nleb→lt}
+use lib.Dec.{T, T-not, not-T, leb, eqb, nleb→lt}
 use Rattle.finite.specs.Tests.{same-or-not, not-not}
 use Rattle.finite.specs.Bounded.{any-by}
 use Rattle.model.specs.declared.Refusal.{Refusal}
@@ -18,12 +18,13 @@ use Rattle.model.specs.Refusals.{number, unless, Refuses, NoneApplies, none, no
 use Rattle.model.specs.Answers.{arrival-answer}
 use Rattle.model.specs.Plane.{in-range}
 use Rattle.model.specs.Maps.{point-limit, point}
-use Rattle.model.specs.Sound.{sound}
+use Rattle.model.specs.Sound.{sound, Shaped}
 use Rattle.model.specs.Outline.{visible-edges}
+use Rattle.model.specs.Reading.{unsound}
 use Rattle.model.specs.Arrival.{left-corner, right-corner, alone, pair, spliced, arrived, later-point, arrive, is-repeated, refusing}
 use Rattle.model.specs.Offers.{offer-rules, offer}
 use Rattle.model.specs.History.{is-accepted}
-use Rattle.model.proofs.Sound.{sound-holds, same-point-by}
+use Rattle.model.proofs.Sound.{sound-holds, sound-by, same-point-by}
 use Rattle.model.proofs.Answers.{RulesDecide, refuses, serves, unless-decides, unless-made}
 use Rattle.hull.specs.Requires.{Accepted}
 
@@ -31,6 +32,10 @@ use Rattle.hull.specs.Requires.{Accepted}
 pub data Decided (m : Map) (p : Point) : Offered → Type 0 where
   accepted : Accepted m p → Decided m p (arrive m p)
   refused : (r : Refusal) → Refuses r (offer-rules m p) → Decided m p (refusing m r)
+
+-- a sound map passes the first rule
+pub sound-passes : {m : Map} → Shaped m → ¬ T (unsound m .applies)
+sound-passes {m} s t = T-not (sound m) t (sound-by m s)
 
 module _ (m : Map) (p : Point) where
   -- where no rule applies every condition of refusal fails

@@ -1,13 +1,14 @@
 -- The laws of calls, in the order of this page: the largest number; the first rule that applies decides;
--- rules that are checked by a function that answers an outcome; what is made of an answer is made of each
--- refusal and of the value, so an entry whose answer is that of the call means what it promises to mean.
+-- rules in two parts; rules that are checked by a function that answers an outcome; what is made of an answer
+-- is made of each refusal and of the value, so an entry whose answer is that of the call means what it
+-- promises to mean.
 use mathlib.Core.Path.{_≡_, refl, ap, subst, _∙_}
 use mathlib.Core.Bool.{Bool, true, false, cond}
 use mathlib.Core.List.{List, [], _∷_, _++_}
 use Prim.Native.Nat.{ℕ, _≤_}
 use native.Mathlib.Omega.{arith}
 use lib.Dec.{T}
-use Rattle.finite.specs.Tests.{of-true, is-false}
+use Rattle.finite.specs.Tests.{of-true, is-true, is-false}
 use Rattle.model.specs.declared.Refusal.{Refusal}
 use Rattle.model.specs.declared.Outcome.{Outcome}
 use Rattle.model.specs.Refusals.{number, Rule, unless, Refuses, at-once, later, NoneApplies, none, nor}
@@ -70,13 +71,46 @@ unfolding unless
 unless-none refuse a none = refl
 unless-none refuse a (nor {rule} n rest) = rw (is-false (rule .applies) n) (unless-none refuse a rest)
 
--- rules in two parts
+-- where one applies first, its refusal
+pub unless-refuses : {A : Type 0} (refuse : Refusal → A) (a : A) {r : Refusal} {rules : List Rule} → Refuses r rules →
+    unless refuse rules a ≡ refuse r
+unfolding unless
+unless-refuses refuse a (at-once {rule} t e) = rw (is-true (rule .applies) t) (ap refuse e)
+unless-refuses refuse a (later {rule} n first) = rw (is-false (rule .applies) n) (unless-refuses refuse a first)
+
+-- where a rule applies, it is not so that none does
+pub refuses-some : {r : Refusal} {rules : List Rule} → Refuses r rules → ¬ NoneApplies rules
+refuses-some (at-once t e) (nor n rest) = n t
+refuses-some (later n first) (nor n′ rest) = refuses-some first rest
+
+-- ---- rules in two parts
+
 pub unless-append : {A : Type 0} (f : Refusal → A) (rules more : List Rule) (a : A) →
     unless f (rules ++ more) a ≡ unless f rules (unless f more a)
 unfolding unless
 unless-append f [] more a = refl
 unless-append f (rule ∷ rules) more a =
     ap (cond (rule .applies) (f (rule .refusal))) (unless-append f rules more a)
+
+-- none applies just where none of either part does
+pub none-append : {rules more : List Rule} → NoneApplies rules → NoneApplies more → NoneApplies (rules ++ more)
+none-append none f = f
+none-append (nor n rest) f = nor n (none-append rest f)
+
+pub none-both : (rules : List Rule) {more : List Rule} → NoneApplies (rules ++ more) →
+    NoneApplies rules × NoneApplies more
+none-both [] f = (none, f)
+none-both (rule ∷ rules) (nor n rest) = let both = none-both rules rest in (nor n (both .0), both .1)
+
+-- the first rule that applies stands in the first part, or in the second where none of the first applies
+pub refuses-front : {r : Refusal} {rules : List Rule} → Refuses r rules → (more : List Rule) → Refuses r (rules ++ more)
+refuses-front (at-once t e) more = at-once t e
+refuses-front (later n first) more = later n (refuses-front first more)
+
+pub refuses-later : {r : Refusal} {rules more : List Rule} → NoneApplies rules → Refuses r more →
+    Refuses r (rules ++ more)
+refuses-later none first = first
+refuses-later (nor n rest) first = later n (refuses-later rest first)
 
 -- ---- rules that are checked first, by a function that answers an outcome
 

@@ -2,7 +2,7 @@
 -- served; a word for it; and its values in the document's order. Then a call of the engine, with its
 -- rules and its value, and what every entry promises of its answer.
 -- The words of arrivals, refusals, counts, endings and places are document 01's; `orientation`, `orbit`,
--- `served`, `dart`, `area`, `length` and `point` are ours, and nothing prints them.
+-- `served`, `dart`, `area`, `right`, `wrong`, `length` and `point` are ours, and nothing prints them.
 use mathlib.Core.Path.{_≡_}
 use mathlib.Core.List.{List, [], _∷_, _++_, map}
 use Prim.Native.Nat.{ℕ}
@@ -20,6 +20,7 @@ use Rattle.model.specs.declared.Walked.{Walked}
 use Rattle.model.specs.declared.Moved.{Moved}
 use Rattle.model.specs.declared.Placed.{Placed}
 use Rattle.model.specs.declared.Doubled.{Doubled}
+use Rattle.model.specs.declared.Marked.{Marked}
 use Rattle.model.specs.declared.Written.{Written}
 use Rattle.model.specs.declared.Line.{Line}
 use Rattle.model.specs.Refusals.{number, Rule, unless}
@@ -91,6 +92,11 @@ placed-answer (Placed.Refused r) = refused r
 unfoldable pub doubled-answer : Doubled → Answer
 doubled-answer (Doubled.Value z) = served "area" (z ∷ [])
 doubled-answer (Doubled.Refused r) = refused r
+
+unfoldable pub marked-answer : Marked → Answer
+marked-answer Marked.Right = served "right" []
+marked-answer Marked.Wrong = served "wrong" []
+marked-answer (Marked.Refused r) = refused r
 
 unfoldable pub written-answer : Written → Answer
 written-answer (Written.Length n) = served "length" (pos n ∷ [])

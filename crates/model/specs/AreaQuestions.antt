@@ -7,7 +7,7 @@ use Prim.Native.String.{String}
 use lib.Dec.{T}
 use lib.IntN.{pos, negℤ}
 use Rattle.finite.specs.Bounded.{all, any, sum, count, one-if, table-onto, table}
-use Rattle.finite.specs.Lists.{elem, all-in, all-places, any-in, count-in, first-in, ring, insert, union}
+use Rattle.finite.specs.Lists.{elem, same-list, all-in, all-places, any-in, count-in, first-in, ring, insert, union}
 use Rattle.orbits.specs.Reach.{spread, reached, reaches}
 use Rattle.orbits.specs.Classes.{is-least, classes, is-fixed, is-closed, closed-walks}
 use Rattle.model.specs.declared.Point.{Point}
@@ -26,7 +26,7 @@ use Rattle.model.specs.History.{is-accepted, extended, run-from, run}
 use Rattle.model.specs.Report.{spaced}
 use Rattle.model.specs.Outlines.{corner-points}
 use Rattle.model.specs.Area.{path-sum, fan, area-from, doubled-area, area-call, sum-of, triangle-added, area-added, history-area}
-use Rattle.model.specs.Questions.{Question, _is_, same-list, session, after}
+use Rattle.model.specs.Questions.{Question, _is_, session, after}
 use Rattle.model.specs.OutlineQuestions.{on-rail}
 
 -- the number and the value, at each of these places

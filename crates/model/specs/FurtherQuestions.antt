@@ -11,7 +11,7 @@ use lib.Dec.{T}
 use lib.IntN.{ℤ, pos, negℤ}
 use lib.ListN.{length, take, drop, set, replicate}
 use Rattle.finite.specs.Bounded.{all, any, sum, count, one-if, table-onto, table}
-use Rattle.finite.specs.Lists.{elem, all-in, all-places, any-in, count-in, first-in, before, beyond}
+use Rattle.finite.specs.Lists.{elem, same-list, all-in, all-places, any-in, count-in, first-in, before, beyond}
 use Rattle.finite.specs.Lists.{total, ring, insert, union}
 use Rattle.orbits.specs.declared.Ending.{Ending}
 use Rattle.orbits.specs.declared.Walk.{Walk}
@@ -34,13 +34,14 @@ use Rattle.model.specs.declared.Walked.{Walked}
 use Rattle.model.specs.declared.Moved.{Moved}
 use Rattle.model.specs.declared.Placed.{Placed}
 use Rattle.model.specs.declared.Doubled.{Doubled}
+use Rattle.model.specs.declared.Marked.{Marked}
 use Rattle.model.specs.declared.Written.{Written}
 use Rattle.model.specs.declared.Line.{Line}
 use Rattle.model.specs.Spelling.{bytes, decimal, spelt}
 use Rattle.model.specs.Refusals.{number, Rule, unless}
 use Rattle.model.specs.Answers.{Answer, answer-of, oriented-answer, arrival-answer, outcome-answer}
 use Rattle.model.specs.Answers.{orbit-answer, counted-answer, walked-answer, moved-answer}
-use Rattle.model.specs.Answers.{placed-answer, doubled-answer, written-answer, line-answer}
+use Rattle.model.specs.Answers.{placed-answer, doubled-answer, marked-answer, written-answer, line-answer}
 use Rattle.model.specs.Plane.{coordinate-limit, coordinate-in-range, in-range, at, origin}
 use Rattle.model.specs.Plane.{same-point, orientation, orientation-limit, left-of}
 use Rattle.model.specs.Plane.{visible-from, in-line, beside, sees-edge, strictly-between}
@@ -72,7 +73,7 @@ use Rattle.model.specs.Text.{is-number, number-value, line-read, in-firs
 use Rattle.model.specs.Text.{one-line, line-call}
 use Rattle.model.specs.Report.{text-limit, spaced, printed, offer-line, closing, arrivals}
 use Rattle.model.specs.Report.{report}
-use Rattle.model.specs.Questions.{Question, _is_, same-list, session, after}
+use Rattle.model.specs.Questions.{Question, _is_, session, after}
 
 -- ---- answers: the number, the word and the values
 
@@ -138,6 +139,9 @@ answers =
     ∷ (told (placed-answer (Placed.Refused Refusal.ShortList)) is short)
     ∷ (told (doubled-answer (Doubled.Value (pos 39))) is says "area 39\n")
     ∷ (told (doubled-answer (Doubled.Refused Refusal.ShortList)) is short)
+    ∷ (told (marked-answer Marked.Right) is says "right\n")
+    ∷ (told (marked-answer Marked.Wrong) is says "wrong\n")
+    ∷ (told (marked-answer (Marked.Refused Refusal.ShortList)) is short)
     ∷ (told (written-answer (Written.Length 1)) is says "length 1\n")
     ∷ (told (written-answer (Written.Refused Refusal.ShortList)) is short)
     ∷ (told (line-answer (Line.Named (at (pos 1) (negℤ (pos 2))))) is says "point 1 -2\n")
@@ -460,7 +464,7 @@ unfolding table-onto all any sum count one-if table elem all-in all-places any-i
     before beyond total ring insert union flatMap flatten spread reached reaches is-least classes
     is-fixed is-closed closed-walks bits set-of bytes decimal spelt number unless oriented-answer
     arrival-answer outcome-answer orbit-answer counted-answer walked-answer moved-answer
-    placed-answer doubled-answer written-answer line-answer coordinate-in-range in-range same-point orientation
+    placed-answer doubled-answer marked-answer written-answer line-answer coordinate-in-range in-range same-point orientation
     left-of visible-from in-line beside sees-edge strictly-between lower other-dart point has-helper
     is-present edge-link point-link face-link empty-map next-corner previous-corner corners-from
     outline sees visible-edges lowest-corner corners arrays-whole count-fits points-in-range

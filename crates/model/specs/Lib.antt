@@ -19,11 +19,14 @@
 --     Report       the report on a survey text
 --     Outlines     an outline as text: written, read, and which corners some survey lists
 --     Area         twice the area of an outline: from a corner, and by the history
+--     Building     a list of points offered one after another
+--     Marking      a claimed outline, right or wrong
 --     Orders       the order in which each call looks at its rules
 --     Questions    the starred questions, one list with one check
 --     FurtherQuestions    questions of ours, one list with one check
 --     OutlineQuestions    questions of ours about outlines as text, one list with one check
 --     AreaQuestions       questions of ours about the area, one list with one check
+--     MarkQuestions       questions of ours about marking, one list with one check
 pub mod Spelling
 pub mod Refusals
 pub mod Answers
@@ -43,8 +46,11 @@ pub mod Text
 pub mod Report
 pub mod Outlines
 pub mod Area
+pub mod Building
+pub mod Marking
 pub mod Orders
 pub mod Questions
 pub mod FurtherQuestions
 pub mod OutlineQuestions
 pub mod AreaQuestions
+pub mod MarkQuestions

@@ -21,6 +21,8 @@ use Rattle.model.specs.Text.{line-call}
 use Rattle.model.specs.Report.{report-rules, report}
 use Rattle.model.specs.Outlines.{coordinates, corner-points, corners-spelt, outline-rules, outline-text}
 use Rattle.model.specs.Area.{area-call}
+use Rattle.model.specs.Building.{building-rules}
+use Rattle.model.specs.Marking.{mark-call}
 
 abbrev pub numbers-of : List Rule → List ℕ
 numbers-of rules = map (λ rule. number (rule .refusal)) rules
@@ -89,3 +91,8 @@ module _ (m : Map) (p q r : Point) (kind : Kind) (link : Link) (d : ℕ) (s lent
   pub area-order : numbers-of (area-call m d .rules) ≡ 1 ∷ 6 ∷ []
   unfolding number
   area-order = refl
+
+  -- "the first refusal met": all of a point's before those of the next
+  pub mark-order : numbers-of (mark-call (p ∷ q ∷ []) s .rules) ≡ 2 ∷ 3 ∷ 4 ∷ 2 ∷ 3 ∷ 4 ∷ []
+  unfolding number building-rules
+  mark-order = refl

@@ -8,7 +8,7 @@ use lib.Dec.{T}
 use lib.IntN.{pos}
 use lib.ListN.{replicate}
 use Rattle.finite.specs.Bounded.{all, any, sum, count, one-if, table-onto, table}
-use Rattle.finite.specs.Lists.{elem, all-in, all-places, any-in, count-in, first-in, ring, insert, union}
+use Rattle.finite.specs.Lists.{elem, same-list, all-in, all-places, any-in, count-in, first-in, ring, insert, union}
 use Rattle.orbits.specs.Reach.{spread, reached, reaches}
 use Rattle.orbits.specs.Classes.{is-least, classes, is-fixed, is-closed, closed-walks}
 use Rattle.model.specs.declared.Point.{Point}
@@ -25,7 +25,7 @@ use Rattle.model.specs.History.{is-accepted, extended, run-from, run}
 use Rattle.model.specs.Text.{is-digit, has-minus, digits, value-after, magnitude, is-number, number-value, leading-digits, front}
 use Rattle.model.specs.Report.{spaced}
 use Rattle.model.specs.Outlines.{point-text, joined, outline-text, corner-points, starts-with, is-word, second, is-position, position, after-position, with-first, positions, positions-in, exactly, ring-of, corners-in, is-some, or-none, is-outline, corners-spelt, lowest-is-first, all-support, listable, outline-rules, coordinates}
-use Rattle.model.specs.Questions.{Question, _is_, same-list, session, after}
+use Rattle.model.specs.Questions.{Question, _is_, session, after}
 
 -- the number of a text
 number-of-text : List ℕ → ℕ

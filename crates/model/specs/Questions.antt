@@ -1,14 +1,13 @@
 -- The starred questions of document 01, "Oral questions", as one list with their expected answers,
 -- and the one check over it, which the prover computes from the definitions. Request 106 withdraws
 -- number 5 and its case, (2,2) after four points: what that offer gets now is one of our questions.
-use mathlib.Core.Bool.{Bool, true, false, _&&_}
 use mathlib.Core.List.{List, [], _∷_, map, flatMap, flatten}
 use Prim.Native.Nat.{ℕ, _+_, _^_}
-use lib.Dec.{T, eqb}
+use lib.Dec.{T}
 use lib.IntN.{ℤ, pos, negℤ}
 use lib.ListN.{take, replicate}
 use Rattle.finite.specs.Bounded.{all, any, sum, count, one-if, table-onto, table}
-use Rattle.finite.specs.Lists.{elem, all-in, all-places, any-in, count-in, first-in, before, beyond, ring, insert, union}
+use Rattle.finite.specs.Lists.{elem, same-list, all-in, all-places, any-in, count-in, first-in, before, beyond, ring, insert, union}
 use Rattle.orbits.specs.Reach.{spread, reached, reaches}
 use Rattle.orbits.specs.Classes.{is-least, classes, is-fixed, is-closed, closed-walks}
 use Rattle.orbits.specs.Walks.{edge-step, point-step, walk}
@@ -40,12 +39,6 @@ pub record Question : Type 0 where
 infix 10 _is_
 abbrev pub _is_ : List ℕ → List ℕ → Question
 said is right = record { said = said; right = right }
-
-unfoldable pub same-list : List ℕ → List ℕ → Bool
-same-list [] [] = true
-same-list [] (y ∷ t) = false
-same-list (x ∷ s) [] = false
-same-list (x ∷ s) (y ∷ t) = eqb x y && same-list s t
 
 -- the session's points, and the map after a list of offers
 unfoldable pub session : List Point

@@ -159,6 +159,13 @@ pub enum Doubled {
     Refused(Refusal),
 }
 
+// Whether a claimed outline is the one that a list of points has.
+pub enum Marked {
+    Right,
+    Wrong,
+    Refused(Refusal),
+}
+
 // How many places of a lent list were written.
 pub enum Written {
     Length(usize),

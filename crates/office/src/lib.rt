@@ -1,7 +1,7 @@
 // What is asked for beyond document 01: by the drawing office, the outline of a map as text, for its viewer, and
-// the corners of such a text; by candidates, twice the outline's area. These are entry points, as those of `engine`
-// are: each checks for itself, asks nothing of its caller, and promises its answer and what a lent list holds, for
-// every argument.
+// the corners of such a text; by candidates, twice the outline's area and the mark of a claimed outline. These are
+// entry points, as those of `engine` are: each checks for itself, asks nothing of its caller, and promises its answer
+// and what a lent list holds, for every argument.
 
 use corners::listing::corners_of;
 use drawings::text_length;
@@ -9,6 +9,7 @@ use drawings::write_text;
 use measures::area_of;
 use model::Doubled;
 use model::Map;
+use model::Marked;
 use model::Refusal;
 use model::Written;
 use soundness::is_sound;
@@ -18,6 +19,7 @@ ghost use Rattle.model.specs.Answers.{Answered};
 ghost use Rattle.model.specs.Lent.{Wrote};
 ghost use Rattle.model.specs.Outlines.{coordinates, corner-points, corners-spelt, outline-rules, outline-text};
 ghost use Rattle.model.specs.Area.{area-call};
+ghost use Rattle.model.specs.Marking.{mark-call, points-of};
 
 // The text of a map's outline, written into a lent list: numbers 1 and 10. A longer list keeps its tail,
 // and a refused call writes nothing.
@@ -56,4 +58,13 @@ pub fn area(map: Map, place: usize) -> Doubled
         return Doubled::Refused(Refusal::NotSound);
     }
     area_of(map, place)
+}
+
+// Whether a claimed list of point numbers is the corner listing of the points, begun at any corner, or the first
+// refusal met when the points are offered to the empty map: numbers 2, 3 and 4. Points are pairs x, y; an odd last
+// number names no point.
+pub fn mark(points: &[i64], claim: &[usize]) -> Marked
+    ensures { λ r. ⌜ Answered (mark-call (points-of (now (points .entry))) (now (claim .entry))) r ⌝ }
+{
+    marking::mark(points, claim)
 }

@@ -16,12 +16,14 @@ use maps::traversal::counts_of;
 use maps::traversal::moved;
 use maps::traversal::orbit_of;
 use maps::traversal::walk_of;
+use marking::mark;
 use measures::area_of;
 use model::Doubled;
 use model::Kind;
 use model::Line;
 use model::Link;
 use model::Map;
+use model::Marked;
 use model::Oriented;
 use model::Outcome;
 use model::Point;
@@ -57,10 +59,12 @@ ghost use Rattle.model.specs.Saved.{load-call, map-in, saved};
 ghost use Rattle.model.specs.Text.{line-call};
 ghost use Rattle.model.specs.Report.{report, report-rules};
 ghost use Rattle.model.specs.Outlines.{coordinates, corner-points, corners-spelt, outline-rules, outline-text};
+ghost use Rattle.model.specs.Marking.{points-of};
 ghost use Rattle.replies.specs.Served.{Served, ServedBoth, number-by, only};
 ghost use Rattle.replies.specs.Opened.{of-file};
 ghost use Rattle.measures.specs.Areas.{sound-area-call};
 ghost use Rattle.replies.specs.Replies.{Offering, area-reply, counts-reply, from-file, length-told};
+ghost use Rattle.replies.specs.Replies.{mark-reply};
 ghost use Rattle.replies.specs.Replies.{orbit-reply, place-reply, reply, values-of};
 ghost use Rattle.replies.specs.Replies.{walk-reply, walker-reply};
 
@@ -434,5 +438,21 @@ fn write_area(map: Map, place: usize, out: &mut [i64]) -> u32
     match doubled {
         Doubled::Refused(refusal) => code(refusal),
         Doubled::Value(z) => write_number(z, out),
+    }
+}
+
+// Whether a claimed list of point numbers is the corner listing of the points, begun at any corner: 1, or else 0.
+// Points are pairs x, y; an odd last number names no point. Numbers 2, 3 and 4, by the first point that is refused,
+// and 10.
+#[no_mangle]
+pub extern "C" fn reach_mark(points: &[i64], claim: &[usize], out: &mut [u64]) -> u32
+    ensures { λ r. ⌜ Served (mark-reply (points-of (now (points .entry))) (now (claim .entry)))
+        (now (out .entry)) (now (out .exit)) r ⌝ }
+{
+    let marked = mark(points, claim);
+    match marked {
+        Marked::Refused(refusal) => code(refusal),
+        Marked::Wrong => write_values(&[0], out),
+        Marked::Right => write_values(&[1], out),
     }
 }

@@ -3,7 +3,7 @@
 -- arguments, and the point of two coordinates; an answer that is an enum.
 use mathlib.Core.Path.{_≡_, sym, ap, ap₂, subst, _∙_}
 use mathlib.Core.Bool.{Bool, true, false, _||_, or-true}
-use mathlib.Core.List.{List, [], _∷_, _++_, append-assoc}
+use mathlib.Core.List.{List, [], _∷_, _++_, append-assoc, append-nil}
 use Prim.Native.Nat.{ℕ, _≤_, _<_}
 use native.Mathlib.Omega.{arith}
 use mir.Syntax.{w64}
@@ -23,7 +23,7 @@ use Rattle.model.specs.Answers.{Answer, Call, answer-of, outcome-by}
 use Rattle.model.specs.Lent.{is-short}
 use Rattle.model.proofs.Answers.{outcome-refuses, outcome-serves, unless-made, unless-append}
 use Rattle.replies.specs.Served.{Reply, only, Served, ServedBoth}
-use Rattle.replies.specs.Replies.{meaning-of}
+use Rattle.replies.specs.Replies.{meaning-of, reply}
 
 -- ---- rules in two parts
 
@@ -195,17 +195,22 @@ module _ {A B : Type 0} (tell : Answer → List B) (c : Call A) (f : A → Outco
   found : f a ≡ outcome-by (c .rules)
   found = ap f is ∙ answer-outcome f (c .refuse) same (c .rules) (c .value) serves
 
-  pub answer-refused : {k : ℕ} {r : Refusal} → f a ≡ Outcome.Refused r → k ≡ number r →
-      Served (record { rules = c .rules ++ []; values = tell (meaning-of c) }) before before k
+  no-more : {after : List B} {k : ℕ} →
+      Served (both (c .rules) (only (tell (meaning-of c))) before) before after k → Served (reply tell c) before after k
+  no-more {after} {k} s =
+      subst (λ (rules : List Rule). Served (record { rules = rules; values = tell (meaning-of c) }) before after k)
+      (append-nil (c .rules)) s
+
+  pub answer-refused : {k : ℕ} {r : Refusal} → f a ≡ Outcome.Refused r → k ≡ number r → Served (reply tell c) before before k
   answer-refused e n =
-      refused-before (c .rules) (only (tell (meaning-of c))) before _ (sym e ∙ found) n
+      no-more (refused-before (c .rules) (only (tell (meaning-of c))) before _ (sym e ∙ found) n)
 
   pub answer-written : {after : List B} {k : ℕ} → f a ≡ Outcome.Served →
-      Served (only (tell (c .meaning a))) before after k →
-      Served (record { rules = c .rules ++ []; values = tell (meaning-of c) }) before after k
+      Served (only (tell (c .meaning a))) before after k → Served (reply tell c) before after k
   answer-written e w =
       let served = sym e ∙ found in
-      served-after (c .rules) (only (tell (meaning-of c))) before served
+      no-more
+      (served-after (c .rules) (only (tell (meaning-of c))) before served
       (served-as
       (ap (λ (x : A). tell (c .meaning x))
-      (is ∙ sym (outcome-serves (c .refuse) (c .value) (c .rules) served))) w)
+      (is ∙ sym (outcome-serves (c .refuse) (c .value) (c .rules) served))) w))

@@ -2,7 +2,7 @@
 -- arrival has; the answer that numbers tell, which is the one that they were made of. So different
 -- answers have different numbers, and nothing is lost at the boundary.
 use mathlib.Core.Path.{_≡_, refl, ap}
-use mathlib.Core.Bool.{cond}
+use mathlib.Core.Bool.{Bool, true, false, cond}
 use mathlib.Core.List.{List, [], _∷_, _++_, map}
 use Prim.Native.Nat.{ℕ, suc}
 use Prim.Native.String.{String}
@@ -15,10 +15,11 @@ use Rattle.model.specs.declared.Outcome.{Outcome}
 use Rattle.model.specs.declared.Arrival.{Arrival}
 use Rattle.model.specs.declared.Placed.{Placed}
 use Rattle.model.specs.declared.Walked.{Walked}
+use Rattle.model.specs.declared.Marked.{Marked}
 use Rattle.model.specs.Answers.{Answer, orbit-answer}
-use Rattle.model.specs.Answers.{arrival-answer, placed-answer, walked-answer}
+use Rattle.model.specs.Answers.{arrival-answer, placed-answer, walked-answer, marked-answer}
 use Rattle.replies.specs.Replies.{naturals, place-of, told, endings, walk-told}
-use Rattle.replies.specs.Replies.{places, place-told, arrivals, arrival-told}
+use Rattle.replies.specs.Replies.{places, place-told, arrivals, arrival-told, marks, mark-told}
 
 -- an orbit is told by the words of its set and its size
 pub set-told : (s : DartSet) →
@@ -88,3 +89,10 @@ walk-heard (Walked.Ended w) = go (w .last) (w .ending) (w .moves)
         heard endings (2 ∷ 2 ∷ 1 ∷ []) 1 (walk-told a) ≡ a
     go last Ending.Home moves = refl
     go last Ending.Loose moves = refl
+
+-- of a mark that is given
+pub mark-heard : (t : Bool) →
+    let a = marked-answer (cond t Marked.Right Marked.Wrong) in heard marks (0 ∷ 0 ∷ []) 0 (mark-told a) ≡ a
+unfolding heard told place-of marked-answer
+mark-heard true = refl
+mark-heard false = refl

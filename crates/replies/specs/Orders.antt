@@ -19,11 +19,12 @@ use Rattle.model.specs.Saved.{load-call, saved}
 use Rattle.model.specs.Text.{line-call}
 use Rattle.model.specs.Report.{report-rules}
 use Rattle.model.specs.Outlines.{outline-rules}
+use Rattle.model.specs.Building.{building-rules}
 use Rattle.model.specs.Lent.{and-short}
 use Rattle.replies.specs.Served.{Reply, only}
 use Rattle.replies.specs.Opened.{of-file}
 use Rattle.replies.specs.Replies.{values-of, reply, from-file, counts-reply, orbit-reply}
-use Rattle.replies.specs.Replies.{walk-reply, walker-reply, place-reply, area-reply}
+use Rattle.replies.specs.Replies.{walk-reply, walker-reply, place-reply, area-reply, mark-reply}
 
 -- the numbers of rules with number 10 after them, whether a lent list is short or not
 module _ (short : Bool) where
@@ -96,3 +97,8 @@ module _ (short : Bool) where
     pub reach-area-order : replied (from-file (area-reply d) s) ≡ 7 ∷ 1 ∷ 6 ∷ 10 ∷ []
     unfolding number
     reach-area-order = refl
+
+    -- of two points
+    pub reach-mark-order : replied (mark-reply (p ∷ q ∷ []) s) ≡ 2 ∷ 3 ∷ 4 ∷ 2 ∷ 3 ∷ 4 ∷ 10 ∷ []
+    unfolding number building-rules
+    reach-mark-order = refl

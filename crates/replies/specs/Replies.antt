@@ -20,6 +20,7 @@ use Rattle.model.specs.Reading.{counts-call, orbit-call, walk-call, walker-call
 use Rattle.model.specs.Placing.{place-call}
 use Rattle.model.specs.Offers.{offer-call}
 use Rattle.model.specs.Area.{area-call}
+use Rattle.model.specs.Marking.{mark-call}
 use Rattle.model.specs.Saved.{map-in, saved}
 use Rattle.replies.specs.Served.{Reply, ServedBoth}
 use Rattle.replies.specs.Opened.{of-file}
@@ -64,6 +65,12 @@ arrivals = "first" ∷ "second" ∷ "inside" ∷ "outside" ∷ "refused" ∷ []
 abbrev pub arrival-told : Answer → List ℕ
 arrival-told = told arrivals 0 3
 
+abbrev pub marks : List String
+marks = "wrong" ∷ "right" ∷ "refused" ∷ []
+
+abbrev pub mark-told : Answer → List ℕ
+mark-told = told marks 0 0
+
 -- ---- calls
 
 -- what a call means where no rule applies
@@ -99,6 +106,9 @@ place-reply p m = reply place-told (place-call m p)
 
 abbrev pub area-reply : ℕ → Map → Reply ℤ
 area-reply place m = reply values-of (area-call m place)
+
+abbrev pub mark-reply : List Point → List ℕ → Reply ℕ
+mark-reply ps claim = reply mark-told (mark-call ps claim)
 
 -- a point offered to the map of a file: the bytes of the map after it, and the arrival
 module _ (s : List ℕ) (p : Point) where

@@ -28,6 +28,7 @@ use Rattle.printing.specs.Printing.{arrival-line}
 use Rattle.survey.proofs.Texts.{next-further}
 use Rattle.printing.proofs.Reports.{report-ended, report-goes-on}
 use Rattle.hull.specs.Requires.{Accepted}
+use Rattle.hull.proofs.Building.{arrive-sound}
 use Rattle.reports.specs.declared.deciding.Verdict.{Verdict}
 use Rattle.reports.specs.declared.deciding.Stop.{Stop}
 use Rattle.lines.specs.Packing.{Packable, packed, unpacked}
@@ -35,7 +36,7 @@ use Rattle.reports.specs.Verdicts.{verdict-by}
 use Rattle.lines.specs.Lines.{answer-at, answer-lines}
 use Rattle.reports.specs.Deciding.{Reports, Stopped, Surveys}
 use Rattle.lines.proofs.Packed.{unpacked-packed}
-use Rattle.reports.proofs.Verdicts.{line-refused, refusal-packable, line-accepted, arrive-sound, arrive-packable}
+use Rattle.reports.proofs.Verdicts.{line-refused, refusal-packable, line-accepted, arrive-packable}
 
 -- ---- the lines of the answers
 

@@ -40,13 +40,14 @@ use Rattle.printing.proofs.Decimals.{length-one, length-between}
 use Rattle.printing.proofs.Values.{spaced-length}
 use Rattle.printing.proofs.Printed.{line-length, first-line, second-line, inside-line, outside-line, refused-line, refused-arrival, refused-most, arrival-line-length}
 use Rattle.printing.proofs.Reports.{closing-lines}
+use Rattle.hull.proofs.Building.{arrive-sound}
 use Rattle.corners.proofs.Corners.{corners-circuit, one-listed, none-listed}
 use Rattle.reports.specs.declared.deciding.Verdict.{Verdict}
 use Rattle.lines.specs.Packing as packing
 use Rattle.lines.specs.Packing.{Packable}
 use Rattle.lines.specs.Lines.{counts-values}
 use Rattle.reports.specs.Verdicts.{verdict-by}
-use Rattle.reports.proofs.Verdicts.{line-refused, line-accepted, arrive-sound, arrive-packable}
+use Rattle.reports.proofs.Verdicts.{line-refused, line-accepted, arrive-packable}
 
 -- ---- numbers
 

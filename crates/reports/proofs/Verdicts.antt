@@ -2,9 +2,8 @@
 -- the order of this page: a refused line, and which refusals a line can get; an accepted one, and
 -- what its arrival reports; the code's way to it.
 use mathlib.Core.Path.{_≡_, sym, ap, subst, _∙_}
-use mathlib.Core.Bool.{Bool}
 use mathlib.Core.List.{List}
-use Prim.Native.Nat.{ℕ, _≤_, _<_}
+use Prim.Native.Nat.{ℕ, _≤_}
 use lib.IntN.{ℤ}
 use native.Mathlib.Omega.{arith}
 use Rattle.model.specs.declared.Refusal.{Refusal}
@@ -17,7 +16,7 @@ use Rattle.model.specs.declared.Offered.{Offered}
 use Rattle.model.specs.Refusals.{Refuses, at-once, later}
 use Rattle.model.specs.Maps.{point-limit, point}
 use Rattle.model.specs.Sound.{Shaped}
-use Rattle.model.specs.Arrival.{with-point, alone, pair, spliced, arrive, refusing}
+use Rattle.model.specs.Arrival.{arrive, refusing}
 use Rattle.model.specs.Outline.{visible-edges}
 use Rattle.model.specs.Offers.{offer}
 use Rattle.model.specs.Report.{offer-line}
@@ -25,12 +24,10 @@ use Rattle.model.proofs.Answers.{RulesDecide, refuses, serves, unless-decides}
 use Rattle.survey.specs.declared.lines.Read.{Read}
 use Rattle.survey.specs.Places.{line-at, read-at}
 use Rattle.survey.proofs.Texts.{line-at-refused}
-use Rattle.maps.proofs.Points.{point-new, point-old}
 use Rattle.admission.specs.Admission.{rules-by, admission-by}
 use Rattle.hull.proofs.Admissions.{admission-refused, admission-served, admission-accepted, visible-most, corners-below}
 use Rattle.hull.specs.Requires.{Accepted}
 use Rattle.hull.proofs.Outcomes.{Arrives, first, second, inside, outside, arrive-arrives}
-use Rattle.hull.proofs.Arrivals.{arrival-sound}
 use Rattle.reports.specs.declared.deciding.Verdict.{Verdict}
 use Rattle.reports.specs.Verdicts.{verdict-on, verdict-by}
 use Rattle.lines.specs.Packing as packing
@@ -105,30 +102,6 @@ module _ (xs ys : List ℤ) (count : ℕ) (text : List ℕ) (at : ℕ) where
       (refusal-by (read .line) r (sym (ap (λ (q : Read). q .line) here)) (sym is ∙ ruled))
 
 -- ---- the arrival of an accepted point
-
--- an arrival leaves every point where it was, and puts the new one after them
-pub arrive-points : {m : Map} {p : Point} → Accepted m p →
-    ((k : ℕ) → k < m .count → point (arrive m p .map) k ≡ point m k) × (point (arrive m p .map) (m .count) ≡ p)
-unfolding alone pair spliced
-arrive-points {m} {p} a = go (arrive m p) (arrive-arrives m p)
-  where
-    put : (helpers : List Bool) (edge : List ℕ) (reference : ℕ) →
-        let new = with-point m p helpers edge reference in
-        ((k : ℕ) → k < m .count → point new k ≡ point m k) × (point new (m .count) ≡ p)
-    put helpers edge reference = (
-      λ k h. point-old (a .is-sound) (a .room) p helpers edge reference k (omega arith),
-      point-new (a .is-sound) (a .room) p helpers edge reference,
-    )
-
-    go : (o : Offered) → Arrives m p o →
-        ((k : ℕ) → k < m .count → point (o .map) k ≡ point m k) × (point (o .map) (m .count) ≡ p)
-    go o (first e) = put _ _ _
-    go o (second e) = put _ _ _
-    go o (inside two none) = put _ _ _
-    go o (outside two some) = put _ _ _
-
-pub arrive-sound : {m : Map} {p : Point} → Accepted m p → Shaped (arrive m p .map)
-arrive-sound {m} {p} a = arrival-sound m p a (arrive m p) (arrive-arrives m p)
 
 packable-by : {m : Map} {p : Point} → Accepted m p → (o : Offered) → Arrives m p o →
     Packable (o .arrival)

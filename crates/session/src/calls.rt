@@ -3,6 +3,7 @@
 
 use crate::telling::say;
 use crate::telling::say_natural;
+use crate::telling::say_naturals;
 use crate::telling::say_number;
 use crate::telling::say_point;
 use crate::telling::tell;
@@ -17,6 +18,7 @@ use model::Kind;
 use model::Line;
 use model::Link;
 use model::Map;
+use model::Marked;
 use model::Moved;
 use model::Oriented;
 use model::Outcome;
@@ -248,5 +250,16 @@ pub(crate) fn area(map: Map, place: usize) {
             say(b"\n");
         }
         Doubled::Refused(refusal) => tell_refused(refusal),
+    }
+}
+
+pub(crate) fn mark(points: &[i64], claim: &[usize]) {
+    say(b"mark");
+    say_naturals(claim);
+    let marked = office::mark(points, claim);
+    match marked {
+        Marked::Right => tell(b"right", &[]),
+        Marked::Wrong => tell(b"wrong", &[]),
+        Marked::Refused(refusal) => tell_refused(refusal),
     }
 }

@@ -1,6 +1,6 @@
 // The session of document 01 taken through every entry of `engine` and of `office`, for whoever writes the next
-// crate that uses them. Each call prints a line: its name, what it was given (maps and lists are left out), a
-// colon, and the answer, by its word and its values. The values stand in the order of the declared types:
+// crate that uses them. Each call prints a line: its name, what it was given (maps and lists are left out, but for
+// a claim), a colon, and the answer, by its word and its values. The values stand in the order of the declared types:
 //     offer          left corner, right corner, visible edges
 //     orbit          the darts of the set
 //     counts         darts, vertices, edges, faces, parts
@@ -35,6 +35,7 @@ fn main() {
     texts();
     outlines(map);
     areas(map);
+    marks();
     unsound(map);
     calls::offer(full_map(), at(512, 0));
 }
@@ -189,6 +190,24 @@ fn whole_range() -> Map {
     let two = calls::offer(one, at(1000000000, 1000000000));
     let three = calls::offer(two, at(-1000000000, 1000000000));
     calls::offer(three, at(1000000000, -1000000000))
+}
+
+// A claimed outline of the worked survey: its listing, begun at two corners; clockwise, twice round, and nothing.
+// Then what is claimed of no points, and of points of which the third is the first again.
+fn marks() {
+    let points = [0i64, 0, 4, 0, 1, 3, 5, 4, 2, 1, 6, 7];
+    let listing = [0usize, 1, 5, 2];
+    calls::mark(&points, &listing);
+    let begun = [5usize, 2, 0, 1];
+    calls::mark(&points, &begun);
+    let clockwise = [2usize, 5, 1, 0];
+    calls::mark(&points, &clockwise);
+    let twice = [0usize, 1, 5, 2, 0, 1, 5, 2];
+    calls::mark(&points, &twice);
+    calls::mark(&points, &[]);
+    calls::mark(&[], &[]);
+    let again = [0i64, 0, 4, 0, 0, 0];
+    calls::mark(&again, &listing);
 }
 
 // One byte more than a survey text may have.

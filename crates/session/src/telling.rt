@@ -26,6 +26,13 @@ pub(crate) fn say_natural(n: usize) {
     io::print_decimal(STDOUT_FILENO, n as u64);
 }
 
+// Writes numbers without a sign, each after a space.
+pub(crate) fn say_naturals(values: &[usize]) {
+    for i in 0..values.len() {
+        say_natural(values[i]);
+    }
+}
+
 // Writes a point after a space.
 pub(crate) fn say_point(p: Point) {
     say(b" (");
@@ -39,9 +46,7 @@ pub(crate) fn say_point(p: Point) {
 pub(crate) fn tell(word: &[u8], values: &[usize]) {
     say(b": ");
     say(word);
-    for i in 0..values.len() {
-        say_natural(values[i]);
-    }
+    say_naturals(values);
     say(b"\n");
 }
 

@@ -38,6 +38,7 @@ pub fn outline_sound(m: Map) -> bool
 // For each outline edge from corner a to corner b, every point but a and b has positive orientation
 // with (a, b).
 fn others_beside(m: Map) -> bool
+    requires { ⌜ m .count ≤ point-limit ⌝ }
     requires { ⌜ ((k : ℕ) → T (in-range (point m k))) ⌝ }
     ensures { λ r. ⌜ r ≡ others-beside m ⌝ }
 {

@@ -386,4 +386,26 @@ impl Comparison {
         let call = |out: &mut [i64], length: &mut [u64]| raw::read_outline(text, out, length);
         self.two_lists("reach_read_outline", &input, &expected, call)
     }
+
+    /// Marks claims on points, x and y in turn, into lists of no, one, two or three elements.
+    pub fn marks(&mut self, coordinates: &[i64], claims: &[Vec<u64>]) -> Outcome {
+        let map = reference::mark::built(coordinates);
+        for claim in claims {
+            let is_right = map.as_ref().map_err(|number| *number).map(|m| m.has_listing(claim));
+            let entry = match is_right {
+                Ok(true) => "reach_mark, right",
+                Ok(false) => "reach_mark, wrong",
+                Err(_) => "reach_mark, refused",
+            };
+            let expected = is_right.map(|is_right| (vec![u64::from(is_right)], Vec::<u64>::new()));
+            let input = || format!("claim {claim:?} on points {coordinates:?}");
+            let call = |out: &mut [u64], _: &mut [u64]| raw::mark(coordinates, claim, out);
+            let lengths =
+                if self.is_lent_every_length { vec![0, 1, 2] } else { vec![self.draw.below(4)] };
+            for length in lengths {
+                self.lists_of([length, 0], entry, &input, &expected, &call)?;
+            }
+        }
+        Ok(())
+    }
 }

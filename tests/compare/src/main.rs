@@ -5,12 +5,12 @@
 //!             [--program PATH | --without-program]
 //!     compare [--seed N] --outlines N
 //!
-//! A text is reported, a line is read, and so is an outline's text; a file, damaged or with changed
-//! fields, goes through every function that reads a map; a map is built point after point and then
-//! read in every way, as it is and rearranged. One text in fifty, or in a thousand of a hundred
-//! thousand and more, also goes through the program, in reads of drawn sizes. One call in
-//! sixty-one, and each call on a full map, is made on as little stack as `reach.h` says that it
-//! needs.
+//! A text is reported, a line is read, so is an outline's text, and a claim is marked; a file,
+//! damaged or with changed fields, goes through every function that reads a map; a map is built
+//! point after point and then read in every way, as it is and rearranged. One text in fifty, or in a
+//! thousand of a hundred thousand and more, also goes through the program, in reads of drawn sizes.
+//! One call in sixty-one, and each call on a full map, is made on as little stack as `reach.h` says
+//! that it needs.
 //!
 //! The seed, the calls of each entry by the number they answer and the number of differences are
 //! printed; the same seed gives the same inputs. The exit status is 1 on a difference, with the
@@ -24,6 +24,7 @@ mod entries;
 mod header;
 mod lent;
 mod maps;
+mod marks;
 mod null;
 mod outlines;
 mod points;
@@ -99,7 +100,8 @@ fn arguments() -> Result<Arguments, String> {
 }
 
 /// What is compared whatever the seed: the header's constants, short lines, the ends of the range as
-/// it is and as it was, rails across it, outlines and their areas, full maps, long texts.
+/// it is and as it was, rails across it, outlines, their areas and claims on them, full maps, long
+/// texts.
 fn fixed(c: &mut Comparison) -> Outcome {
     c.header()?;
     c.null_lists()?;
@@ -134,6 +136,7 @@ fn fixed(c: &mut Comparison) -> Outcome {
         c.file(&map.save(), 20)?;
     }
     c.fixed_outlines()?;
+    c.fixed_marks()?;
     let convex = (0..POINT_LIMIT as i64).map(|i| Point::new(i, i * i));
     // each beyond an end, twice in turn beyond the same
     let rail = (0..POINT_LIMIT as i64).map(|i| Point::new(if i % 4 < 2 { i } else { -i }, 0));
@@ -228,6 +231,11 @@ impl Session {
         if c.draw.one_in(50) {
             c.wrapper_outline(&outline)?;
         }
+        let (coordinates, claim) = marks::drawn(&mut c.draw, &self.pool);
+        if c.draw.one_in(50) {
+            c.wrapper_mark(&coordinates, &claim)?;
+        }
+        c.marks(&coordinates, &[claim])?;
         if c.draw.one_in(sample)
             && let Some(program) = &self.program
         {

@@ -35,6 +35,14 @@ unsafe extern "C" {
         k: usize,
     ) -> u32;
     fn reach_area(map: *const u8, n: usize, place: u64, out: *mut i64, m: usize) -> u32;
+    fn reach_mark(
+        points: *const i64,
+        n: usize,
+        claim: *const u64,
+        m: usize,
+        out: *mut u64,
+        k: usize,
+    ) -> u32;
 }
 
 impl Comparison {
@@ -42,6 +50,7 @@ impl Comparison {
         let file = reference::Map::empty().save();
         let text = [0; reference::TEXT_LIMIT + 1];
         let none = b"POLYGON EMPTY";
+        let zeros = [0i64; 4];
         let mut printed = [0; 64];
         let mut length = [0];
         // every list has no elements, or is a slice with its own length
@@ -98,6 +107,10 @@ impl Comparison {
                 ),
                 ("reach_area", 7, reach_area(null(), 0, 0, null_mut(), 0)),
                 ("reach_area", 10, reach_area(file.as_ptr(), file.len(), 0, null_mut(), 0)),
+                ("reach_mark, right", 10, reach_mark(null(), 0, null(), 0, null_mut(), 0)),
+                ("reach_mark, right", 0, reach_mark(null(), 0, null(), 0, length.as_mut_ptr(), 1)),
+                ("reach_mark, wrong", 10, reach_mark(zeros.as_ptr(), 2, null(), 0, null_mut(), 0)),
+                ("reach_mark, refused", 4, reach_mark(zeros.as_ptr(), 4, null(), 0, null_mut(), 0)),
             ]
         };
         for (entry, expected, got) in calls {

@@ -104,7 +104,7 @@ fn neighbours(text: &[u8]) -> Vec<Vec<u8>> {
 }
 
 /// Every list of so many of these.
-fn lists_of<T: Copy>(choices: &[T], length: usize) -> Vec<Vec<T>> {
+pub fn lists_of<T: Copy>(choices: &[T], length: usize) -> Vec<Vec<T>> {
     if length == 0 {
         return vec![Vec::new()];
     }
@@ -119,7 +119,7 @@ fn orders(points: &[Point]) -> Vec<Vec<Point>> {
 }
 
 /// So many corners, listed from the lowest.
-fn parabola(corners: usize) -> Vec<Point> {
+pub fn parabola(corners: usize) -> Vec<Point> {
     (0..corners as i64).map(|i| Point::new(i, i * i)).collect()
 }
 
@@ -287,10 +287,10 @@ fn rearrange(draw: &mut Draw, corners: &mut Vec<Point>) {
     }
 }
 
-/// Surveys whose outlines are written and measured whatever the seed: the session, from no point
-/// on, the corners of the range, points near them whose area is odd, as many corners as there may
-/// be, the longest text, and marks along rails, three of them and all.
-fn surveys() -> Vec<Vec<Point>> {
+/// Surveys whose outlines are written and measured, and claims on them marked, whatever the seed:
+/// the session, from no point on, the corners of the range, points near them whose area is odd, as
+/// many corners as there may be, the longest text, and marks along rails, three of them and all.
+pub fn surveys() -> Vec<Vec<Point>> {
     let session = [(0, 0), (4, 0), (1, 3), (5, 4), (2, 1), (6, 7)].map(|(x, y)| Point::new(x, y));
     let square = [(-LIMIT, -LIMIT), (LIMIT, -LIMIT), (LIMIT, LIMIT), (-LIMIT, LIMIT)];
     let square = square.map(|(x, y)| Point::new(x, y));

@@ -25,14 +25,11 @@ impl fmt::Display for Tally {
     fn fmt(&self, f: &mut fmt::Formatter<'_>) -> fmt::Result {
         for (entry, numbers) in &self.0 {
             let calls: u64 = numbers.values().sum();
-            write!(f, "{entry} {calls}:")?;
-            for (number, calls) in numbers {
-                match number {
-                    0 => write!(f, " served {calls}")?,
-                    _ => write!(f, ", number {number} {calls}")?,
-                }
-            }
-            writeln!(f)?;
+            let each = numbers.iter().map(|(number, calls)| match number {
+                0 => format!("served {calls}"),
+                _ => format!("number {number} {calls}"),
+            });
+            writeln!(f, "{entry} {calls}: {}", each.collect::<Vec<_>>().join(", "))?;
         }
         write!(f, "all entries {}", self.total())
     }

@@ -133,4 +133,14 @@ impl Comparison {
         let got = got.map(|corners| corners.into_iter().map(point).collect());
         self.same("read_outline", &input, reference::read_outline(text), got)
     }
+
+    /// The crate's function on a claim on points, x and y in turn.
+    pub fn wrapper_mark(&mut self, coordinates: &[i64], claim: &[u64]) -> Outcome {
+        let input = || format!("claim {claim:?} on points {coordinates:?}");
+        let point = |pair: &[i64]| reach::Point { x: pair[0], y: pair[1] };
+        let points: Vec<reach::Point> = coordinates.chunks_exact(2).map(point).collect();
+        let numbers: Vec<usize> = claim.iter().map(|&number| number as usize).collect();
+        let got = number(on_stack("mark", reach::CALL_STACK, || reach::mark(&points, &numbers)));
+        self.same("mark", &input, reference::mark(coordinates, claim), got)
+    }
 }

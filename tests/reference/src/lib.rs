@@ -5,8 +5,9 @@
 //! chain) instead of being read from the links, links stand in a hash map, orbits are sets that
 //! grow until they are closed, parts are a union-find, a point in line with two others is between
 //! them by the order of the coordinates, the farther of two corners by squared distances, an
-//! outline's text is split at its separators and held to the text of its points' hull, and an area
-//! is worked out by the shoelace formula, not by triangles.
+//! outline's text is split at its separators and held to the text of its points' hull, an area is
+//! worked out by the shoelace formula, not by triangles, and a claim is held to the listing of the
+//! map that its points build, begun at each corner.
 //!
 //! Every function answers its value or the number of its refusal. A [`Map`] that comes out of
 //! [`Map::load`] or was built by [`Map::offer`] from [`Map::empty`] is sound, and the functions
@@ -15,6 +16,7 @@
 pub mod area;
 pub mod arrival;
 pub mod map;
+pub mod mark;
 pub mod orbits;
 pub mod outline;
 pub mod place;
@@ -27,6 +29,7 @@ pub mod walk;
 
 pub use arrival::Arrival;
 pub use map::{DART_LIMIT, Map, NO_DART, POINT_LIMIT};
+pub use mark::mark;
 pub use orbits::{Counts, Kind, Orbit};
 pub use outline::read_outline;
 pub use place::Placed;

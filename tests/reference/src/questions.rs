@@ -636,3 +636,110 @@ fn areas_by_history() {
         }
     }
 }
+
+/// The mark of each claim on points.
+fn marks(points: &[(i64, i64)], claims: &[&[u64]]) -> Vec<Answer<bool>> {
+    let coordinates: Vec<i64> = points.iter().flat_map(|&(x, y)| [x, y]).collect();
+    claims.iter().map(|claim| mark(&coordinates, claim)).collect()
+}
+
+#[test]
+fn claims_on_the_session() {
+    // "the corner listing, begun at any corner"
+    let right: [&[u64]; 4] = [&[0, 1, 5, 2], &[1, 5, 2, 0], &[5, 2, 0, 1], &[2, 0, 1, 5]];
+    assert_eq!(marks(&SESSION, &right), [Ok(true); 4]);
+    let wrong: [&[u64]; 21] = [
+        &[],
+        // clockwise
+        &[2, 5, 1, 0],
+        &[0, 2, 5, 1],
+        // a corner left out
+        &[0],
+        &[0, 1, 5],
+        &[1, 5, 2],
+        &[0, 1, 2],
+        // a point that is no corner, more or in place of one
+        &[0, 1, 3, 5, 2],
+        &[0, 1, 3, 2],
+        &[4, 1, 5, 2],
+        // another order
+        &[0, 5, 1, 2],
+        // a corner again
+        &[0, 1, 5, 2, 0],
+        &[0, 1, 1, 5, 2],
+        &[0, 1, 5, 1],
+        // twice round
+        &[0, 1, 5, 2, 0, 1, 5, 2],
+        // "A claim with a number beyond the points is wrong"
+        &[0, 1, 5, 6],
+        &[0, 1, 5, 2, 6],
+        &[0, 1, 5, 2, u64::MAX],
+        // also one that is a corner's in 32 bits
+        &[1 << 32, 1, 5, 2],
+        &[0, 1, 5 + (1 << 32), 2],
+        &[0, 1, 5, 2 + (1 << 32)],
+    ];
+    for claim in wrong {
+        assert_eq!(marks(&SESSION, &[claim]), [Ok(false)], "{claim:?}");
+    }
+}
+
+#[test]
+fn claims_on_few_points() {
+    assert_eq!(marks(&[], &[&[], &[0], &[0, 0]]), [Ok(true), Ok(false), Ok(false)]);
+    let one = [Ok(true), Ok(false), Ok(false), Ok(false)];
+    assert_eq!(marks(&SESSION[..1], &[&[0], &[], &[1], &[0, 0]]), one);
+    assert_eq!(marks(&SESSION[..2], &[&[0, 1], &[1, 0]]), [Ok(true); 2]);
+    assert_eq!(marks(&SESSION[..2], &[&[], &[0], &[1], &[0, 0], &[0, 1, 0]]), [Ok(false); 5]);
+    assert_eq!(marks(&SESSION[..2], &[&[0, 1, 1], &[0, 1, 0, 1], &[0, 2]]), [Ok(false); 3]);
+    assert_eq!(marks(&SESSION[..3], &[&[0, 1, 2], &[1, 2, 0], &[2, 0, 1]]), [Ok(true); 3]);
+    assert_eq!(marks(&SESSION[..3], &[&[0, 2, 1], &[0, 1, 2, 0, 1, 2]]), [Ok(false); 2]);
+    // the ends of a rail, whatever lies between
+    assert_eq!(marks(&RAIL, &[&[0, 2], &[2, 0]]), [Ok(true); 2]);
+    assert_eq!(marks(&RAIL, &[&[0, 1], &[0, 1, 2], &[0, 1, 2, 1], &[0]]), [Ok(false); 4]);
+    assert_eq!(marks(&[(0, 0), (4, 0), (2, 0)], &[&[0, 1], &[1, 0]]), [Ok(true); 2]);
+    // a point on an edge
+    let on_edge = [(0, 0), (4, 0), (1, 3), (2, 0)];
+    assert_eq!(marks(&on_edge, &[&[0, 1, 2], &[0, 3, 1, 2]]), [Ok(true), Ok(false)]);
+    // an odd last number names no point, in range or not
+    assert_eq!(mark(&[7], &[]), Ok(true));
+    assert_eq!(mark(&[7], &[0]), Ok(false));
+    assert_eq!(mark(&[0, 0, 4, 0, i64::MAX], &[1, 0]), Ok(true));
+}
+
+/// "A point list whose offers from empty are not all accepted returns the first refusal met",
+/// whatever is claimed.
+#[test]
+fn claims_on_refused_points() {
+    let refused = |points: &[(i64, i64)]| {
+        let claims: [&[u64]; 4] = [&[], &[0, 1], &[9], &[u64::MAX]];
+        let [first, others @ ..] = &marks(points, &claims)[..] else { unreachable!() };
+        assert!(others.iter().all(|other| other == first));
+        first.expect_err("a refused list")
+    };
+    let with = |n: i64, place: usize, point: (i64, i64)| {
+        let mut points = parabola(n);
+        points[place] = point;
+        points
+    };
+    let far = (LIMIT + 1, 0);
+    assert_eq!(refused(&[far]), 3);
+    assert_eq!(refused(&[(0, i64::MIN), (0, i64::MIN)]), 3);
+    assert_eq!(refused(&[(0, 0), (0, 0)]), 4);
+    assert_eq!(refused(&[(0, 0), far, (0, 0)]), 3);
+    assert_eq!(refused(&[(0, 0), (0, 0), far]), 4);
+    // 512 points and no more
+    let full: Vec<u64> = (0..512).collect();
+    assert_eq!(marks(&parabola(512), &[&full, &full[1..]]), [Ok(true), Ok(false)]);
+    assert_eq!(refused(&with(512, 511, (0, 0))), 4);
+    assert_eq!(refused(&with(512, 511, far)), 3);
+    for last in [(512, 512 * 512), (0, 0), far] {
+        assert_eq!(refused(&with(513, 512, last)), 2);
+        assert_eq!(refused(&with(600, 550, last)), 2);
+    }
+    assert_eq!(refused(&with(600, 3, (1, 1))), 4);
+    assert_eq!(refused(&with(600, 3, far)), 3);
+    // 512 points and a number
+    let odd: Vec<i64> = parabola(512).iter().flat_map(|&(x, y)| [x, y]).chain([512]).collect();
+    assert_eq!(mark(&odd, &full), Ok(true));
+}

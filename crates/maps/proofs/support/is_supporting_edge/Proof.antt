@@ -19,7 +19,10 @@ loop-holds c = none-passed _ 0
 is-end-or-beside-requires : tie.Need-is-end-or-beside-requires Inv-loop μ-loop
 is-end-or-beside-requires c κs =
     let to = c .before .before in
-    record { places = to .before .before .pre; from-is = to .before .point-at .ensures; to-is = to .point-at2 .ensures }
+    let pre = to .before .before .pre in (
+      record { places = pre .0; from-is = to .before .point-at .ensures; to-is = to .point-at2 .ensures },
+      record { xs-hold = omega (arith, pre .1 .xs-hold); ys-hold = omega (arith, pre .1 .ys-hold) },
+    )
 
 module _ (c : tie.After-is-end-or-beside Inv-loop μ-loop) where
   abbrev at-loop : tie.At-loop Inv-loop μ-loop

@@ -15,9 +15,10 @@ use Rattle.model.specs.Sound.{Shaped}
 use Rattle.admission.specs.Hashes.{AllHashed}
 use Rattle.admission.proofs.Hashing.{none-hashed, one-hashed}
 use Rattle.hull.specs.Requires.{Accepted}
+use Rattle.hull.proofs.Building.{arrive-sound, arrive-points}
 use Rattle.lines.specs.Packing.{Packable}
 use Rattle.reports.specs.Deciding.{Reports, Stopped}
-use Rattle.reports.proofs.Verdicts.{arrive-points, arrive-sound, arrive-packable}
+use Rattle.reports.proofs.Verdicts.{arrive-packable}
 use Rattle.reports.proofs.Decisions.{reports-begin, stop-free, stop-further, stop-accepted}
 use Rattle.reports.proofs.Decisions.{accept-next, stopped-onwards, surveys}
 use Rattle.reports.proofs.deciding.decide_lines.Statement.{statement}

@@ -7,12 +7,13 @@ use Prim.Native.Nat.{ℕ, _-_, _≤_}
 use native.Mathlib.Omega.{arith}
 use borrow.Author.Tests.{lt-ltb, le-ltb}
 use lib.Dec.{eqb}
+use lib.ListN.{length}
 use Rattle.finite.specs.Tests.{_⇒_}
 use Rattle.finite.specs.Bounded.{all}
 use Rattle.finite.specs.Lists.{all-in}
 use Rattle.model.specs.declared.Map.{Map}
 use Rattle.model.specs.Plane.{beside}
-use Rattle.model.specs.Maps.{owner, point, edge-link}
+use Rattle.model.specs.Maps.{point-limit, owner, point, edge-link}
 use Rattle.model.specs.Outline.{next-corner, corners-from, outline}
 use Rattle.model.specs.Sound.{others-beside}
 use Rattle.maps.specs.Places.{aside-at}
@@ -50,7 +51,10 @@ loop-holds c = begun (c .before .args .t1) (c .if1 .left)
 is-supporting-edge-requires : tie.Need-is-supporting-edge-requires Inv-loop μ-loop
 unfolding point
 is-supporting-edge-requires c κs =
-    c .before .before .before .before .before .before .before .before .before .before .before .before .pre
+    let s = c .before .before .before .before .before .before .before .before .before .before .before .before in
+    let xs-whole : length (s .args .t1 .xs) ≡ point-limit = search needs in
+    let ys-whole : length (s .args .t1 .ys) ≡ point-limit = search needs in
+    (s .pre .1, record { xs-hold = omega (arith, s .pre .0); ys-hold = omega (arith, s .pre .0) })
 
 -- where the two calls of a iteration have been made
 module _ (c : tie.After-is-supporting-edge Inv-loop μ-loop) where

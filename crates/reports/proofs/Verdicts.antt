@@ -14,7 +14,7 @@ use Rattle.model.specs.declared.Map.{Map}
 use Rattle.model.specs.declared.Line.{Line}
 use Rattle.model.specs.declared.Offered.{Offered}
 use Rattle.model.specs.Refusals.{Refuses, at-once, later}
-use Rattle.model.specs.Maps.{point-limit, point}
+use Rattle.model.specs.Maps.{point-limit}
 use Rattle.model.specs.Sound.{Shaped}
 use Rattle.model.specs.Arrival.{arrive, refusing}
 use Rattle.model.specs.Outline.{visible-edges}

@@ -55,6 +55,20 @@ pub fn file(points: &[(i64, i64)]) -> Vec<u8> {
     map(points).into_bytes()
 }
 
+/// A file of version 2 in version 1.
+pub fn in_version_1(file: &[u8]) -> Vec<u8> {
+    let bytes = 9 + (file.len() - 9) / 18 * 13;
+    let length = (bytes as u32 - 4).to_be_bytes();
+    [&length[..], &[1], &file[5..bytes]].concat()
+}
+
+/// A file of version 2 whose last record has another dart.
+pub fn with_wrong_record(file: &[u8]) -> Vec<u8> {
+    let mut wrong = file.to_vec();
+    *wrong.last_mut().expect("a file has bytes") ^= 1;
+    wrong
+}
+
 /// The text of its outline.
 pub fn outline(points: &[(i64, i64)]) -> Vec<u8> {
     map(points).outline_text().into_bytes()

@@ -8,7 +8,8 @@
 //! The second form prints the least stack in which each call ends.
 //!
 //! Both answer first, and the answers must be equal. Each call on a map takes its saved bytes and
-//! looks at soundness. Saving has no call of its own: it is part of an offer.
+//! looks at soundness: it builds the map of its points and compares. Saving has no call of its own:
+//! it is part of a load and of an offer.
 
 mod inputs;
 mod measure;
@@ -17,7 +18,7 @@ mod stack;
 #[cfg(test)]
 mod tests;
 
-use reach::{COORDINATE_LIMIT as LIMIT, OUTLINE_BYTES, raw};
+use reach::{COORDINATE_LIMIT as LIMIT, MAP_BYTES, OUTLINE_BYTES, raw};
 use std::hint::black_box;
 
 /// The line that is read by itself.
@@ -28,9 +29,21 @@ struct Table {
 }
 
 impl Table {
-    /// One line: the same call on both sides, each with lists of its own.
+    /// One line: the same call on both sides, each with lists of its own. It is served.
     fn line<T: Clone + PartialEq + std::fmt::Debug>(
         &self,
+        name: &str,
+        lists: T,
+        proved: impl Fn(&mut T) -> u32,
+        plain: impl Fn(&mut T) -> u32,
+    ) {
+        self.answered(0, name, lists, proved, plain);
+    }
+
+    /// One line of a call that answers this number.
+    fn answered<T: Clone + PartialEq + std::fmt::Debug>(
+        &self,
+        number: u32,
         name: &str,
         lists: T,
         proved: impl Fn(&mut T) -> u32,
@@ -39,7 +52,7 @@ impl Table {
         let mut ours = lists.clone();
         let mut theirs = lists;
         let numbers = [proved(&mut ours), plain(&mut theirs)];
-        assert!(numbers == [0, 0] && ours == theirs, "{name}: the answers differ, {numbers:?}");
+        assert!(numbers == [number; 2] && ours == theirs, "{name}: the answers are {numbers:?}");
         let mut first = || {
             black_box(proved(black_box(&mut ours)));
         };
@@ -74,16 +87,32 @@ impl Table {
         let (x, y) = (*x, *y);
         let smaller = &inputs::file(before);
         let file = &inputs::file(points);
+        let (former, wrong) = (&inputs::in_version_1(file), &inputs::with_wrong_record(file));
         let (first, last) = (points[0], points[points.len() / 2]);
         let (inner_x, inner_y) = ((first.0 + last.0) / 2, (first.1 + last.1) / 2);
         let dart = u64::from(file[7]) << 8 | u64::from(file[8]);
         let named = |call: &str| format!("{call} {} {shape} points", points.len());
         self.line(
-            &named("load,"),
+            &named("check,"),
             (),
             |()| raw::check(black_box(file)),
             |()| plain::check(black_box(file)),
         );
+        self.answered(
+            1,
+            &named("refuse the last record of"),
+            (),
+            |()| raw::check(black_box(wrong)),
+            |()| plain::check(black_box(wrong)),
+        );
+        for (name, file) in [("load,", file), ("load version 1,", former)] {
+            self.line(
+                &named(name),
+                (vec![0; MAP_BYTES], [0]),
+                |(out, length)| raw::load(file, out, length),
+                |(out, length)| plain::load(file, out, length),
+            );
+        }
         self.line(
             &named("place,"),
             [0; 3],

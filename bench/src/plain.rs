@@ -3,9 +3,10 @@
 //! The boundary is the engine's: saved bytes in, numbers and lent lists out, soundness looked at in
 //! every call. Points and links stand in arrays, products are 64-bit, and the loops over points
 //! have no branches: the compiler vectorises those that compare coordinates, while products are
-//! taken one by one. As in the engine, soundness compares every outline edge with every point, and
-//! a later arrival looks at every outline edge once, going from own dart to own dart. A map grows in
-//! place. Other than in the engine, a new point is compared with all points, four at a time. The
+//! taken one by one. As in the engine, the points of a file are offered one after another, and the
+//! map that they build is held to the file; a later arrival looks at every outline edge once, going
+//! from own dart to own dart. A map grows in place, and it is compared with the file where that
+//! stands. Other than in the engine, a new point is compared with all points, four at a time. The
 //! positions of an outline's text are read from its front on, and its corners are tested by their
 //! turns, as in the engine. An area is the sum over a fan of triangles, as it is there, and a claim
 //! is tested edge by edge against every point, without a map.
@@ -30,11 +31,20 @@ const SHORT_LIST: u32 = 10;
 const BAD_OUTLINE: u32 = 11;
 const NO_SURVEY: u32 = 12;
 
+/// Version 2 is written, version 1 read too.
+const VERSION: u8 = 2;
+
+/// An arrival, 0 to 3, and the two freed darts.
+type Record = (u8, [u16; 2]);
+
+const NONE_FREED: [u16; 2] = [NO_DART as u16; 2];
+
 struct Map {
     xs: [i32; POINT_LIMIT],
     ys: [i32; POINT_LIMIT],
     helpers: [bool; POINT_LIMIT],
     edge: [u16; DART_LIMIT],
+    records: [Record; POINT_LIMIT],
     count: usize,
     reference: usize,
 }
@@ -106,6 +116,62 @@ fn admission(xs: &[i32], ys: &[i32], x: i64, y: i64) -> u32 {
     0
 }
 
+/// A record as its five bytes.
+fn group_of((arrival, [left, right]): Record) -> [u8; 5] {
+    let ([a, b], [c, d]) = (left.to_be_bytes(), right.to_be_bytes());
+    [arrival, a, b, c, d]
+}
+
+/// What stands in a file that is in form, of either version.
+struct Fields<'a> {
+    reference: usize,
+    points: &'a [[u8; 8]],
+    helpers: &'a [u8],
+    edges: &'a [[u8; 2]],
+    /// Version 1 has none.
+    records: &'a [[u8; 5]],
+}
+
+impl<'a> Fields<'a> {
+    fn of(file: &'a [u8]) -> Option<Self> {
+        let (head, rest) = file.split_first_chunk::<HEAD>()?;
+        let length = u32::from_be_bytes([head[0], head[1], head[2], head[3]]) as usize;
+        let count = usize::from(u16::from_be_bytes([head[5], head[6]]));
+        let point_bytes = match head[4] {
+            1 => 13,
+            VERSION => 18,
+            _ => return None,
+        };
+        let fits = rest.len() == point_bytes * count && length + 4 == file.len();
+        if !fits || count > POINT_LIMIT {
+            return None;
+        }
+        let (points, rest) = rest.split_at(8 * count);
+        let (helpers, rest) = rest.split_at(count);
+        let (edges, records) = rest.split_at(4 * count);
+        let records = records.as_chunks::<5>().0;
+        let all_helpers = helpers.iter().fold(0, |all, helper| all | helper);
+        let all_arrivals = records.iter().fold(0, |all, group| all | group[0]);
+        if all_helpers > 1 || all_arrivals > 3 {
+            return None;
+        }
+        let reference = usize::from(u16::from_be_bytes([head[7], head[8]]));
+        let (points, edges) = (points.as_chunks().0, edges.as_chunks().0);
+        Some(Fields { reference, points, helpers, edges, records })
+    }
+
+    /// Whether a map is the one that stands here, which has its points.
+    fn are_of(&self, map: &Map) -> bool {
+        let has_helper = |(byte, helper): (&u8, &bool)| *byte == u8::from(*helper);
+        let has_link = |(bytes, link): (&[u8; 2], &u16)| *bytes == link.to_be_bytes();
+        let has_record = |(group, record): (&[u8; 5], &Record)| *group == group_of(*record);
+        self.reference == map.reference
+            && self.helpers.iter().zip(&map.helpers).all(has_helper)
+            && self.edges.iter().zip(&map.edge).all(has_link)
+            && self.records.iter().zip(&map.records).all(has_record)
+    }
+}
+
 /// What the links of a map lead to, from its reference.
 struct Outline {
     corners: [u16; POINT_LIMIT],
@@ -125,6 +191,7 @@ impl Map {
             ys: [0; POINT_LIMIT],
             helpers: [false; POINT_LIMIT],
             edge: [0; DART_LIMIT],
+            records: [(0, [0; 2]); POINT_LIMIT],
             count: 0,
             reference: NO_DART,
         }
@@ -132,51 +199,34 @@ impl Map {
 
     // ---- the saved form
 
+    /// The map that the points of a file build, where it is the one in the file.
     fn load(file: &[u8]) -> Result<Self, u32> {
-        let (Some(head), Some(rest)) = (file.first_chunk::<HEAD>(), file.get(HEAD..)) else {
+        let Some(fields) = Fields::of(file) else {
             return Err(BAD_FILE);
         };
-        let length = u32::from_be_bytes([head[0], head[1], head[2], head[3]]) as usize;
-        let n = usize::from(u16::from_be_bytes([head[5], head[6]]));
-        let fits = n <= POINT_LIMIT && rest.len() == 13 * n && length + 4 == file.len();
-        if !fits || head[4] != 1 {
-            return Err(BAD_FILE);
+        let mut map = Map::empty();
+        for &[a, b, c, d, e, f, g, h] in fields.points {
+            let (x, y) = (i32::from_be_bytes([a, b, c, d]), i32::from_be_bytes([e, f, g, h]));
+            if map.offer(i64::from(x), i64::from(y)).is_err() {
+                return Err(NOT_SOUND);
+            }
         }
-        let mut m = Map::empty();
-        m.count = n;
-        m.reference = usize::from(u16::from_be_bytes([head[7], head[8]]));
-        let (points, rest) = rest.split_at(8 * n);
-        let (helpers, edges) = rest.split_at(n);
-        for (k, p) in points.as_chunks::<8>().0.iter().enumerate() {
-            m.xs[k] = i32::from_be_bytes([p[0], p[1], p[2], p[3]]);
-            m.ys[k] = i32::from_be_bytes([p[4], p[5], p[6], p[7]]);
-        }
-        let mut all = 0;
-        for (helper, byte) in m.helpers.iter_mut().zip(helpers) {
-            *helper = *byte == 1;
-            all |= byte;
-        }
-        if all > 1 {
-            return Err(BAD_FILE);
-        }
-        for (link, bytes) in m.edge.iter_mut().zip(edges.as_chunks::<2>().0) {
-            *link = u16::from_be_bytes(*bytes);
-        }
-        if m.is_sound() { Ok(m) } else { Err(NOT_SOUND) }
+        if fields.are_of(&map) { Ok(map) } else { Err(NOT_SOUND) }
     }
 
     fn saved_length(&self) -> usize {
-        HEAD + 13 * self.count
+        HEAD + 18 * self.count
     }
 
-    /// Writes the saved form into a list of its length.
+    /// Writes version 2 of the saved form into a list of its length.
     fn save(&self, out: &mut [u8]) {
         let n = self.count;
         let (head, rest) = out.split_at_mut(HEAD);
         let (points, rest) = rest.split_at_mut(8 * n);
-        let (helpers, edges) = rest.split_at_mut(n);
+        let (helpers, rest) = rest.split_at_mut(n);
+        let (edges, records) = rest.split_at_mut(4 * n);
         head[..4].copy_from_slice(&(self.saved_length() as u32 - 4).to_be_bytes());
-        head[4] = 1;
+        head[4] = VERSION;
         head[5..7].copy_from_slice(&(n as u16).to_be_bytes());
         head[7..].copy_from_slice(&(self.reference as u16).to_be_bytes());
         for (k, p) in points.as_chunks_mut::<8>().0.iter_mut().enumerate() {
@@ -189,54 +239,9 @@ impl Map {
         for (bytes, link) in edges.as_chunks_mut::<2>().0.iter_mut().zip(&self.edge) {
             *bytes = link.to_be_bytes();
         }
-    }
-
-    // ---- soundness
-
-    fn is_sound(&self) -> bool {
-        if !self.points_fit() || !self.links_fit() {
-            return false;
+        for (group, record) in records.as_chunks_mut::<5>().0.iter_mut().zip(&self.records) {
+            *group = group_of(*record);
         }
-        if self.count < 2 {
-            return self.reference == NO_DART && !self.helpers[..self.count].contains(&true);
-        }
-        match self.the_outline() {
-            Some(outline) => self.others_beside(outline.list()),
-            None => false,
-        }
-    }
-
-    fn points_fit(&self) -> bool {
-        let n = self.count;
-        let (xs, ys) = (&self.xs[..n], &self.ys[..n]);
-        let limit = LIMIT as i32;
-        let ranged =
-            |zs: &[i32]| zs.iter().fold(true, |fits, &z| fits & (z >= -limit) & (z <= limit));
-        if !ranged(xs) || !ranged(ys) {
-            return false;
-        }
-        let mut keys = [0u64; POINT_LIMIT];
-        for ((key, &x), &y) in keys.iter_mut().zip(xs).zip(ys) {
-            *key = u64::from(x as u32) << 32 | u64::from(y as u32);
-        }
-        let keys = &mut keys[..n];
-        keys.sort_unstable();
-        keys.windows(2).all(|pair| pair[0] != pair[1])
-    }
-
-    fn links_fit(&self) -> bool {
-        let darts = 2 * self.count;
-        let edge = &self.edge[..darts];
-        (0..darts).all(|d| {
-            let e = usize::from(edge[d]);
-            e == d
-                || (e < darts
-                    && self.helpers[d / 2]
-                    && self.helpers[e / 2]
-                    && usize::from(edge[e]) == d
-                    && (d ^ e) & 1 == 1
-                    && d / 2 != e / 2)
-        })
     }
 
     /// The end of the edge that leaves a corner.
@@ -248,56 +253,11 @@ impl Map {
         usize::from(self.edge[dart]) == dart
     }
 
-    /// The closed walk of the reference, where there is one and no other.
-    fn the_outline(&self) -> Option<Outline> {
-        let start = self.reference / 2;
-        if self.reference % 2 == 1 || start >= self.count {
-            return None;
-        }
-        let mut visited = [false; POINT_LIMIT];
-        let mut outline = Outline { corners: [0; POINT_LIMIT], length: 0 };
-        let mut corner = start;
-        loop {
-            if self.has_fixed_edge(2 * corner) {
-                return None;
-            }
-            visited[corner] = true;
-            outline.corners[outline.length] = corner as u16;
-            outline.length += 1;
-            corner = self.next(corner);
-            if corner == start {
-                break;
-            }
-        }
-        for start in 0..self.count {
-            let mut k = start;
-            while !visited[k] && !self.has_fixed_edge(2 * k) {
-                visited[k] = true;
-                k = self.next(k);
-                if k == start {
-                    return None;
-                }
-            }
-            visited[k] = true;
-        }
-        Some(outline)
-    }
-
     fn point(&self, k: usize) -> [i32; 2] {
         [self.xs[k], self.ys[k]]
     }
 
-    /// All points but the two ends are left of each outline edge or on it.
-    fn others_beside(&self, outline: &[u16]) -> bool {
-        let n = self.count;
-        let (xs, ys) = (&self.xs[..n], &self.ys[..n]);
-        outline.iter().all(|&a| {
-            let a = usize::from(a);
-            is_supporting_edge(xs, ys, a, self.next(a))
-        })
-    }
-
-    /// The outline of a sound map.
+    /// The outline.
     fn outline(&self) -> Outline {
         let mut outline = Outline { corners: [0; POINT_LIMIT], length: 0 };
         if self.count < 2 {
@@ -334,8 +294,12 @@ impl Map {
         self.edge[2 * k + 1] = 2 * k as u16 + 1;
         self.count = k + 1;
         Ok(match k {
-            0 => Arrival::First,
+            0 => {
+                self.records[0] = (0, NONE_FREED);
+                Arrival::First
+            }
             1 => {
+                self.records[1] = (1, NONE_FREED);
                 self.helpers[0] = true;
                 self.helpers[1] = true;
                 self.join(0, 3);
@@ -385,6 +349,7 @@ impl Map {
             right = start;
         }
         if visible == 0 {
+            self.records[k] = (2, NONE_FREED);
             return Arrival::Inside;
         }
         if left == right {
@@ -395,9 +360,12 @@ impl Map {
             right = left;
         }
         let (l, r) = (2 * left, 2 * right + 1);
-        for dart in [usize::from(self.edge[l]), usize::from(self.edge[r])] {
-            self.edge[dart] = dart as u16;
+        let partners = [self.edge[l], self.edge[r]];
+        for dart in partners {
+            self.edge[usize::from(dart)] = dart;
         }
+        // of one visible edge the partners are l and r
+        self.records[k] = (3, if visible == 1 { NONE_FREED } else { partners });
         self.join(l, 2 * k + 1);
         self.join(2 * k, r);
         self.helpers[k] = true;
@@ -852,6 +820,19 @@ pub fn offer(file: &[u8], x: i64, y: i64, out: &mut [u8], arrival: &mut [u64]) -
 #[inline(never)]
 pub fn check(file: &[u8]) -> u32 {
     answer(Map::load(file).map(|_| 0))
+}
+
+#[inline(never)]
+pub fn load(file: &[u8], out: &mut [u8], length: &mut [u64]) -> u32 {
+    answer(Map::load(file).and_then(|map| {
+        let bytes = map.saved_length();
+        let (Some(list), Some(length)) = (out.get_mut(..bytes), length.first_mut()) else {
+            return Err(SHORT_LIST);
+        };
+        *length = bytes as u64;
+        map.save(list);
+        Ok(0)
+    }))
 }
 
 #[inline(never)]

@@ -12,10 +12,11 @@ const PAGE: usize = 4096;
 const LEAST_PAGES: usize = 4;
 const MOST_PAGES: usize = 1024;
 
-const CALLS: [&str; 14] = [
+const CALLS: [&str; 15] = [
     "report, 65,536 bytes",
     "report, 65,537 bytes (number 9)",
     "check, 512 points",
+    "load, 512 points",
     "offer, 511 points",
     "place, 512 points",
     "part, 512 points",
@@ -44,6 +45,10 @@ fn call(name: &str) -> Option<Box<dyn FnOnce() -> u32 + Send>> {
         "report, 65,536 bytes" => report(65_536),
         "report, 65,537 bytes (number 9)" => report(65_537),
         "check, 512 points" => Box::new(move || raw::check(&file)),
+        "load, 512 points" => {
+            let (mut out, mut length) = (vec![0; file.len()], [0]);
+            Box::new(move || raw::load(&file, &mut out, &mut length))
+        }
         "offer, 511 points" => {
             let (mut out, mut arrival) = (vec![0; file.len()], [0; 4]);
             Box::new(move || raw::offer(&smaller, x, y, &mut out, &mut arrival))

@@ -1,6 +1,7 @@
 //! The yardstick measures nothing unless it is right: it is held to the reference on drawn surveys.
 
 use crate::{inputs, plain};
+use reference::saved::VERSIONS;
 use reference::{Answer, Arrival, Ending, Kind, LIMIT, Map, Placed, Point};
 
 /// A number below n.
@@ -21,7 +22,13 @@ fn number<T>(answer: Answer<T>, expected: impl FnOnce(T), got: u32) {
 
 fn compare(file: &[u8], p: Point, dart: u64) {
     let map = Map::load(file);
-    assert_eq!(plain::check(file), map.as_ref().err().copied().unwrap_or(0));
+    assert_eq!(plain::check(file), map.as_ref().err().copied().unwrap_or(0), "{file:?}");
+    let mut loaded = vec![0; 2 * file.len()];
+    let mut length = [0];
+    let got = plain::load(file, &mut loaded, &mut length);
+    let written = &loaded[..length[0] as usize];
+    number(map.as_ref().map(|m| m.save()).map_err(|e| *e), |saved| assert_eq!(saved, written), got);
+
     let mut counts = [0; 5];
     let got = plain::counts(file, &mut counts);
     let c = map.as_ref().map(|m| m.counts()).map_err(|e| *e);
@@ -29,7 +36,6 @@ fn compare(file: &[u8], p: Point, dart: u64) {
     number(c, |c| assert_eq!(counts.map(|z| z as usize), fields(c)), got);
 
     let mut corners = [0; 512];
-    let mut length = [0];
     let got = plain::corners(file, &mut corners, &mut length);
     let listed: Vec<usize> = corners[..length[0] as usize].iter().map(|&k| k as usize).collect();
     number(map.as_ref().map(|m| m.corners()).map_err(|e| *e), |c| assert_eq!(c, listed), got);
@@ -74,10 +80,10 @@ fn compare(file: &[u8], p: Point, dart: u64) {
     };
     number(expected, |placed| assert_eq!(place, values(placed), "{p:?} {file:?}"), got);
 
-    let mut out = vec![0; file.len() + 13];
+    let expected = map.and_then(|mut m| m.offer(p).map(|arrival| (m.save(), arrival)));
+    let mut out = vec![0; expected.as_ref().map_or(0, |(saved, _)| saved.len())];
     let mut arrival = [0; 4];
     let got = plain::offer(file, p.x, p.y, &mut out, &mut arrival);
-    let expected = map.and_then(|mut m| m.offer(p).map(|arrival| (m.save(), arrival)));
     let values = |arrival: Arrival| match arrival {
         Arrival::First => [0; 4],
         Arrival::Second => [1, 0, 0, 0],
@@ -107,13 +113,44 @@ fn the_yardstick_is_right_on_maps() {
                 (_, x, y) => Point::new(x, y),
             };
             let dart = below(&mut state, 40);
-            compare(&map.save(), p, dart);
+            for mut file in VERSIONS.map(|version| map.save_in(version)) {
+                compare(&file, p, dart);
+                let place = below(&mut state, file.len() as u64) as usize;
+                file[place] = file[place].wrapping_add(below(&mut state, 4) as u8);
+                compare(&file, p, dart);
+            }
             let mut file = map.save();
-            let place = below(&mut state, file.len() as u64) as usize;
-            file[place] = file[place].wrapping_add(below(&mut state, 4) as u8);
-            compare(&file, p, dart);
+            if !map.points.is_empty() {
+                // in a record
+                let place =
+                    file.len() - 1 - below(&mut state, 5 * map.points.len() as u64) as usize;
+                file[place] ^= 1 << below(&mut state, 8);
+                compare(&file, p, dart);
+            }
             let _ = map.offer(p);
         }
+    }
+}
+
+#[test]
+fn the_yardstick_is_right_on_full_maps() {
+    let rail = (0..512).map(|i| (if i % 4 < 2 { i } else { -i }, 0)).collect();
+    for points in [inputs::convex(512), inputs::random(512), rail] {
+        let mut map = Map::empty();
+        for &(x, y) in &points {
+            map.offer(Point::new(x, y)).expect("a point that is accepted");
+        }
+        let (file, former) = (map.save(), map.save_in(1));
+        assert_eq!(inputs::in_version_1(&file), former);
+        let p = Point::new(points[0].0 / 2, points[0].1 + 1);
+        compare(&file, p, 1022);
+        compare(&former, p, 1023);
+        let mut wrong = inputs::with_wrong_record(&file);
+        assert_eq!(plain::check(&wrong), 1);
+        compare(&wrong, p, 0);
+        wrong[9 + 13 * 512 + 5 * 511] = 4;
+        assert_eq!(plain::check(&wrong), 7);
+        compare(&wrong, p, 0);
     }
 }
 

@@ -12,8 +12,8 @@
 #include <stdio.h>
 #include <string.h>
 
-#if REACH_HEADER_VERSION != 6
-#error "this program is for version 6 of reach.h"
+#if REACH_HEADER_VERSION != 7
+#error "this program is for version 7 of reach.h"
 #endif
 
 static int values, differences;
@@ -29,8 +29,9 @@ static void is(int line, const char *what, int64_t got, int64_t expected) {
     }
 }
 
-/* The map that the calls read, and how many bytes it has; the map after an offer. */
-static uint8_t map[REACH_MAP_BYTES], next[REACH_MAP_BYTES];
+/* The map that the calls read, and how many bytes it has; the map after an offer, or a loaded one;
+   the map in version 1. */
+static uint8_t map[REACH_MAP_BYTES], next[REACH_MAP_BYTES], former[REACH_MAP_BYTES];
 static size_t bytes;
 
 /* What the calls write. */
@@ -65,6 +66,51 @@ static uint32_t at(size_t place, size_t width) {
 static int64_t coordinate(size_t place) {
     int64_t value = at(place, 4);
     return value < INT64_C(1) << 31 ? value : value - (INT64_C(1) << 32);
+}
+
+/* Puts the map into version 1, and answers how many bytes it then has. */
+static size_t in_version_1(void) {
+    const size_t length_of_all = REACH_FORMER_BYTES(at(REACH_COUNT_PLACE, 2));
+    memcpy(former, map, length_of_all);
+    for (size_t i = 0; i < 4; i++) {
+        former[REACH_LENGTH_PLACE + i] = (uint8_t)((length_of_all - 4) >> (24 - 8 * i));
+    }
+    former[REACH_VERSION_PLACE] = REACH_FORMER_FILE_VERSION;
+    return length_of_all;
+}
+
+/* Loads a file: it is the map, and the tail of the list stays. */
+static void loads(const uint8_t *file, size_t n) {
+    next[bytes - 1] = next[bytes] = 99;
+    length[0] = 0;
+    IS(reach_check(file, n), 0);
+    IS(reach_load(file, n, next, bytes - 1, length, 1), REACH_SHORT_LIST);
+    IS(reach_load(file, n, next, bytes + 1, NULL, 0), REACH_SHORT_LIST);
+    IS(next[bytes - 1], 99);
+    IS(length[0], 0);
+    IS(reach_load(file, n, next, bytes + 1, length, 1), 0);
+    IS(length[0], bytes);
+    IS(memcmp(next, map, bytes), 0);
+    IS(next[bytes], 99);
+}
+
+/* The map is not loaded: the lists stay. */
+static void loads_not(uint32_t refusal) {
+    next[0] = 99;
+    length[0] = 99;
+    IS(reach_check(map, bytes), refusal);
+    IS(reach_load(map, bytes, next, sizeof next, length, 1), refusal);
+    IS(reach_load(map, bytes, NULL, 0, NULL, 0), refusal);
+    IS(next[0], 99);
+    IS(length[0], 99);
+}
+
+/* Changes a byte of the map to another one, which is refused, and puts it back. */
+static void refuses(size_t place, uint8_t byte, uint32_t refusal) {
+    const uint8_t before = map[place];
+    map[place] = byte;
+    loads_not(refusal);
+    map[place] = before;
 }
 
 /* The map's outline as text: it is this one. */
@@ -135,6 +181,8 @@ static void without_points(void) {
     IS(reach_empty(map, sizeof map), 0);
     IS(at(REACH_REFERENCE_PLACE, 2), REACH_NO_REFERENCE);
     IS(at(REACH_COUNT_PLACE, 2), 0);
+    loads(map, bytes);
+    loads(former, in_version_1());
     IS(reach_place(map, bytes, 0, 0, out, 3), 0);
     IS(out[0], REACH_PLACED_NONE);
     IS(reach_corners(map, bytes, NULL, 0, length, 1), 0);
@@ -174,6 +222,12 @@ static void arrivals(void) {
 static void saved_form(void) {
     static const int64_t session[][2] = {{0, 0}, {4, 0}, {1, 3}, {5, 4}, {2, 1}, {6, 7}};
     static const uint32_t links[][2] = {{2, 11}, {11, 2}, {10, 5}, {5, 10}, {6, 6}, {7, 7}};
+    static const uint32_t records[][3] = {{REACH_FIRST, REACH_NONE_FREED, REACH_NONE_FREED},
+                                          {REACH_SECOND, REACH_NONE_FREED, REACH_NONE_FREED},
+                                          {REACH_OUTSIDE, REACH_NONE_FREED, REACH_NONE_FREED},
+                                          {REACH_OUTSIDE, REACH_NONE_FREED, REACH_NONE_FREED},
+                                          {REACH_INSIDE, REACH_NONE_FREED, REACH_NONE_FREED},
+                                          {REACH_OUTSIDE, 7, 6}};
     const size_t n = sizeof session / sizeof session[0];
     IS(bytes, REACH_BYTES(n));
     IS(at(REACH_LENGTH_PLACE, 4), bytes - 4);
@@ -188,12 +242,53 @@ static void saved_form(void) {
     for (size_t i = 0; i < sizeof links / sizeof links[0]; i++) {
         IS(at(REACH_EDGE_PLACE(n, links[i][0]), 2), links[i][1]);
     }
-    IS(REACH_EDGE_PLACE(n, 2 * n), bytes);
-    IS(reach_check(map, bytes), 0);
+    IS(REACH_EDGE_PLACE(n, 2 * n), REACH_FORMER_BYTES(n));
+    IS(REACH_EDGE_PLACE(n, 2 * n), REACH_ARRIVAL_PLACE(n, 0));
+    for (size_t k = 0; k < n; k++) {
+        IS(at(REACH_ARRIVAL_PLACE(n, k), 1), records[k][0]);
+        IS(at(REACH_FREED_LEFT_PLACE(n, k), 2), records[k][1]);
+        IS(at(REACH_FREED_RIGHT_PLACE(n, k), 2), records[k][2]);
+    }
+    IS(REACH_ARRIVAL_PLACE(n, n), bytes);
     IS(reach_check(map, sizeof map), REACH_BAD_FILE);
-    map[REACH_REFERENCE_PLACE + 1] = 6;
-    IS(reach_check(map, bytes), REACH_NOT_SOUND);
-    map[REACH_REFERENCE_PLACE + 1] = 10;
+    loads(map, bytes);
+}
+
+/* The session in both versions, and with a byte changed. */
+static void versions(void) {
+    const size_t n = at(REACH_COUNT_PLACE, 2), few = in_version_1();
+    IS(few, REACH_FORMER_BYTES(n));
+    IS(few, REACH_EMPTY_BYTES + REACH_FORMER_POINT_BYTES * n);
+    loads(former, few);
+    IS(reach_check(former, bytes), REACH_BAD_FILE);
+    IS(reach_check(map, few), REACH_BAD_FILE);
+    IS(reach_counts(former, few, out, 5), 0);
+    IS(out[0], 11);
+    IS(reach_offer(former, few, 0, 9, next, REACH_BYTES(n + 1) - 1, out, 4), REACH_SHORT_LIST);
+    IS(reach_offer(former, few, 0, 9, next, REACH_BYTES(n + 1), out, 4), 0);
+    IS(next[REACH_VERSION_PLACE], REACH_FILE_VERSION);
+    IS(reach_check(next, REACH_BYTES(n + 1)), 0);
+    former[REACH_REFERENCE_PLACE + 1] = 2;
+    IS(reach_check(former, few), REACH_NOT_SOUND);
+
+    refuses(REACH_LENGTH_PLACE + 3, (uint8_t)(few - 4), REACH_BAD_FILE);
+    refuses(REACH_VERSION_PLACE, REACH_FORMER_FILE_VERSION, REACH_BAD_FILE);
+    refuses(REACH_VERSION_PLACE, REACH_FILE_VERSION + 1, REACH_BAD_FILE);
+    refuses(REACH_VERSION_PLACE, 0, REACH_BAD_FILE);
+    refuses(REACH_REFERENCE_PLACE + 1, 2, REACH_NOT_SOUND);
+    refuses(REACH_REFERENCE_PLACE + 1, 6, REACH_NOT_SOUND);
+    refuses(REACH_HELPER_PLACE(n, 4), 1, REACH_NOT_SOUND);
+    refuses(REACH_HELPER_PLACE(n, 4), 2, REACH_BAD_FILE);
+    refuses(REACH_EDGE_PLACE(n, 6) + 1, 3, REACH_NOT_SOUND);
+    for (size_t k = 0; k < n; k++) {
+        refuses(REACH_ARRIVAL_PLACE(n, k), REACH_OUTSIDE + 1, REACH_BAD_FILE);
+        refuses(REACH_ARRIVAL_PLACE(n, k), k == 4 ? REACH_FIRST : REACH_INSIDE, REACH_NOT_SOUND);
+        refuses(REACH_FREED_LEFT_PLACE(n, k) + 1, 1, REACH_NOT_SOUND);
+        refuses(REACH_FREED_RIGHT_PLACE(n, k), 255, REACH_NOT_SOUND);
+    }
+    refuses(REACH_FREED_LEFT_PLACE(n, 5) + 1, 6, REACH_NOT_SOUND);
+    refuses(REACH_FREED_RIGHT_PLACE(n, 5), 4, REACH_NOT_SOUND);
+    loads(map, bytes);
 }
 
 static void orbits(void) {
@@ -407,6 +502,10 @@ static void rail(void) {
     IS(out[1], 0);
     IS(out[2], 0);
     IS(out[3], 2);
+    IS(at(REACH_ARRIVAL_PLACE(3, 2), 1), REACH_OUTSIDE);
+    IS(at(REACH_FREED_LEFT_PLACE(3, 2), 2), 3);
+    IS(at(REACH_FREED_RIGHT_PLACE(3, 2), 2), 2);
+    loads(former, in_version_1());
     measures(0, 0);
     measures(1, 0);
     measures_not(bytes, 2, REACH_NO_DART);
@@ -447,6 +546,11 @@ static void full(void) {
     }
     IS(bytes, REACH_MAP_BYTES);
     IS(offer(-1, 0), REACH_FULL);
+    IS(in_version_1(), REACH_FORMER_BYTES(REACH_POINTS));
+    IS(reach_load(former, REACH_FORMER_BYTES(REACH_POINTS), next, sizeof next, length, 1), 0);
+    IS(length[0], REACH_MAP_BYTES);
+    IS(memcmp(next, map, REACH_MAP_BYTES), 0);
+    refuses(REACH_FREED_RIGHT_PLACE(REACH_POINTS, REACH_POINTS - 1), 3, REACH_NOT_SOUND);
     IS(reach_corners(map, bytes, out, REACH_POINTS, length, 1), 0);
     IS(length[0], REACH_POINTS);
     IS(reach_write_outline(map, bytes, outline, sizeof outline, length, 1), 0);
@@ -476,12 +580,12 @@ static void *run(void *part) {
 int main(void) {
     static struct part parts[] = {
         {REACH_CALL_STACK, without_points}, {REACH_CALL_STACK, arrivals},
-        {REACH_CALL_STACK, saved_form},     {REACH_CALL_STACK, orbits},
-        {REACH_CALL_STACK, walks},          {REACH_CALL_STACK, places},
-        {REACH_CALL_STACK, numbers},        {REACH_REPORT_STACK, reports},
-        {REACH_CALL_STACK, outlines},       {REACH_CALL_STACK, areas},
-        {REACH_CALL_STACK, claims},         {REACH_CALL_STACK, rail},
-        {REACH_CALL_STACK, full},
+        {REACH_CALL_STACK, saved_form},     {REACH_CALL_STACK, versions},
+        {REACH_CALL_STACK, orbits},         {REACH_CALL_STACK, walks},
+        {REACH_CALL_STACK, places},         {REACH_CALL_STACK, numbers},
+        {REACH_REPORT_STACK, reports},      {REACH_CALL_STACK, outlines},
+        {REACH_CALL_STACK, areas},          {REACH_CALL_STACK, claims},
+        {REACH_CALL_STACK, rail},           {REACH_CALL_STACK, full},
     };
     for (size_t i = 0; i < sizeof parts / sizeof parts[0]; i++) {
         pthread_attr_t attributes;

@@ -3,9 +3,12 @@
  * target/staticlib/libreach.a. It is code for x86-64 under Linux and needs memcpy and memset alone.
  *
  * A map crosses the boundary as its saved bytes, REACH_BYTES(n) of them for n points, at most
- * REACH_MAP_BYTES; what stands where is said below. Coordinates are whole numbers from
- * -1,000,000,000 to 1,000,000,000, thousandths of a millimetre; points are numbered from 0 in the
- * order of their acceptance; point k owns dart 2k and may have the helper dart 2k + 1.
+ * REACH_MAP_BYTES; what stands where is said below. Every function that takes a map takes it in
+ * either version of the saved form, and every function that writes one writes version 2; a map of
+ * version 1 has REACH_FORMER_BYTES(n). Coordinates are whole numbers from -1,000,000,000 to
+ * 1,000,000,000, thousandths of a millimetre; points are numbered from 0 in the order of their
+ * acceptance; point k owns dart 2k and may have the helper dart 2k + 1. A map is sound where its
+ * points, offered in this order to the map without points, build it.
  *
  * Every function returns 0 where the call is served, else the number of its refusal. Values go into
  * lists that the caller lends, each a pointer with its number of elements. A list shorter than the
@@ -33,7 +36,7 @@
 
 /* The version of this header: it grows with each change of a function, a number, a limit or the
    saved form. */
-#define REACH_HEADER_VERSION 6
+#define REACH_HEADER_VERSION 7
 
 #ifdef __cplusplus
 extern "C" {
@@ -47,8 +50,9 @@ enum {
                                outline's text: coordinate out of range */
     REACH_REPEATED = 4,     /* offered point: equal to an accepted point */
     REACH_NO_DART = 6,      /* dart absent or above 1,023; area: no place of the listing */
-    REACH_BAD_FILE = 7,     /* file under 9 bytes, length not matching n and the bytes lent, n above
-                               512, version not 1, or helper byte above 1 */
+    REACH_BAD_FILE = 7,     /* file under 9 bytes, length not matching the version, n and the bytes
+                               lent, n above 512, version neither 1 nor 2, helper byte above 1, or
+                               arrival byte above 3 */
     REACH_BAD_LINE = 8,     /* text line not in form */
     REACH_LONG_TEXT = 9,    /* text above 65,536 bytes */
     REACH_SHORT_LIST = 10,  /* lent list shorter than the result */
@@ -57,7 +61,7 @@ enum {
     REACH_NO_SURVEY = 12    /* outline's text: corners that no survey lists in that order */
 };
 
-/* The arrival of an accepted point. */
+/* The arrival of an accepted point, as it is told and as it is saved. */
 enum { REACH_FIRST = 0, REACH_SECOND = 1, REACH_INSIDE = 2, REACH_OUTSIDE = 3 };
 
 /* How a walk ends. */
@@ -85,21 +89,24 @@ enum {
     REACH_TEXT_LIMIT = 65536
 };
 
-/* Lengths that suffice: the bytes of the map without points, what each point adds to them, the
-   bytes of any map, the words of an orbit and its size, the bytes of any outline's text. The last
-   is 12 + 2 * 512 + 23 * 513: the words of a ring, what stands between its positions, and 513
-   positions of two numbers of 11 bytes and a space. That no outline takes more is proved. */
+/* Lengths that suffice: the bytes of the map without points, what each point adds to them, in
+   version 2 and in version 1, the bytes of any map, the words of an orbit and its size, the bytes
+   of any outline's text. The last is 12 + 2 * 512 + 23 * 513: the words of a ring, what stands
+   between its positions, and 513 positions of two numbers of 11 bytes and a space. That no outline
+   takes more is proved. */
 enum {
     REACH_EMPTY_BYTES = 9,
-    REACH_POINT_BYTES = 13,
+    REACH_POINT_BYTES = 18,
+    REACH_FORMER_POINT_BYTES = 13,
     REACH_MAP_BYTES = REACH_EMPTY_BYTES + REACH_POINT_BYTES * REACH_POINTS,
     REACH_ORBIT_WORDS = 17,
     REACH_OUTLINE_BYTES = 12835
 };
 
-/* The bytes of a map of n points, and a length that suffices for the report on a text of n bytes.
- */
+/* The bytes of a map of n points, in version 2 and in version 1, and a length that suffices for the
+   report on a text of n bytes. */
 #define REACH_BYTES(n) (REACH_EMPTY_BYTES + REACH_POINT_BYTES * (n))
+#define REACH_FORMER_BYTES(n) (REACH_EMPTY_BYTES + REACH_FORMER_POINT_BYTES * (n))
 #define REACH_REPORT_BYTES(n) (16 * (n) + 4096)
 
 /* The bytes of stack that reach_report needs, and those that every other function needs. With less
@@ -109,23 +116,37 @@ enum { REACH_REPORT_STACK = 524288, REACH_CALL_STACK = 262144 };
 /*
  * The saved form of a map of n points. Numbers are big-endian.
  *
- *     place              bytes
- *     0                  4      the length of all that follows, 5 + 13 * n
- *     4                  1      the version, REACH_FILE_VERSION
- *     5                  2      n
- *     7                  2      the reference, an own dart on the outline; with fewer than two
- *                               points REACH_NO_REFERENCE
- *     9 + 8 * k          4      x of point k, in two's complement
- *     13 + 8 * k         4      y of point k, in two's complement
- *     9 + 8 * n + k      1      1 where point k has a helper dart, else 0
- *     9 + 9 * n + 2 * d  2      the edge link of dart d, for each d below 2 * n
+ *     place                bytes
+ *     0                    4      the length of all that follows, 5 + 18 * n, in version 1
+ *                                 5 + 13 * n
+ *     4                    1      the version: REACH_FILE_VERSION, which is written, or
+ *                                 REACH_FORMER_FILE_VERSION, which is read too
+ *     5                    2      n
+ *     7                    2      the reference, the own dart of the last point that arrived
+ *                                 second or outside; with fewer than two points
+ *                                 REACH_NO_REFERENCE
+ *     9 + 8 * k            4      x of point k, in two's complement
+ *     13 + 8 * k           4      y of point k, in two's complement
+ *     9 + 8 * n + k        1      1 where point k has a helper dart, else 0
+ *     9 + 9 * n + 2 * d    2      the edge link of dart d, for each d below 2 * n
+ *     9 + 13 * n + 5 * k   1      the arrival of point k, REACH_FIRST to REACH_OUTSIDE
+ *     10 + 13 * n + 5 * k  2      the dart that lost its edge link to the left corner's own dart
+ *                                 when point k arrived outside, or REACH_NONE_FREED
+ *     12 + 13 * n + 5 * k  2      the dart that lost its edge link to the right corner's helper
+ *                                 then, or REACH_NONE_FREED
+ *
+ * The last three, the record of point k, are there in version 2 alone: a file of version 1 ends
+ * with the edge links. Where one edge was visible, the left corner's own dart was linked with the
+ * right corner's helper, and no dart was freed.
  *
  * The edge link of an absent helper is that dart itself. The point link has no place: it joins
  * darts 2k and 2k + 1 where point k has a helper, and fixes 2k where it has none.
  */
 enum {
-    REACH_FILE_VERSION = 1,
+    REACH_FILE_VERSION = 2,
+    REACH_FORMER_FILE_VERSION = 1,
     REACH_NO_REFERENCE = REACH_DARTS,
+    REACH_NONE_FREED = REACH_DARTS,
     REACH_LENGTH_PLACE = 0,
     REACH_VERSION_PLACE = 4,
     REACH_COUNT_PLACE = 5,
@@ -135,6 +156,9 @@ enum {
 #define REACH_Y_PLACE(k) (REACH_EMPTY_BYTES + 8 * (k) + 4)
 #define REACH_HELPER_PLACE(n, k) (REACH_EMPTY_BYTES + 8 * (n) + (k))
 #define REACH_EDGE_PLACE(n, dart) (REACH_EMPTY_BYTES + 9 * (n) + 2 * (dart))
+#define REACH_ARRIVAL_PLACE(n, k) (REACH_EMPTY_BYTES + 13 * (n) + 5 * (k))
+#define REACH_FREED_LEFT_PLACE(n, k) (REACH_ARRIVAL_PLACE(n, k) + 1)
+#define REACH_FREED_RIGHT_PLACE(n, k) (REACH_ARRIVAL_PLACE(n, k) + 3)
 
 /* Writes the orientation of (a, b, c) to out[0]: positive where c is left of the line from a to b,
    zero where it is in line, negative where it is right. It is from -4 * 10^18 to 4 * 10^18.
@@ -142,16 +166,17 @@ enum {
 uint32_t reach_orientation(int64_t ax, int64_t ay, int64_t bx, int64_t by, int64_t cx, int64_t cy,
                            int64_t *out, size_t n);
 
-/* Writes the 9 bytes of the map without points. Refusals: 10. */
+/* Writes the 9 bytes of the map without points, in version 2. Refusals: 10. */
 uint32_t reach_empty(uint8_t *out, size_t n);
 
-/* Offers a point to a map: writes the bytes of the map after it, 13 more than before, to out, and
-   four values to arrival: its kind, the left corner, the right corner and the number of visible
-   edges, the last three 0 unless the kind is REACH_OUTSIDE. An edge is visible where the point lies
-   right of it, or on its line but not between its ends; a point left of each edge or on it is
-   REACH_INSIDE. The visible edges lie between the left and the right corner. Where the outline is
-   two corners and the point in line beyond one of them, left and right are both the corner farther
-   from it, and two edges are visible. Refusals: 7, 1, 2, 3, 4, 10. */
+/* Offers a point to a map: writes the bytes of the map after it, REACH_BYTES of one point more, in
+   version 2 whichever the map has, to out, and four values to arrival: its kind, the left corner,
+   the right corner and the number of visible edges, the last three 0 unless the kind is
+   REACH_OUTSIDE. An edge is visible where the point lies right of it, or on its line but not
+   between its ends; a point left of each edge or on it is REACH_INSIDE. The visible edges lie
+   between the left and the right corner. Where the outline is two corners and the point in line
+   beyond one of them, left and right are both the corner farther from it, and two edges are
+   visible. Refusals: 7, 1, 2, 3, 4, 10. */
 uint32_t reach_offer(const uint8_t *map, size_t n, int64_t x, int64_t y, uint8_t *out, size_t m,
                      uint64_t *arrival, size_t k);
 
@@ -197,9 +222,15 @@ uint32_t reach_place(const uint8_t *map, size_t n, int64_t x, int64_t y, uint64_
 uint32_t reach_corners(const uint8_t *map, size_t n, uint64_t *out, size_t m, uint64_t *length,
                        size_t k);
 
-/* Tells whether these bytes are a file that loads: they are then what saving the map gives.
-   Refusals: 7, 1. */
+/* Tells whether these bytes are a file that loads: in version 2 they are then what saving the map
+   gives, and in version 1 what that version's writer gave. Refusals: 7, 1. */
 uint32_t reach_check(const uint8_t *map, size_t n);
+
+/* Loads a file of either version and writes the version 2 file of its map, and how many bytes it is
+   to length[0]: REACH_BYTES of its points. Of a file of version 2 these are its own bytes.
+   Refusals: 7, 1, 10. */
+uint32_t reach_load(const uint8_t *file, size_t n, uint8_t *out, size_t m, uint64_t *length,
+                    size_t k);
 
 /* Reads a text line, with its one line feed or without it, and writes the coordinates x, y that it
    names, in range or not: numbers of 1 to 10 digits. Refusals: 8, 10. */

@@ -30,7 +30,9 @@ mod map;
 pub mod raw;
 mod refusal;
 
-pub use map::{Arrival, Counts, Ending, Kind, Map, Orbit, Placed, Walk, Walker};
+pub use map::{
+    Arrival, ArrivalKind, Counts, Ending, Kind, Map, Orbit, Placed, Record, Walk, Walker,
+};
 pub use refusal::Refusal;
 
 /// A map has at most so many points.
@@ -41,6 +43,9 @@ pub const COORDINATE_LIMIT: i64 = 1_000_000_000;
 
 /// A text of more bytes is refused.
 pub const TEXT_LIMIT: usize = 65_536;
+
+/// A map has at most so many bytes in the saved form: 9, and 18 for each point.
+pub const MAP_BYTES: usize = 9_225;
 
 /// An outline's text has at most so many bytes: 12 of its words, 2 between each two of at most 513
 /// positions, and at most 23 of each of them.

@@ -1,19 +1,23 @@
-use crate::{OUTLINE_BYTES, Point, Refusal, raw};
+use crate::{MAP_BYTES, OUTLINE_BYTES, Point, Refusal, raw};
 
 const HEAD: usize = 9;
-const POINT_BYTES: usize = 13;
+const POINT_BYTES: usize = 18;
 
-/// A sound map: points in the plane, their darts, and how these are linked.
+/// What stands for a dart that was not freed.
+const NO_DART: usize = 1024;
+
+/// A sound map: points in the plane, their darts, how these are linked, and what each arrival freed.
 ///
-/// A map owns its bytes in the saved form, and is sound by the way it comes about: empty, loaded
-/// from bytes that the engine accepts, or changed by an accepted offer.
+/// A map owns its bytes in version 2 of the saved form, and is sound by the way it comes about:
+/// empty, loaded from bytes that the engine accepts, or changed by an accepted offer. Maps are equal
+/// where their bytes are, and so where the same points came in the same order.
 ///
 /// Point k owns dart 2k and may have the helper dart 2k + 1. Each dart has an edge link and a point
 /// link.
 ///
 /// A method that asks the engine lends it these bytes, and the engine checks them again each time,
-/// as it checks a file: no such call costs less than [`Map::load`]. [`Map::len`],
-/// [`Map::is_empty`], [`Map::point`] and [`Map::as_bytes`] do not ask it.
+/// as it checks a file: it builds the map of its points and compares. [`Map::len`],
+/// [`Map::is_empty`], [`Map::point`], [`Map::record`] and [`Map::as_bytes`] do not ask it.
 #[derive(Clone, Debug, PartialEq, Eq, Hash)]
 pub struct Map {
     bytes: Vec<u8>,
@@ -40,6 +44,46 @@ pub enum Arrival {
         /// The number of outline edges visible from the point.
         visible: usize,
     },
+}
+
+impl Arrival {
+    /// Which of the four it is.
+    ///
+    /// ```
+    /// use reach::{Arrival, ArrivalKind};
+    ///
+    /// let outside = Arrival::Outside { left: 1, right: 0, visible: 1 };
+    /// assert_eq!(outside.kind(), ArrivalKind::Outside);
+    /// ```
+    pub fn kind(self) -> ArrivalKind {
+        match self {
+            Arrival::First => ArrivalKind::First,
+            Arrival::Second => ArrivalKind::Second,
+            Arrival::Inside => ArrivalKind::Inside,
+            Arrival::Outside { .. } => ArrivalKind::Outside,
+        }
+    }
+}
+
+/// How a point arrived, as a map keeps it: an [`Arrival`] without its corners and edges.
+#[derive(Clone, Copy, Debug, PartialEq, Eq, Hash)]
+pub enum ArrivalKind {
+    First,
+    Second,
+    Inside,
+    Outside,
+}
+
+/// What a map keeps of a point's arrival: how it came, and the two darts that it freed. A freed dart
+/// lost its edge link, and stays at the end of an inner chain.
+#[derive(Clone, Copy, Debug, PartialEq, Eq, Hash)]
+pub struct Record {
+    /// How the point arrived.
+    pub arrival: ArrivalKind,
+    /// The dart that was linked with the left corner's own dart, if one was freed.
+    pub freed_left: Option<usize>,
+    /// The dart that was linked with the right corner's helper, if one was freed.
+    pub freed_right: Option<usize>,
 }
 
 /// Which links an orbit follows.
@@ -175,7 +219,7 @@ impl Map {
     /// ```
     /// let map = reach::Map::new();
     /// assert!(map.is_empty());
-    /// assert_eq!(map.as_bytes(), [0, 0, 0, 5, 1, 0, 0, 4, 0]);
+    /// assert_eq!(map.as_bytes(), [0, 0, 0, 5, 2, 0, 0, 4, 0]);
     /// ```
     pub fn new() -> Self {
         let mut bytes = vec![0; HEAD];
@@ -183,12 +227,13 @@ impl Map {
         Map { bytes }
     }
 
-    /// The map of a file.
+    /// The map of a file, in either version of the saved form: a file of version 1 has no records,
+    /// and gets those that its points have.
     ///
     /// # Errors
     ///
     /// [`Refusal::BadFile`] where the bytes are not in the saved form, else [`Refusal::NotSound`]
-    /// where the map in them is not sound.
+    /// where the map in them is not the one that its points build.
     ///
     /// ```
     /// use reach::{Map, Refusal};
@@ -197,17 +242,33 @@ impl Map {
     /// assert_eq!(Map::load(map.as_bytes()), Ok(map));
     /// assert_eq!(Map::load(b"reach"), Err(Refusal::BadFile));
     /// ```
+    ///
+    /// A map of one point in version 1 is equal to the one that is offered it:
+    ///
+    /// ```
+    /// use reach::{Map, Point};
+    ///
+    /// let mut map = Map::new();
+    /// map.offer(Point { x: 3, y: 4 })?;
+    /// let file = b"\0\0\0\x12\x01\0\x01\x04\0\0\0\0\x03\0\0\0\x04\0\0\0\0\x01";
+    /// assert_eq!(Map::load(file)?, map);
+    /// assert_eq!(map.as_bytes().len(), file.len() + 5);
+    /// # Ok::<(), reach::Refusal>(())
+    /// ```
     pub fn load(bytes: &[u8]) -> Result<Self, Refusal> {
-        Refusal::of(raw::check(bytes))?;
-        Ok(Map { bytes: bytes.to_vec() })
+        let mut out = vec![0; MAP_BYTES];
+        let mut length = [0];
+        Refusal::of(raw::load(bytes, &mut out, &mut length))?;
+        let length = usize::try_from(length[0]).expect("the length of a list");
+        Ok(Map { bytes: out[..length].to_vec() })
     }
 
-    /// The map in the saved form.
+    /// The map in version 2 of the saved form.
     pub fn as_bytes(&self) -> &[u8] {
         &self.bytes
     }
 
-    /// The map in the saved form, without a copy.
+    /// The map in version 2 of the saved form, without a copy.
     pub fn into_bytes(self) -> Vec<u8> {
         self.bytes
     }
@@ -243,6 +304,44 @@ impl Map {
         };
         let place = HEAD + 8 * number;
         Some(Point { x: coordinate(place), y: coordinate(place + 4) })
+    }
+
+    /// What is kept of the arrival of the point with a number.
+    ///
+    /// ```
+    /// use reach::{ArrivalKind, Map, Point, Record};
+    ///
+    /// let mut map = Map::new();
+    /// for (x, y) in [(0, 0), (4, 0), (1, 3), (5, 4), (2, 1), (6, 7)] {
+    ///     map.offer(Point { x, y })?;
+    /// }
+    /// let arrival = ArrivalKind::Outside;
+    /// let freed = Record { arrival, freed_left: Some(7), freed_right: Some(6) };
+    /// assert_eq!(map.record(5), Some(freed));
+    /// // from here one edge was visible, and no dart came loose
+    /// let none = Record { arrival, freed_left: None, freed_right: None };
+    /// assert_eq!(map.record(2), Some(none));
+    /// assert_eq!(map.record(4).map(|record| record.arrival), Some(ArrivalKind::Inside));
+    /// assert_eq!(map.record(6), None);
+    /// # Ok::<(), reach::Refusal>(())
+    /// ```
+    pub fn record(&self, number: usize) -> Option<Record> {
+        if self.len() <= number {
+            return None;
+        }
+        let place = HEAD + 13 * self.len() + 5 * number;
+        let group: &[u8; 5] = self.bytes[place..].first_chunk().expect("the bytes of a record");
+        let freed = |i: usize| {
+            let dart = usize::from(u16::from_be_bytes([group[i], group[i + 1]]));
+            (dart != NO_DART).then_some(dart)
+        };
+        let arrival = match group[0] {
+            0 => ArrivalKind::First,
+            1 => ArrivalKind::Second,
+            2 => ArrivalKind::Inside,
+            _ => ArrivalKind::Outside,
+        };
+        Some(Record { arrival, freed_left: freed(1), freed_right: freed(3) })
     }
 
     /// Offers a point. An accepted point gets the next number; a refused one changes nothing.

@@ -3,7 +3,8 @@
 //! Each returns 0 where it is served, else the number of the refusal, and writes its values into
 //! the lent lists: a list that is too short is refused as 10, a longer one keeps its tail, and a
 //! refused call changes no list. The numbers behind each name stand in the order in which their
-//! conditions are looked at. `reach.h` says what each value means.
+//! conditions are looked at. A map is lent in either version of the saved form. `reach.h` says what
+//! each value means, and where it stands in a saved map.
 //!
 //! An empty slice is lent as Rust has it: a dangling pointer, not null, with the length 0.
 
@@ -92,6 +93,14 @@ mod engine {
             k: usize,
         ) -> u32;
         pub fn reach_check(map: *const u8, n: usize) -> u32;
+        pub fn reach_load(
+            file: *const u8,
+            n: usize,
+            out: *mut u8,
+            m: usize,
+            length: *mut u64,
+            k: usize,
+        ) -> u32;
         pub fn reach_line(line: *const u8, n: usize, out: *mut i64, m: usize) -> u32;
         pub fn reach_report(
             text: *const u8,
@@ -138,12 +147,13 @@ pub fn orientation(a: [i64; 2], b: [i64; 2], c: [i64; 2], out: &mut [i64]) -> u3
     unsafe { engine::reach_orientation(a[0], a[1], b[0], b[1], c[0], c[1], list, n) }
 }
 
-/// 10: the bytes of the map without points.
+/// 10: the bytes of the map without points, in version 2.
 pub fn empty(out: &mut [u8]) -> u32 {
     unsafe { engine::reach_empty(out.as_mut_ptr(), out.len()) }
 }
 
-/// 7, 1, 2, 3, 4, 10: the bytes of the map after the offer; kind, left, right, visible.
+/// 7, 1, 2, 3, 4, 10: the bytes of the map after the offer, in version 2; kind, left, right,
+/// visible.
 pub fn offer(map: &[u8], x: i64, y: i64, out: &mut [u8], arrival: &mut [u64]) -> u32 {
     let (list, m) = (out.as_mut_ptr(), out.len());
     let (values, k) = (arrival.as_mut_ptr(), arrival.len());
@@ -198,6 +208,13 @@ pub fn corners(map: &[u8], out: &mut [u64], length: &mut [u64]) -> u32 {
 /// 7, 1: whether a file loads.
 pub fn check(map: &[u8]) -> u32 {
     unsafe { engine::reach_check(map.as_ptr(), map.len()) }
+}
+
+/// 7, 1, 10: the bytes of the version 2 file of a file's map; how many.
+pub fn load(file: &[u8], out: &mut [u8], length: &mut [u64]) -> u32 {
+    let (list, m) = (out.as_mut_ptr(), out.len());
+    let (values, k) = (length.as_mut_ptr(), length.len());
+    unsafe { engine::reach_load(file.as_ptr(), file.len(), list, m, values, k) }
 }
 
 /// 8, 10: x, y.

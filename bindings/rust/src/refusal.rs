@@ -6,7 +6,7 @@ use std::fmt;
 #[derive(Clone, Copy, Debug, PartialEq, Eq, PartialOrd, Ord, Hash)]
 #[non_exhaustive]
 pub enum Refusal {
-    /// The map is not sound.
+    /// The map is not sound: its points, offered in order, do not build it.
     NotSound,
     /// The map has 512 points already.
     Full,
@@ -16,7 +16,7 @@ pub enum Refusal {
     Repeated,
     /// The dart is absent or above 1,023, or an area is asked for from no place of the listing.
     NoDart,
-    /// The bytes are not in the saved form.
+    /// The bytes are not in the saved form, in neither of its versions.
     BadFile,
     /// The text line is not in form.
     BadLine,
@@ -96,8 +96,8 @@ impl fmt::Display for Refusal {
             Refusal::Repeated => "offered point: equal to an accepted point",
             Refusal::NoDart => "dart absent or above 1,023; area: no place of the listing",
             Refusal::BadFile => {
-                "file under 9 bytes, length not matching n and the bytes lent, n above 512, \
-                 version not 1, or helper byte above 1"
+                "file under 9 bytes, length not matching the version, n and the bytes lent, n above \
+                 512, version neither 1 nor 2, helper byte above 1, or arrival byte above 3"
             }
             Refusal::BadLine => "text line not in form",
             Refusal::LongText => "text above 65,536 bytes",

@@ -21,7 +21,7 @@ use Rattle.finite.specs.Bounded.{any, any-at, below-suc}
 use Rattle.model.specs.declared.Point.{Point}
 use Rattle.model.specs.Plane.{coordinate-limit, same-point}
 use Rattle.model.specs.Maps.{point-at}
-use Rattle.model.proofs.Sound.{same-point-eq}
+use Rattle.model.proofs.Shape.{same-point-eq}
 use Rattle.plane.proofs.Bounds.{span}
 use Rattle.admission.specs.Hashes.{hash-count, hash-row, numbered, hash, AllHashed}
 

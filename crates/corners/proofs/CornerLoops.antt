@@ -16,7 +16,7 @@ use Rattle.finite.specs.Rings.{ring-last, ring-more}
 use Rattle.model.specs.declared.Map.{Map}
 use Rattle.model.specs.Maps.{point-limit, owner, point}
 use Rattle.model.specs.Outline.{next-corner, corners-from, outline, lowest-corner, corners}
-use Rattle.model.specs.Sound.{Shaped}
+use Rattle.model.specs.Shape.{Shaped}
 use Rattle.corners.specs.Listing.{ListsCorners, lower-at}
 use Rattle.corners.proofs.Corners.{lowest-of, lowest-found, corners-lowest, few-listed}
 

@@ -25,7 +25,7 @@ use Rattle.model.specs.declared.Map.{Map}
 use Rattle.model.specs.Plane.{lower}
 use Rattle.model.specs.Maps.{owner, point}
 use Rattle.model.specs.Outline.{next-corner, corners-from, outline, lowest-corner, corners}
-use Rattle.model.specs.Sound.{Shaped}
+use Rattle.model.specs.Shape.{Shaped}
 use Rattle.plane.proofs.Heights.{lower-asym, lower-trans, lower-or-same, not-lower-trans}
 use Rattle.maps.proofs.Circuits.{Circuit, Edge, edge-next, circuit-rotate, circuit-corners}
 use Rattle.maps.proofs.Outline.{outline-circuit, outline-first}

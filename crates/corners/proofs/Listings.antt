@@ -25,16 +25,16 @@ use Rattle.model.specs.Plane.{origin, in-range, beside, lower}
 use Rattle.model.specs.Maps.{point-limit, point}
 use Rattle.model.specs.Outline.{next-corner, corners-from, outline, lowest-corner, corners}
 use Rattle.model.specs.Outlines.{corner-points, lowest-is-first, all-support, listable}
-use Rattle.model.specs.Sound.{Shaped}
+use Rattle.model.specs.Shape.{Shaped}
 use Rattle.model.specs.History.{run}
-use Rattle.model.proofs.Sound.{place-ranged}
+use Rattle.model.proofs.Shape.{place-ranged}
 use Rattle.plane.proofs.Orientation.{orientation-twice}
 use Rattle.plane.proofs.Betweenness.{between-ends-differ, beside-zero, not-both-beside}
 use Rattle.plane.proofs.Heights.{lower-asym}
 use Rattle.plane.proofs.Hull.{Supports}
 use Rattle.maps.proofs.Outline.{outline-circuit}
 use Rattle.hull.proofs.Theorems.{outline-is-hull}
-use Rattle.hull.proofs.History.{run-sound}
+use Rattle.hull.proofs.History.{run-shaped}
 use Rattle.hull.proofs.Built.{Different, built-count, built-point}
 use Rattle.corners.proofs.Corners.{lowest-below, lowest-only, corners-lowest, lowest-first, corners-circuit, corners-distinct, corners-members, corner-next, few-listed}
 
@@ -257,7 +257,7 @@ module _ (cs : List Point) (ranged : T (all-in in-range cs)) (l : Listable cs) w
   m = run cs .map
 
   abbrev s : Shaped m
-  s = run-sound cs
+  s = run-shaped cs
 
   all-accepted : m .count ≡ length cs
   all-accepted = built-count cs (l .few) ranged (listable-different cs l)
@@ -365,6 +365,6 @@ listable-listing cs ranged t = offered-listed cs ranged (listable-holds cs t)
 pub listed-iff : (cs : List Point) →
     ((ps : List Point) × (corner-points (run ps .map) ≡ cs)) ↔ (T (all-in in-range cs) × T (listable cs))
 listed-iff cs = (
-  λ h. subst (λ (t : List Point). T (all-in in-range t) × T (listable t)) (h .1) (listing-listable (run-sound (h .0))),
+  λ h. subst (λ (t : List Point). T (all-in in-range t) × T (listable t)) (h .1) (listing-listable (run-shaped (h .0))),
   λ h. (cs, listable-listing cs (h .0) (h .1)),
 )

@@ -29,9 +29,9 @@ use Rattle.model.specs.declared.Placed.{Placed}
 use Rattle.model.specs.Plane.{at, orientation, left-of, in-line, strictly-between}
 use Rattle.model.specs.Maps.{point}
 use Rattle.model.specs.Outline.{next-corner, outline, corners}
-use Rattle.model.specs.Sound.{Shaped}
+use Rattle.model.specs.Shape.{Shaped}
 use Rattle.model.specs.Placing.{is-at, is-on-edge, is-left-of-edge, strictly-sees, strictly-visible, place-among}
-use Rattle.model.proofs.Sound.{same-point-eq, same-point-by}
+use Rattle.model.proofs.Shape.{same-point-eq, same-point-by}
 use Rattle.plane.specs.Between.{opposite}
 use Rattle.plane.proofs.Orientation.{orientation-cyclic, orientation-swap, orientation-twice, left-positive, in-line-zero}
 use Rattle.plane.proofs.Aligned.{left-of-all}

@@ -9,7 +9,7 @@ ghost use mathlib.Core.Path.{_≡_};
 ghost use Prim.Native.Nat.{_≤_};
 ghost use Rattle.finite.specs.Overwriting.{over};
 ghost use Rattle.model.specs.Outline.{lowest-corner};
-ghost use Rattle.model.specs.Sound.{Shaped};
+ghost use Rattle.model.specs.Shape.{Shaped};
 ghost use Rattle.corners.specs.Listing.{HasRoom, ListsCorners, listed, lower-at};
 
 // The corners of a map are the first `count` of `points`, in listing order.

@@ -15,7 +15,7 @@ ghost use Prim.Native.Nat.{_<_};
 ghost use lib.Dec.{T, ltb};
 ghost use Rattle.model.specs.Plane.{in-range};
 ghost use Rattle.model.specs.Maps.{point-limit};
-ghost use Rattle.model.specs.Sound.{Shaped};
+ghost use Rattle.model.specs.Shape.{Shaped};
 ghost use Rattle.model.specs.Placing.{place-among};
 ghost use Rattle.maps.specs.Places.{RangedQuery};
 ghost use Rattle.corners.specs.Viewing.{side-at, side-of, same-at, viewed};

@@ -1,5 +1,6 @@
 // Saving a map into a lent list, and loading the map of a file.
 
+use layout::VERSION;
 use layout::is_in_form;
 use layout::saved_length;
 use maps::empty_map;
@@ -8,8 +9,8 @@ use model::Map;
 use model::Outcome;
 use model::Refusal;
 use model::Written;
-use saved::map_in;
 use saved::write_map;
+use soundness::files::map_of;
 use soundness::is_sound;
 ghost use mathlib.Core.List.{[], _∷_};
 ghost use Rattle.model.specs.Answers.{Answered};
@@ -17,7 +18,7 @@ ghost use Rattle.model.specs.Reading.{unsound};
 ghost use Rattle.model.specs.Lent.{Wrote};
 ghost use Rattle.model.specs.Saved.{load-call, saved};
 
-// The bytes of a map, written into a lent list: numbers 1 and 10. A longer list keeps its tail,
+// The bytes of a map, in version 2, written into a lent list: numbers 1 and 10. A longer list keeps its tail,
 // and a refused call writes nothing.
 pub fn save(map: Map, lent: &mut [u8]) -> Written
     ensures { λ r. ⌜ Wrote (unsound map ∷ []) (saved map)
@@ -26,15 +27,15 @@ pub fn save(map: Map, lent: &mut [u8]) -> Written
     if !is_sound(map) {
         return Written::Refused(Refusal::NotSound);
     }
-    let length = saved_length(map.count);
+    let length = saved_length(VERSION, map.count);
     if lent.len() < length {
         return Written::Refused(Refusal::ShortList);
     }
-    write_map(map, lent);
+    write_map(map, VERSION, lent);
     Written::Length(length)
 }
 
-// The map of a file: number 7, and then number 1. A refused call has the empty map beside its
+// The map of a file of either version: number 7, and then number 1. A refused call has the empty map beside its
 // refusal.
 pub fn load(file: &[u8]) -> Loaded
     ensures { λ r. ⌜ Answered (load-call (now (file .entry))) r ⌝ }
@@ -45,15 +46,5 @@ pub fn load(file: &[u8]) -> Loaded
             map: empty_map(),
         };
     }
-    let map = map_in(file);
-    if !is_sound(map) {
-        return Loaded {
-            outcome: Outcome::Refused(Refusal::NotSound),
-            map: empty_map(),
-        };
-    }
-    Loaded {
-        outcome: Outcome::Served,
-        map,
-    }
+    map_of(file)
 }

@@ -10,10 +10,10 @@ use Prim.Native.Nat.{ℕ, zero, suc, _+_, _<_}
 use native.Mathlib.Nat.{not-suc-le-zero, le-of-suc-le-suc, add-zero, add-suc, suc-add}
 use native.Mathlib.Omega.{arith}
 use lib.Dec.{T, eqb, eqb→eq, eqb-refl, T-not}
-use lib.ListN.{length, getD}
+use lib.ListN.{length, getD, replicate}
 use Rattle.finite.specs.Tests.{and-left, and-right, and-both, or-cases, or-left, or-right}
 use Rattle.finite.specs.Tests.{decide, is-true, is-false, and-true, and-assoc}
-use Rattle.finite.specs.Lists.{elem, same-list, all-in, all-places, total, insert, union}
+use Rattle.finite.specs.Lists.{elem, same-by, same-list, all-in, all-places, total, insert, union}
 
 -- ---- a member
 
@@ -239,20 +239,62 @@ module _ {ℓ} {A : Type ℓ} where
   getD-any (x ∷ s) zero d e h = refl
   getD-any (x ∷ s) (suc k) d e h = getD-any s k d e (le-of-suc-le-suc h)
 
+-- ---- a list of one member, over and over: past its end it stands too where it is the default
+
+pub replicate-at : {A : Type 0} (n : ℕ) (a : A) (k : ℕ) → getD (replicate n a) k a ≡ a
+replicate-at zero a k = refl
+replicate-at (suc n) a zero = refl
+replicate-at (suc n) a (suc k) = replicate-at n a k
+
 -- ---- two lists: the test that they are the same, and the statement
 
+module _ {A : Type 0} (same : A → A → Bool) where
+  pub same-by-eq : ((x y : A) → T (same x y) → x ≡ y) → (s t : List A) → T (same-by same s t) → s ≡ t
+  unfolding same-by
+  same-by-eq eq [] [] h = refl
+  same-by-eq eq [] (y ∷ t) h = absurd h
+  same-by-eq eq (x ∷ s) [] h = absurd h
+  same-by-eq eq (x ∷ s) (y ∷ t) h =
+      rw (eq x y (and-left (same x y) (same-by same s t) h), same-by-eq eq s t (and-right (same x y) (same-by same s t) h))
+
+  pub same-by-refl : ((x : A) → T (same x x)) → (s : List A) → T (same-by same s s)
+  unfolding same-by
+  same-by-refl own [] = tt
+  same-by-refl own (x ∷ s) = and-both (same x x) (same-by same s s) (own x) (same-by-refl own s)
+
+  -- place by place
+  pub same-by-at : (s t : List A) (d : A) → T (same-by same s t) → (k : ℕ) → k < length s →
+      T (same (getD s k d) (getD t k d))
+  unfolding same-by
+  same-by-at [] t d h k l = absurd (not-suc-le-zero l)
+  same-by-at (x ∷ s) [] d h k l = absurd h
+  same-by-at (x ∷ s) (y ∷ t) d h zero l = and-left (same x y) (same-by same s t) h
+  same-by-at (x ∷ s) (y ∷ t) d h (suc k) l =
+      same-by-at s t d (and-right (same x y) (same-by same s t) h) k (le-of-suc-le-suc l)
+
+  pub same-by-by : (s t : List A) (d : A) → length s ≡ length t →
+      ((k : ℕ) → k < length s → T (same (getD s k d) (getD t k d))) → T (same-by same s t)
+  unfolding same-by
+  same-by-by [] [] d e f = tt
+  same-by-by [] (y ∷ t) d e f = absurd (omega arith)
+  same-by-by (x ∷ s) [] d e f = absurd (omega arith)
+  same-by-by (x ∷ s) (y ∷ t) d e f =
+      and-both (same x y) (same-by same s t) (f 0 (omega arith))
+      (same-by-by s t d (omega arith) (λ k l. f (suc k) (omega arith)))
+
+  -- lists of different lengths are not the same
+  pub same-by-length : (s t : List A) → T (same-by same s t) → length s ≡ length t
+  unfolding same-by
+  same-by-length [] [] h = refl
+  same-by-length [] (y ∷ t) h = absurd h
+  same-by-length (x ∷ s) [] h = absurd h
+  same-by-length (x ∷ s) (y ∷ t) h = ap suc (same-by-length s t (and-right (same x y) (same-by same s t) h))
+
 pub same-list-eq : (s t : List ℕ) → T (same-list s t) → s ≡ t
-unfolding same-list
-same-list-eq [] [] h = refl
-same-list-eq [] (y ∷ t) h = absurd h
-same-list-eq (x ∷ s) [] h = absurd h
-same-list-eq (x ∷ s) (y ∷ t) h =
-    rw (eqb→eq x y (and-left (eqb x y) (same-list s t) h), same-list-eq s t (and-right (eqb x y) (same-list s t) h))
+same-list-eq = same-by-eq eqb eqb→eq
 
 pub same-list-refl : (s : List ℕ) → T (same-list s s)
-unfolding same-list
-same-list-refl [] = tt
-same-list-refl (x ∷ s) = and-both (eqb x x) (same-list s s) (eqb-refl x) (same-list-refl s)
+same-list-refl = same-by-refl eqb eqb-refl
 
 -- ---- the sum of what is put together
 

@@ -15,12 +15,15 @@ unfoldable pub elem : ℕ → List ℕ → Bool
 elem x [] = false
 elem x (y ∷ s) = eqb x y || elem x s
 
--- the same numbers in the same order
-unfoldable pub same-list : List ℕ → List ℕ → Bool
-same-list [] [] = true
-same-list [] (y ∷ t) = false
-same-list (x ∷ s) [] = false
-same-list (x ∷ s) (y ∷ t) = eqb x y && same-list s t
+-- the same members in the same order, by a test of two members; of numbers
+unfoldable pub same-by : {A : Type 0} → (A → A → Bool) → List A → List A → Bool
+same-by same [] [] = true
+same-by same [] (y ∷ t) = false
+same-by same (x ∷ s) [] = false
+same-by same (x ∷ s) (y ∷ t) = same x y && same-by same s t
+
+abbrev pub same-list : List ℕ → List ℕ → Bool
+same-list = same-by eqb
 
 module _ {ℓ} {A : Type ℓ} where
   -- p passes at every member

@@ -18,9 +18,9 @@ use lib.ListN.{length, getD, set, drop, length-drop, length-set}
 use lib.Seq.{getD-drop, getD-set-same, getD-set-other, ext-getD}
 use Rattle.finite.specs.Tests.{of-true, same-test}
 use Rattle.finite.specs.Bounded.{all, table, all-at, all-by, below-suc, length-table, getD-table}
-use Rattle.finite.specs.Lists.{all-in, all-places, ring}
+use Rattle.finite.specs.Lists.{same-by, all-in, all-places, ring}
 use Rattle.finite.specs.ListLaws.{getD-any, all-in-at, all-in-by, all-places-at}
-use Rattle.finite.specs.ListLaws.{all-places-by}
+use Rattle.finite.specs.ListLaws.{all-places-by, same-by-at, same-by-by}
 
 -- what `if !r { return false; }` tells, where the code found r for the test t
 pub passes : {r t : Bool} → r ≡ t → not r ≡ false → t ≡ true
@@ -112,6 +112,12 @@ module _ {A : Type 0} (s : List A) (n : ℕ) (d : A) where
             subst (λ (a : A). T (p a)) (sym (getD-drop n s i d))
             (f (n + i) (omega arith) (omega (arith, length-drop n s))));
       }
+
+-- two lists of the same length, member by member
+pub side-by-side : {A : Type 0} (same : A → A → Bool) (s t : List A) (d : A) → length s ≡ length t →
+    Tests (same-by same s t) (λ k. same (getD s k d) (getD t k d)) 0 (length s)
+side-by-side same s t d e =
+    record { each = λ h k from l. same-by-at same s t d h k l; whole = λ f. same-by-by same s t d e (λ k l. f k (omega arith) l) }
 
 -- past a list stands what the place says
 module _ {A : Type 0} (s : List A) (past : ℕ → A) where

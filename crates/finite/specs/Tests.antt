@@ -4,7 +4,7 @@
 -- `T b` is the type that has an element just where the test b passes (lib.Dec).
 use mathlib.Core.Path.{_≡_, refl, sym, subst}
 use mathlib.Core.Logic.{_≢_, _⊎_, inl, inr, ⊎-elim}
-use mathlib.Core.Bool.{Bool, true, false, not, cond, _&&_, _||_}
+use mathlib.Core.Bool.{Bool, true, false, not, cond, _&&_, _||_, Bool·beq}
 use Prim.Native.Nat.{ℕ}
 use lib.Dec.{T, T-not, not-T, eqb, eqb→eq, eqb-refl}
 
@@ -13,6 +13,17 @@ infixr 25 _⇒_
 abbrev pub _⇒_ : Bool → Bool → Bool
 true ⇒ b = b
 false ⇒ b = true
+
+-- both pass or neither does
+pub beq-eq : (a b : Bool) → T (Bool·beq a b) → a ≡ b
+beq-eq true true t = refl
+beq-eq true false t = absurd t
+beq-eq false true t = absurd t
+beq-eq false false t = refl
+
+pub beq-refl : (a : Bool) → T (Bool·beq a a)
+beq-refl true = tt
+beq-refl false = tt
 
 pub and-left : (a b : Bool) → T (a && b) → T a
 and-left true b t = tt

@@ -3,7 +3,7 @@
 -- one alone is kept; else the visible edges are one run, and the corners outside of it are kept.
 -- plane/proofs has the geometry, maps/proofs the links.
 -- In the order of this page: inside; outside, beyond one of two corners; outside, with the run of visible
--- edges; outside, both cases; every arrival; every offer.
+-- edges; outside, both cases; every arrival.
 use mathlib.Core.Path.{_≡_, ap}
 use mathlib.Core.Logic.{_≢_, ⊎-elim}
 use mathlib.Core.List.{[], _∷_, _++_}
@@ -20,9 +20,9 @@ use Rattle.model.specs.declared.Offered.{Offered}
 use Rattle.model.specs.Plane.{beside}
 use Rattle.model.specs.Maps.{point}
 use Rattle.model.specs.Outline.{next-corner, previous-corner, outline, sees, visible-edges}
-use Rattle.model.specs.Sound.{Shaped}
-use Rattle.model.specs.Arrival.{turning-left, turning-right, is-beyond, farther, left-corner, right-corner, spliced, arrive}
-use Rattle.model.specs.Offers.{offer}
+use Rattle.model.specs.Shape.{Shaped}
+use Rattle.model.specs.Arrival.{first-kind, inside-kind, turning-left, turning-right, is-beyond, farther, left-corner, right-corner, spliced, arrive, admission-rules, refusing, admitted}
+use Rattle.model.proofs.Answers.{RulesDecide, refuses, serves, unless-decides}
 use Rattle.plane.proofs.Betweenness.{Between, between-symmetric, beside-between, hidden-beside}
 use Rattle.plane.proofs.Convex.{Convex}
 use Rattle.plane.proofs.Beyond.{farther-tangent}
@@ -35,7 +35,7 @@ use Rattle.maps.proofs.Pair.{pair-sound}
 use Rattle.maps.proofs.Splice.{Kept}
 use Rattle.maps.proofs.Spliced.{spliced-arc, spliced-single, spliced-sound, spliced-beside, spliced-outline}
 use Rattle.hull.specs.Requires.{Accepted}
-use Rattle.hull.proofs.Outcomes.{Decided, accepted, refused, Arrives, first, second, inside, outside, arrive-arrives, offer-decided}
+use Rattle.hull.proofs.Outcomes.{accepted-by, Arrives, first, second, inside, outside, arrive-arrives}
 use Rattle.hull.proofs.Beyond.{sound-convex, other-point, two-long, few, farther-on, farther-ahead, beyond-visible, left-is, right-is, by-beyond}
 
 module _ {m : Map} {p : Point} (a : Accepted m p) (two : 2 ≤ m .count) where
@@ -146,17 +146,22 @@ module _ {m : Map} {p : Point} (a : Accepted m p) (two : 2 ≤ m .count) where
 
 pub arrival-sound : (m : Map) (p : Point) → Accepted m p → (o : Offered) → Arrives m p o → Shaped (o .map)
 arrival-sound m p a o (first e) =
-    alone-sound p (a .is-sound) (a .room) (λ one. omega arith) (a .ranged) (a .fresh) (λ two. absurd (omega arith))
+    alone-sound first-kind p (omega arith) (a .is-sound) (a .room) (λ one. omega arith) (a .ranged) (a .fresh)
+    (λ two. absurd (omega arith))
 arrival-sound m p a o (second e) = pair-sound p (a .is-sound) e (a .ranged) (a .fresh)
 arrival-sound m p a o (inside two none) =
-    alone-sound p (a .is-sound) (a .room) (λ one. omega arith) (a .ranged) (a .fresh) (λ two. inside-beside a two none)
+    alone-sound inside-kind p (omega arith) (a .is-sound) (a .room) (λ one. omega arith) (a .ranged) (a .fresh)
+    (λ two. inside-beside a two none)
 arrival-sound m p a o (outside two some) = outside-sound a two some
 
--- ---- every offer: an accepted one gives a sound map, and a refused one gives the same map
+pub arrive-sound : {m : Map} {p : Point} → Accepted m p → Shaped (arrive m p .map)
+arrive-sound {m} {p} a = arrival-sound m p a (arrive m p) (arrive-arrives m p)
 
-pub offer-sound : (m : Map) (p : Point) → Shaped m → Shaped (offer m p .map)
-offer-sound m p s = decided-sound (offer m p) (offer-decided m p)
+-- and a point that is refused leaves the map as it was
+pub admitted-sound : (m : Map) (p : Point) → Shaped m → Shaped (admitted m p .map)
+unfolding admitted
+admitted-sound m p s = decided (admitted m p) (unless-decides (refusing m) (admission-rules m p) (arrive m p))
   where
-    decided-sound : (o : Offered) → Decided m p o → Shaped (o .map)
-    decided-sound o (accepted a) = arrival-sound m p a (arrive m p) (arrive-arrives m p)
-    decided-sound o (refused r first-rule) = s
+    decided : (o : Offered) → RulesDecide (refusing m) (admission-rules m p) (arrive m p) o → Shaped (o .map)
+    decided o (refuses q by-rule) = s
+    decided o (serves free) = arrive-sound (accepted-by p s free)

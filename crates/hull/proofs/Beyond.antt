@@ -23,7 +23,7 @@ use Rattle.model.specs.declared.Map.{Map}
 use Rattle.model.specs.Plane.{strictly-between}
 use Rattle.model.specs.Maps.{owner, point}
 use Rattle.model.specs.Outline.{next-corner, previous-corner, outline, sees, visible-edges}
-use Rattle.model.specs.Sound.{Shaped}
+use Rattle.model.specs.Shape.{Shaped}
 use Rattle.model.specs.Arrival.{turning-left, turning-right, is-farther, is-beyond, farther, left-corner, right-corner}
 use Rattle.plane.specs.Between.{dot, opposite}
 use Rattle.plane.proofs.Betweenness.{between-of, of-between, between-nearer, between-symmetric, orientation-zero-last, not-both-between}

@@ -11,15 +11,16 @@ use borrow.Author.Tests.{eq-eqb, ne-eqb}
 use lib.IntN.{ℤ}
 use lib.ListN.{set}
 use Rattle.model.specs.declared.Point.{Point}
+use Rattle.model.specs.declared.Note.{Note}
 use Rattle.model.specs.declared.Map.{Map}
 use Rattle.model.specs.declared.Arrival.{Arrival}
 use Rattle.model.specs.Maps.{map-of}
 use Rattle.model.specs.Outline.{visible-edges}
-use Rattle.model.specs.Arrival.{left-corner, right-corner, with-point, alone, pair, spliced}
+use Rattle.model.specs.Arrival.{left-corner, right-corner, first-kind, inside-kind, with-point, alone, pair, spliced}
 use Rattle.model.specs.Arrival.{arrived, later-point, arrive}
 
 module _ (m : Map) (p : Point) where
-  pub first : m .count ≡ 0 → arrived Arrival.First (alone m p) ≡ arrive m p
+  pub first : m .count ≡ 0 → arrived Arrival.First (alone first-kind m p) ≡ arrive m p
   unfolding arrive
   first e = rw (eq-eqb (m .count) 0 e)
 
@@ -31,7 +32,7 @@ module _ (m : Map) (p : Point) where
   unfolding arrive
   later n₀ n₁ = rw (ne-eqb (m .count) 0 n₀, ne-eqb (m .count) 1 n₁)
 
-  pub inside : visible-edges m p ≡ 0 → arrived Arrival.Inside (alone m p) ≡ later-point m p
+  pub inside : visible-edges m p ≡ 0 → arrived Arrival.Inside (alone inside-kind m p) ≡ later-point m p
   unfolding later-point
   inside e = rw e
 
@@ -41,12 +42,18 @@ module _ (m : Map) (p : Point) where
   unfolding later-point
   outside n = rw (ne-eqb (visible-edges m p) 0 n)
 
--- ---- the arrays after an arrival: p was put into the coordinates, and the others are the definition's
+-- ---- the arrays after an arrival: p was put into the coordinates, what is noted of it into the notes, and the
+-- others are the definition's
 
-pub grown : (m : Map) (p : Point) {xs ys : List ℤ} {helpers helpers′ : List Bool} {edge edge′ : List ℕ}
-    (reference : ℕ) →
+pub grown : (m : Map) (p : Point) {noted noted′ : Note} {xs ys : List ℤ} {helpers helpers′ : List Bool}
+    {edge edge′ : List ℕ} {arrivals lefts rights : List ℕ} (reference : ℕ) →
     (xs ≡ set (m .xs) (m .count) (p .x)) × (ys ≡ set (m .ys) (m .count) (p .y)) →
+    noted ≡ noted′ →
+    (arrivals ≡ set (m .arrivals) (m .count) (noted .arrival)) × (lefts ≡ set (m .lefts) (m .count) (noted .left))
+    × (rights ≡ set (m .rights) (m .count) (noted .right)) →
     (helpers ≡ helpers′) × (edge ≡ edge′) →
-    map-of xs ys helpers edge (m .count + 1) reference ≡ with-point m p helpers′ edge′ reference
+    map-of xs ys helpers edge arrivals lefts rights (m .count + 1) reference
+    ≡ with-point m p noted′ helpers′ edge′ reference
 unfolding with-point
-grown m p reference put linked = rw (put .0, put .1, linked .0, linked .1, add-one (m .count))
+grown m p reference put same noting linked =
+    rw (put .0, put .1, noting .0, noting .1, noting .2, linked .0, linked .1, add-one (m .count), same)

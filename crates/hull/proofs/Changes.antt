@@ -11,25 +11,28 @@ use borrow.Author.Tests.{eq-eqb, ne-eqb}
 use lib.Dec.{T, ltb, ltb→lt, lt→ltb}
 use Rattle.finite.specs.Tests.{is-true, is-false, same-test, same-or-not}
 use Rattle.model.specs.declared.Point.{Point}
+use Rattle.model.specs.declared.Note.{Note}
 use Rattle.model.specs.declared.Map.{Map}
 use Rattle.model.specs.declared.Offered.{Offered}
-use Rattle.model.specs.Maps.{own, helper, owner, other-dart, point, has-helper, edge-link, point-link}
+use Rattle.model.specs.Maps.{own, helper, owner, other-dart, point, has-helper, edge-link, point-link, note}
 use Rattle.model.specs.Outline.{visible-edges}
-use Rattle.model.specs.Sound.{Shaped}
-use Rattle.model.specs.Arrival.{left-corner, right-corner, with-point, alone, pair, spliced, arrive}
+use Rattle.model.specs.Shape.{Shaped}
+use Rattle.model.specs.Arrival.{left-corner, right-corner, first-kind, inside-kind, freeing-none, with-point, alone, pair, spliced, arrive}
 use Rattle.model.specs.Offers.{offer}
 use Rattle.model.specs.Changes.{joined, parted, with-helper, Grown, FirstGrown, SecondGrown, InsideGrown, Lone, OutsideGrown, Changes, first, second, inside, outside, refused}
 use Rattle.maps.proofs.Darts.{owner-own, own-or-helper, point-own, point-helper, point-lone}
 use Rattle.maps.proofs.Outline.{outline-circuit}
 use Rattle.maps.proofs.Same.{same-map}
-use Rattle.maps.proofs.Points.{point-new, point-old}
+use Rattle.maps.proofs.Points.{point-new, point-old, note-new, note-old}
 use Rattle.maps.proofs.Alone.{alone-new-fixed}
 use Rattle.maps.proofs.Splice.{Splices}
 use Rattle.maps.proofs.Spliced.{spliced-splices, spliced-helper-new, spliced-helper-old}
 use Rattle.maps.proofs.Pair.{all-fixed, pair-helper, pair-owned, pair-splices}
 use Rattle.hull.specs.Requires.{Accepted}
-use Rattle.hull.proofs.Outcomes.{Decided, accepted, Arrives, arrive-arrives, offer-decided}
+use Rattle.hull.proofs.Outcomes.{Arrives, arrive-arrives}
 use Rattle.hull.proofs.Outcomes as outcomes
+use Rattle.hull.proofs.Offers.{Decided, accepted, offer-decided}
+use Rattle.hull.proofs.Offers as offers
 use Rattle.hull.proofs.Arrivals.{corners-on}
 
 -- ---- v is where a link leads that is made by cases
@@ -55,38 +58,47 @@ parted-is a b link d v f g h =
 -- ---- a point that arrives alone
 
 module _ {m : Map} {p : Point} (a : Accepted m p) where
-  -- all is as it was, but for the new point
-  pub inside-changes : InsideGrown m p (alone m p)
+  -- all is as it was, but for the new point and what is noted of it
+  alone-changes : (kind : ℕ) →
+      Grown m p (freeing-none kind) (has-helper m) (point-link m) (edge-link m) (m .reference) (alone kind m p)
   unfolding alone with-point has-helper edge-link point-link
-  inside-changes =
+  alone-changes kind =
+      let noted = freeing-none kind in
       record {
         count = refl;
-        new-point = point-new (a .is-sound) (a .room) p (m .helpers) (m .edge) (m .reference);
-        old-points = point-old (a .is-sound) (a .room) p (m .helpers) (m .edge) (m .reference);
+        new-point = point-new (a .is-sound) (a .room) p noted (m .helpers) (m .edge) (m .reference);
+        old-points = point-old (a .is-sound) (a .room) p noted (m .helpers) (m .edge) (m .reference);
+        new-note = note-new (a .is-sound) (a .room) p noted (m .helpers) (m .edge) (m .reference);
+        old-notes = note-old (a .is-sound) (a .room) p noted (m .helpers) (m .edge) (m .reference);
         helpers = λ k. refl;
         points-linked = λ d. refl;
         edges-linked = λ d. refl;
         reference = refl;
       }
 
-  pub inside-lone : Lone (alone m p) (m .count)
+  pub inside-changes : InsideGrown m p (alone inside-kind m p)
+  inside-changes = alone-changes inside-kind
+
+  pub inside-lone : Lone (alone inside-kind m p) (m .count)
   inside-lone =
       let none : ¬ T (has-helper m (m .count)) = λ t. omega (arith, a .is-sound .links .owned (m .count) t) in
       let g = inside-changes in
       record {
         no-helper = rw (g .helpers (m .count)) none;
         point-fixed = g .points-linked (own (m .count)) ∙ point-lone m (own (m .count)) (rw (owner-own (m .count)) none);
-        edge-fixed = g .edges-linked (own (m .count)) ∙ alone-new-fixed (a .is-sound) p;
+        edge-fixed = g .edges-linked (own (m .count)) ∙ alone-new-fixed (a .is-sound) inside-kind p;
       }
 
-  pub first-changes : m .count ≡ 0 → FirstGrown m p (alone m p)
+  pub first-changes : m .count ≡ 0 → FirstGrown m p (alone first-kind m p)
   first-changes none =
       let bare = a .is-sound .bare (omega arith) in
-      let g = inside-changes in
+      let g = alone-changes first-kind in
       record {
         count = g .count;
         new-point = g .new-point;
         old-points = g .old-points;
+        new-note = g .new-note;
+        old-notes = g .old-notes;
         helpers = λ k. g .helpers k ∙ is-false (has-helper m k) (bare .no-helper k);
         points-linked = λ d. g .points-linked d ∙ point-lone m d (bare .no-helper (owner d));
         edges-linked = λ d. g .edges-linked d ∙ all-fixed (a .is-sound) (omega arith) d;
@@ -142,8 +154,10 @@ module _ {m : Map} {p : Point} (a : Accepted m p) where
     second-changes =
         record {
           count = refl;
-          new-point = point-new s (a .room) p _ _ 2;
-          old-points = point-old s (a .room) p _ _ 2;
+          new-point = point-new s (a .room) p _ _ _ 2;
+          old-points = point-old s (a .room) p _ _ _ 2;
+          new-note = note-new s (a .room) p _ _ _ 2;
+          old-notes = note-old s (a .room) p _ _ _ 2;
           helpers = second-helpers;
           points-linked = second-points;
           edges-linked = second-edges;
@@ -220,8 +234,10 @@ module _ {m : Map} {p : Point} (a : Accepted m p) where
     outside-changes =
         record {
           count = refl;
-          new-point = point-new (a .is-sound) (a .room) p _ _ (own (m .count));
-          old-points = point-old (a .is-sound) (a .room) p _ _ (own (m .count));
+          new-point = point-new (a .is-sound) (a .room) p _ _ _ (own (m .count));
+          old-points = point-old (a .is-sound) (a .room) p _ _ _ (own (m .count));
+          new-note = note-new (a .is-sound) (a .room) p _ _ _ (own (m .count));
+          old-notes = note-old (a .is-sound) (a .room) p _ _ _ (own (m .count));
           helpers = outside-helpers;
           points-linked = outside-points;
           edges-linked = outside-edges;
@@ -241,18 +257,23 @@ pub nothing-else-changes : (m : Map) (p : Point) → Changes m p (offer m p .arr
 nothing-else-changes m p = decided (offer m p) (offer-decided m p)
   where
     decided : (o : Offered) → Decided m p o → Changes m p (o .arrival) (o .map)
-    decided o (accepted a) = arrival-changes m p a (arrive m p) (arrive-arrives m p)
-    decided o (outcomes.refused r by-rule) = refused r
+    decided o (accepted t a) = arrival-changes m p a (arrive m p) (arrive-arrives m p)
+    decided o (offers.refused r by-rule) = refused r
 
 -- ---- the changes fix the map
 
-pub grown-only : {m : Map} {p : Point} {helped : ℕ → Bool} {point-links edge-links : ℕ → ℕ} {dart : ℕ}
-    {m₁ m₂ : Map} → Shaped m₁ → Shaped m₂ → Grown m p helped point-links edge-links dart m₁ →
-    Grown m p helped point-links edge-links dart m₂ → m₁ ≡ m₂
+pub grown-only : {m : Map} {p : Point} {noted : Note} {helped : ℕ → Bool} {point-links edge-links : ℕ → ℕ} {dart : ℕ}
+    {m₁ m₂ : Map} → Shaped m₁ → Shaped m₂ → Grown m p noted helped point-links edge-links dart m₁ →
+    Grown m p noted helped point-links edge-links dart m₂ → m₁ ≡ m₂
 grown-only {m} {m₁ = m₁} {m₂} s t g h =
     same-map s t (g .count ∙ sym (h .count)) points (λ k. g .helpers k ∙ sym (h .helpers k))
-    (λ d. g .edges-linked d ∙ sym (h .edges-linked d)) (g .reference ∙ sym (h .reference))
+    (λ d. g .edges-linked d ∙ sym (h .edges-linked d)) notes (g .reference ∙ sym (h .reference))
   where
+    notes : (k : ℕ) → note m₁ k ≡ note m₂ k
+    notes k =
+        ⊎-elim (λ (e : k ≡ m .count). rw e (g .new-note ∙ sym (h .new-note)))
+        (λ (n : k ≢ m .count). g .old-notes k n ∙ sym (h .old-notes k n)) (same-or-not k (m .count))
+
     points : (k : ℕ) → point m₁ k ≡ point m₂ k
     points k =
         ⊎-elim (λ (e : k ≡ m .count). rw e (g .new-point ∙ sym (h .new-point)))

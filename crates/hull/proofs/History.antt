@@ -5,14 +5,14 @@
 -- accepted offer; every list of offers; the claims; a refused offer.
 use mathlib.Core.Path.{_≡_, refl, sym, ap, subst, _∙_}
 use mathlib.Core.Logic.{_≢_, ⊎-elim}
-use mathlib.Core.Bool.{Bool, cond}
+use mathlib.Core.Bool.{cond}
 use mathlib.Core.List.{List, [], _∷_, _++_, map, map-append}
 use Prim.Native.Nat.{ℕ, suc, _+_, _*_, _≤_, _<_}
 use native.Mathlib.Omega.{arith}
 use lib.Dec.{T, ltb, lt→ltb}
 use lib.ListN.{length}
 use Rattle.finite.specs.Tests.{is-true, is-false, same-or-not}
-use Rattle.finite.specs.Bounded.{one-if, table, table-onto, table-more, table-same, lt-or-ge}
+use Rattle.finite.specs.Bounded.{one-if, table, table-onto, lt-or-ge}
 use Rattle.finite.specs.Lists.{distinct, count-in, total}
 use Rattle.finite.specs.ListLaws.{total-append}
 use Rattle.model.specs.declared.Refusal.{Refusal}
@@ -22,20 +22,23 @@ use Rattle.model.specs.declared.Offered.{Offered}
 use Rattle.model.specs.Refusals.{Refuses}
 use Rattle.model.specs.Maps.{point, empty-map}
 use Rattle.model.specs.Outline.{outline, sees, visible-edges}
-use Rattle.model.specs.Sound.{Shaped}
-use Rattle.model.specs.Arrival.{with-point, alone, pair, spliced, arrive}
+use Rattle.model.specs.Shape.{Shaped}
+use Rattle.model.specs.Sound.{sound}
+use Rattle.model.specs.Arrival.{inside-kind, with-point, alone, pair, spliced, arrive}
 use Rattle.model.specs.Offers.{offer-rules, offer}
 use Rattle.model.specs.History.{Entry, Run, is-accepted, extended, run-from, run, offered-point, reported, reported-edges, edges-seen, is-outside, outside-arrivals, Balanced}
 use Rattle.maps.proofs.Darts.{point-twice}
 use Rattle.maps.proofs.Links.{counts-balance}
 use Rattle.maps.proofs.Outline.{outline-two, outline-circuit, outline-next, corners-on-it}
-use Rattle.maps.proofs.Points.{point-new, point-old}
 use Rattle.maps.proofs.Empty.{empty-sound}
 use Rattle.maps.proofs.Alone.{alone-outline}
 use Rattle.maps.proofs.Pair.{pair-outline}
 use Rattle.hull.specs.Requires.{Accepted}
-use Rattle.hull.proofs.Outcomes.{Decided, accepted, refused, Arrives, first, second, inside, outside, arrive-arrives, arrival-accepted, offer-decided, refused-keeps}
+use Rattle.hull.proofs.Outcomes.{Arrives, first, second, inside, outside, arrive-arrives, arrival-accepted}
+use Rattle.hull.proofs.Sound.{empty-is-sound}
+use Rattle.hull.proofs.Offers.{Decided, accepted, refused, offer-decided, refused-keeps, sound-kept}
 use Rattle.hull.proofs.Arrivals.{arrival-sound, outside-balance}
+use Rattle.hull.proofs.Building.{points-grow}
 use Rattle.hull.proofs.Theorems.{corners-turn-left}
 
 -- ---- one induction over runs
@@ -59,14 +62,14 @@ after-offer r p o =
 -- what holds of the run with one entry more if the point is accepted, and of the run as it was if it is refused,
 -- holds after the offer
 module _ (Q : Run → Type 0) (r : Run) (p : Point)
-    (if-accepted : Accepted (r .map) p → Q (with-entry r p (arrive (r .map) p)))
+    (if-accepted : T (sound (r .map)) → Accepted (r .map) p → Q (with-entry r p (arrive (r .map) p)))
     (if-refused : (refusal : Refusal) → Refuses refusal (offer-rules (r .map) p) → Q r)
   where
     decided-either : (o : Offered) → Decided (r .map) p o → Q (after-offer r p o)
     unfolding is-accepted
-    decided-either o (accepted a) =
+    decided-either o (accepted t a) =
         let arrives = arrive-arrives (r .map) p in
-        rw (is-true (is-accepted (o .arrival)) (arrival-accepted (r .map) p o arrives)) (if-accepted a)
+        rw (is-true (is-accepted (o .arrival)) (arrival-accepted (r .map) p o arrives)) (if-accepted t a)
     decided-either o (refused refusal first-rule) = if-refused refusal first-rule
 
     pub offer-either : Q (extended r p)
@@ -84,7 +87,7 @@ module _ (Q : Run → Type 0)
     run-keeps-from r q (p ∷ ps) =
         let m = r .map in
         run-keeps-from (extended r p)
-        (offer-either Q r p (λ a. keeps r q p a (arrive m p) (arrive-arrives m p)) (λ refusal first-rule. q)) ps
+        (offer-either Q r p (λ t a. keeps r q p a (arrive m p) (arrive-arrives m p)) (λ refusal first-rule. q)) ps
 
     -- .. and from the empty map
     pub run-keeps : Q (record { map = empty-map; history = [] }) → (ps : List Point) → Q (run ps)
@@ -134,17 +137,6 @@ seen-more : (h : List Entry) (e : Entry) → seen-in-all (h ++ e ∷ []) ≡ see
 unfolding total reported-edges
 seen-more h e =
     omega (arith, ap total (map-append reported-edges h (e ∷ [])), total-append (map reported-edges h) (map reported-edges (e ∷ [])))
-
--- the points of a map with one point more
-points-more : {m : Map} {p : Point} → Accepted m p → (helpers : List Bool) (edge : List ℕ) (reference : ℕ) →
-    table (suc (m .count)) (point (with-point m p helpers edge reference)) ≡ table (m .count) (point m) ++ p ∷ []
-points-more {m} {p} a helpers edge reference =
-    let new = with-point m p helpers edge reference in
-    table-more (m .count) (point new) ∙
-    (ap (λ (q : Point). table (m .count) (point new) ++ q ∷ []) (point-new (a .is-sound) (a .room) p helpers edge reference) ∙
-    ap (λ (s : List Point). s ++ p ∷ [])
-    (table-same (m .count) (point new) (point m)
-    (λ k h. point-old (a .is-sound) (a .room) p helpers edge reference k (omega arith))))
 
 -- what an arrival has to show, for the run with its entry to keep the invariant
 pub record Adds (m : Map) (p : Point) (o : Offered) : Type 0 where
@@ -205,7 +197,7 @@ arrival-adds m p a o (first none) =
     record {
       is-sound = arrival-sound m p a _ (first none);
       count-grows = refl;
-      points = points-more a (m .helpers) (m .edge) (m .reference);
+      points = points-grow a _ _ _ _;
       reports = sym (few-visible m p (omega arith));
       first-adds = λ h. (refl, refl);
       second-adds = λ h. absurd (omega arith);
@@ -215,7 +207,7 @@ arrival-adds m p a o (second one) =
     record {
       is-sound = arrival-sound m p a _ (second one);
       count-grows = refl;
-      points = points-more a _ _ _;
+      points = points-grow a _ _ _ _;
       reports = sym (few-visible m p (omega arith));
       first-adds = λ h. (refl, refl);
       second-adds = λ h. (refl, refl, ap length (pair-outline (a .is-sound) one p));
@@ -225,17 +217,17 @@ arrival-adds m p a o (inside two none) =
     record {
       is-sound = arrival-sound m p a _ (inside two none);
       count-grows = refl;
-      points = points-more a (m .helpers) (m .edge) (m .reference);
+      points = points-grow a _ _ _ _;
       reports = sym none;
       first-adds = λ h. absurd (omega arith);
       second-adds = λ h. absurd (omega arith);
-      later-adds = λ h. omega (arith, ap length (alone-outline (a .is-sound) p two));
+      later-adds = λ h. omega (arith, ap length (alone-outline (a .is-sound) inside-kind p two));
     }
 arrival-adds m p a o (outside two some) =
     record {
       is-sound = arrival-sound m p a _ (outside two some);
       count-grows = refl;
-      points = points-more a _ _ _;
+      points = points-grow a _ _ _ _;
       reports = refl;
       first-adds = λ h. absurd (omega arith);
       second-adds = λ h. absurd (omega arith);
@@ -249,9 +241,17 @@ invariant-run =
     run-keeps Invariant (λ r k p a o arrives. invariant-more r k p o (arrival-adds (r .map) p a o arrives))
     invariant-start
 
--- every list of offers from the empty map ends in a sound map (for request #107)
-pub run-sound : (ps : List Point) → Shaped (run ps .map)
-run-sound ps = invariant-run ps .is-sound
+-- every list of offers from the empty map ends in a shaped map, which is sound
+pub run-shaped : (ps : List Point) → Shaped (run ps .map)
+run-shaped ps = invariant-run ps .is-sound
+
+pub run-sound : (ps : List Point) → T (sound (run ps .map))
+unfolding run run-from extended
+run-sound ps = from (record { map = empty-map; history = [] }) empty-is-sound ps
+  where
+    from : (r : Run) → T (sound (r .map)) → (ps : List Point) → T (sound (run-from r ps .map))
+    from r t [] = t
+    from r t (p ∷ ps) = from (extended r p) (sound-kept (r .map) p t) ps
 
 -- ---- the claims
 

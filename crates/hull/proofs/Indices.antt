@@ -1,17 +1,15 @@
 -- What the code reads from a sound map and takes for an index lies within the arrays, in the order of
 -- this page: edge links, also where one of them was cut; the points, also past the last one; the
 -- corners; the left and the right corner.
-use mathlib.Core.Path.{_≡_, sym, subst}
-use mathlib.Core.Logic.{_≢_, ⊎-elim}
+use mathlib.Core.Path.{sym, subst}
+use mathlib.Core.Logic.{⊎-elim}
 use mathlib.Core.Bool.{Bool, true, false, cond}
 use mathlib.Core.List.{List, [], _∷_}
 use Prim.Native.Nat.{ℕ, _+_, _≤_, _<_}
 use native.Mathlib.Omega.{arith}
 use lib.Dec.{T, T-not}
-use lib.ListN.{length, getD, set}
-use lib.Seq.{set-out, getD-set-same, getD-set-other}
-use Rattle.finite.specs.Tests.{decide, same-or-not}
-use Rattle.finite.specs.Bounded.{lt-or-ge}
+use lib.ListN.{length}
+use Rattle.finite.specs.Tests.{decide}
 use Rattle.finite.specs.Lists.{elem, first-in}
 use Rattle.finite.specs.ListLaws.{elem-head, elem-tail}
 use Rattle.orbits.specs.Sets.{dart-limit}
@@ -19,36 +17,16 @@ use Rattle.model.specs.declared.Point.{Point}
 use Rattle.model.specs.declared.Map.{Map}
 use Rattle.model.specs.Maps.{point-limit, own, point, is-present, edge-link}
 use Rattle.model.specs.Outline.{outline}
-use Rattle.model.specs.Sound.{Shaped}
+use Rattle.model.specs.Shape.{Shaped}
 use Rattle.model.specs.Arrival.{cut, turning-left, turning-right, farther, left-corner, right-corner}
-use Rattle.model.proofs.Sound.{place-ranged, present-below}
+use Rattle.model.proofs.Shape.{place-ranged, present-below}
 use Rattle.maps.proofs.Outline.{outline-circuit}
 use Rattle.maps.specs.Places.{PlacesFor, RangedQuery}
-use Rattle.hull.specs.Requires.{Accepted, OutlineFor, Spliceable}
+use Rattle.linking.specs.Requires.{Spliceable}
+use Rattle.hull.specs.Requires.{Accepted, OutlineFor}
 use Rattle.hull.proofs.Beyond.{by-beyond}
 
 -- ---- edge links
-
--- where a partner is fixed, what stands at a place is below a bound as before
-pub cut-below : (n : ℕ) (edge : List ℕ) → ((d : ℕ) → d < n → getD edge d d < n) →
-    (d e : ℕ) → d < n → e < n → getD (cut d edge) e e < n
-unfolding cut
-cut-below n edge below d e h k =
-    ⊎-elim
-    (λ (s : e ≡ v). subst (λ (x : ℕ). getD (set edge v v) x x < n) (sym s) at-partner)
-    (λ (s : e ≢ v). subst (λ (x : ℕ). x < n) (sym (getD-set-other edge v e v e s)) (below e k))
-    (same-or-not e v)
-  where
-    v : ℕ
-    v = getD edge d d
-
-    at-partner : getD (set edge v v) v v < n
-    at-partner =
-        ⊎-elim
-        (λ (l : v < length edge). subst (λ (x : ℕ). x < n) (sym (getD-set-same edge v v v l)) (below d h))
-        (λ (l : length edge ≤ v).
-        subst (λ (s : List ℕ). getD s v v < n) (sym (set-out edge v v l)) (below v (below d h)))
-        (lt-or-ge v (length edge))
 
 module _ {m : Map} (s : Shaped m) where
   -- the links of a dart are darts

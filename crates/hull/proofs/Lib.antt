@@ -1,25 +1,33 @@
 -- Offers, and what is proved about every list of them. Nothing is assumed.
---     Outcomes       an offer is accepted or refused, and by which condition
+--     Outcomes       a point is accepted or not, and by which condition; the four arrivals
 --     Beyond         a point in line beyond one of two corners, and any other that sees an edge
---     Arrivals       an arrival leaves a sound map
+--     Arrivals       an arrival leaves a shaped map
+--     Building       points that are offered one after another build a shaped map
+--     Sound          sound maps are those that points build: `sound-shaped`
+--     Offers         an offer is accepted or refused, and keeps a map sound
 --     Changes        what an offer changes, place by place
 --     Cases          from the answer that the code makes to the definition, case by case
 --     Theorems       what holds of offers and outlines, each under one name
 --     History        demand 3: `always-balanced`
 --     Built          points that all differ are not refused, and are the map's points
---     Building       the rules and the map of model/Building are those of offers to the empty map
+--     Runs           the rules and the map of model/Building are those of offers to the empty map
 --     Indices        what the code takes for an index lies within its array
 --     Seeing         the way round an outline on which a point looks for the corners where what it sees turns
 --     Admissions     from a sound map's coordinates to the offer of a point
+--     Taking         a loop that offers points one after another
 pub mod Outcomes
 pub mod Beyond
 pub mod Arrivals
+pub mod Building
+pub mod Sound
+pub mod Offers
 pub mod Changes
 pub mod Cases
 pub mod Theorems
 pub mod History
 pub mod Built
-pub mod Building
+pub mod Runs
 pub mod Indices
 pub mod Seeing
 pub mod Admissions
+pub mod Taking

@@ -20,7 +20,7 @@ use Rattle.model.specs.declared.Point.{Point}
 use Rattle.model.specs.declared.Map.{Map}
 use Rattle.model.specs.Maps.{own, helper, owner, point, edge-link}
 use Rattle.model.specs.Outline.{next-corner, previous-corner, corners-from, outline, sees, visible-edges}
-use Rattle.model.specs.Sound.{Shaped}
+use Rattle.model.specs.Shape.{Shaped}
 use Rattle.model.specs.Arrival.{turning-left, turning-right, is-farther, is-beyond, farther, left-corner, right-corner}
 use Rattle.maps.proofs.Links.{sound-linked}
 use Rattle.maps.proofs.Circuits.{edge-next, edge-previous}

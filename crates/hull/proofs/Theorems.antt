@@ -1,8 +1,8 @@
--- What holds of offers and outlines, each under one name, in the order of this page: an offer keeps a
--- map sound; an accepted point sees every edge just where it is in line beyond one of two corners, and where
--- it is not and sees some edge there is one left corner and one right; one on an edge arrives as inside, and
--- one beyond with the farther corner; three or more corners turn strictly left; the outline is the hull.
--- What an offer changes is in proofs/Changes: `nothing-else-changes`; demand 3 is in proofs/History:
+-- What holds of offers and outlines, each under one name, in the order of this page: an accepted point sees every
+-- edge just where it is in line beyond one of two corners, and where it is not and sees some edge there is one left
+-- corner and one right; one on an edge arrives as inside, and one beyond with the farther corner; three or more
+-- corners turn strictly left; the outline is the hull. What an offer changes is in proofs/Changes:
+-- `nothing-else-changes`; that it keeps a map sound, in proofs/Offers: `sound-kept`; demand 3, in proofs/History:
 -- `always-balanced`.
 use mathlib.Core.Path.{_≡_, sym, ap, subst, _∙_}
 use mathlib.Core.Logic.{_≢_, _↔_}
@@ -20,10 +20,9 @@ use Rattle.model.specs.declared.Offered.{Offered}
 use Rattle.model.specs.Plane.{left-of, strictly-between}
 use Rattle.model.specs.Maps.{point}
 use Rattle.model.specs.Outline.{next-corner, previous-corner, outline, sees, visible-edges}
-use Rattle.model.specs.Sound.{sound, Shaped}
+use Rattle.model.specs.Shape.{Shaped}
 use Rattle.model.specs.Arrival.{turning-left, turning-right, is-beyond, farther, left-corner, right-corner, arrive}
 use Rattle.model.specs.Offers.{offer}
-use Rattle.model.proofs.Sound.{sound-holds, sound-by}
 use Rattle.plane.proofs.Betweenness.{between-of, seen-not-beside}
 use Rattle.plane.proofs.Convex.{next-member, prev-next, turns-left}
 use Rattle.plane.proofs.Corners.{LeftCorner, RightCorner, left-corner-unique, right-corner-unique}
@@ -32,13 +31,7 @@ use Rattle.plane.proofs.Hull.{Supports}
 use Rattle.plane.proofs.Hull as plane-hull
 use Rattle.hull.specs.Requires.{Accepted}
 use Rattle.hull.proofs.Beyond.{sound-convex, AllSeen, other-point, all-seen, beyond-visible, all-seen-beyond, left-is, right-is}
-use Rattle.hull.proofs.Arrivals.{offer-sound}
 use Rattle.hull.proofs.Cases.{later, inside, outside}
-
--- ---- an offer keeps a map sound; a refused one gives the same map: Outcomes.`refused-keeps`
-
-pub sound-kept : (m : Map) (p : Point) → T (sound m) → T (sound (offer m p .map))
-sound-kept m p t = sound-by (offer m p .map) (offer-sound m p (sound-holds m t))
 
 -- ---- every edge is visible just from a point in line beyond one of two corners; from any other that sees
 -- some edge there is one left corner and one right

@@ -1,38 +1,20 @@
 -- What the inner functions of this crate ask and answer.
-use mathlib.Core.Path.{_≡_}
 use mathlib.Core.Logic.{_≢_}
 use mathlib.Core.Bool.{Bool}
 use mathlib.Core.List.{List}
 use Prim.Native.Nat.{ℕ, _≤_, _<_}
 use lib.Dec.{T}
 use lib.IntN.{ℤ}
-use lib.ListN.{length, getD}
-use Rattle.orbits.specs.Sets.{dart-limit}
-use Rattle.orbits.specs.Links.{link-of}
 use Rattle.model.specs.declared.Point.{Point}
 use Rattle.model.specs.declared.Map.{Map}
 use Rattle.model.specs.Plane.{in-range, sees-edge}
 use Rattle.model.specs.Maps.{point-limit, point, point-at, with-outline}
-use Rattle.model.specs.Sound.{Shaped}
+use Rattle.model.specs.Shape.{Shaped}
 use Rattle.model.specs.Arrival.{is-beyond}
 
 -- the edge from point a to point b is visible from p
 abbrev pub visible-at : List ℤ → List ℤ → ℕ → ℕ → Point → Bool
 visible-at xs ys a b p = sees-edge (point-at xs ys a) (point-at xs ys b) p
-
--- edge links of which that of dart d is to be cut
-pub record Cuttable (edge : List ℕ) (d : ℕ) : Type 0 where
-  pub whole : length edge ≡ dart-limit
-  pub below : d < dart-limit
-  pub partner-below : getD edge d d < dart-limit
-
--- edge links that lead to darts, a point that is to be a corner, and the two corners beside it
-pub record Spliceable (edge : List ℕ) (k left right : ℕ) : Type 0 where
-  pub room : k < point-limit
-  pub left-below : left < point-limit
-  pub right-below : right < point-limit
-  pub whole : length edge ≡ dart-limit
-  pub links-below : (d : ℕ) → d < dart-limit → link-of edge d < dart-limit
 
 -- a point that no condition refuses: the map is sound and has room for it, and it is in range and none of
 -- the map's points

@@ -16,7 +16,7 @@ use lib.IntN.{ℤ, pos, negsuc, negℤ, _+ℤ_, _-ℤ_, _*ℤ_, natAbs}
 use lib.Signed.{mag, ltZ, leZ, nonNeg, _≤ℤ_, natAbs-le, pos-natAbs, yes-nonNeg}
 use mir.Syntax.{Width, w32, w64}
 use mir.Val.{Fits, SFits, toZ, ofZ, bits, hbits}
-use mir.Facts.{toZ-ofZ, sfits-lit}
+use mir.Facts.{toZ-ofZ}
 use Rattle.integers.specs.Order.{up, dn, order, eqZ, eqZ-true, eqZ-false}
 use Rattle.integers.specs.Order.{cross, natAbs-splits, +ℤ-splits, ≡-splits}
 
@@ -199,10 +199,6 @@ module _ {w : Width} {x y : ℤ} (f : SFits w x) (g : SFits w y) where
 
 pub other-bits : (w : Width) (x y : ℤ) → (ofZ w x ≡ ofZ w y → ⊥) → x ≢ y
 other-bits w x y n e = n (ap (ofZ w) e)
-
--- a constant k of the code: `literal-fits k tt`
-pub literal-fits : {w : Width} (k : ℤ) → T (ltb (mag k) (2 ^ hbits w)) → SFits w k
-literal-fits k t = sfits-lit t
 
 -- ---- in use
 

@@ -1,13 +1,13 @@
 -- Blocks of fields, in the order of this page: a block of one field more; a block that is written
--- is read back, field by field, wherever it stands; the fields that are read give the same bytes; a
--- list that is written over the front of another, piece after piece. Each law is over the number of
--- fields, their width and the place.
+-- is read back, byte by byte and field by field, wherever it stands; the fields that are read give
+-- the same bytes; a list that is written over the front of another, piece after piece. Each law is over
+-- the number of fields, their width and the place.
 -- Document 01, "Saved form".
-use mathlib.Core.Path.{_≡_, sym, ap, ap₂, subst, _∙_}
+use mathlib.Core.Path.{_≡_, sym, ap, ap₂, _∙_}
 use mathlib.Core.Logic.{⊎-elim}
 use mathlib.Core.List.{List, [], _++_, flatten, append-assoc, append-nil}
 use Prim.Native.Nat.{ℕ, zero, suc, _+_, _-_, _*_, _^_, _≤_, _<_}
-use native.Mathlib.Nat.{add-zero, zero-add, mul-zero, mul-suc}
+use native.Mathlib.Nat.{add-zero, add-assoc, mul-zero, mul-suc}
 use native.Mathlib.Omega.{arith}
 use borrow.Rule.Slice.PartMut.{midOf, putMid}
 use lib.ListN.{length, take, drop, length-append, length-drop, drop-of-length-le}
@@ -49,27 +49,37 @@ number-placed p t at w v e h =
     ∙ number-before (big-endian w v) t 0 w (omega (arith, length-big-endian w v))
     ∙ number-back w v h
 
-first-block : (k w : ℕ) (f : ℕ → ℕ) (t : List ℕ) (i : ℕ) → i < k → f i < 256 ^ w →
-    field (block k w f ++ t) 0 w i ≡ f i
-first-block zero w f t i l h = absurd (omega arith)
-first-block (suc k) w f t i l h =
-    ap (λ (s : List ℕ). field (s ++ t) 0 w i) (block-more k w f)
-    ∙ ap (λ (s : List ℕ). field s 0 w i) (append-assoc (block k w f) (big-endian w (f k)) t)
+-- the d bytes from byte j on of field i
+first-part : (k w : ℕ) (f : ℕ → ℕ) (t : List ℕ) (i j d : ℕ) → i < k → j + d ≤ w →
+    number-at (block k w f ++ t) (w * i + j) d ≡ number-at (big-endian w (f i)) j d
+first-part zero w f t i j d l h = absurd (omega arith)
+first-part (suc k) w f t i j d l h =
+    ap (λ (s : List ℕ). number-at (s ++ t) (w * i + j) d) (block-more k w f)
+    ∙ ap (λ (s : List ℕ). number-at s (w * i + j) d) (append-assoc (block k w f) (big-endian w (f k)) t)
     ∙ ⊎-elim
-    (λ (b : i < k). first-block k w f (big-endian w (f k) ++ t) i b h)
+    (λ (b : i < k). first-part k w f (big-endian w (f k) ++ t) i j d b h)
     (λ (e : i ≡ k).
-    rw e
-    (number-placed (block k w f) t (0 + w * k) w (f k) (length-block k w f ∙ sym (zero-add (w * k)))
-    (subst (λ (j : ℕ). f j < 256 ^ w) e h)))
+    rw (e, ← length-block k w f)
+    (number-past (block k w f) (big-endian w (f k) ++ t) j d
+    ∙ number-before (big-endian w (f k)) t j d (omega (arith, length-big-endian w (f k)))))
     (below-suc k i l)
 
+pub block-part : (p t : List ℕ) (at k w : ℕ) (f : ℕ → ℕ) → length p ≡ at →
+    (i j d : ℕ) → i < k → j + d ≤ w →
+    number-at (p ++ (block k w f ++ t)) (at + w * i + j) d ≡ number-at (big-endian w (f i)) j d
+block-part p t at k w f e i j d l h =
+    ap (λ (a : ℕ). number-at (p ++ (block k w f ++ t)) a d)
+    (ap (λ (a : ℕ). a + w * i + j) (sym e) ∙ add-assoc (length p) (w * i) j)
+    ∙ number-past p (block k w f ++ t) (w * i + j) d
+    ∙ first-part k w f t i j d l h
+
+-- the whole field
 pub block-placed : (p t : List ℕ) (at k w : ℕ) (f : ℕ → ℕ) → length p ≡ at →
     (i : ℕ) → i < k → f i < 256 ^ w → field (p ++ (block k w f ++ t)) at w i ≡ f i
 block-placed p t at k w f e i l h =
-    ap (λ (j : ℕ). number-at (p ++ (block k w f ++ t)) (j + w * i) w) (sym e)
-    ∙ number-past p (block k w f ++ t) (w * i) w
-    ∙ ap (λ (j : ℕ). number-at (block k w f ++ t) j w) (sym (zero-add (w * i)))
-    ∙ first-block k w f t i l h
+    ap (λ (a : ℕ). number-at (p ++ (block k w f ++ t)) a w) (sym (add-zero (at + w * i)))
+    ∙ block-part p t at k w f e i 0 w l (omega arith)
+    ∙ number-back w (f i) h
 
 -- ---- read and written back
 

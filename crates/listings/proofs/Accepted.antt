@@ -24,7 +24,7 @@ use Rattle.model.specs.Lent.{writing}
 use Rattle.model.specs.Report.{text-limit}
 use Rattle.model.specs.History.{run}
 use Rattle.model.specs.Outlines.{coordinates, corner-points, corners-in, corners-spelt, is-outline, is-some, listable, or-none, outline-rules, outline-text}
-use Rattle.hull.proofs.History.{run-sound}
+use Rattle.hull.proofs.History.{run-shaped}
 use Rattle.corners.proofs.Listings.{listable-holds, listing-listable, listable-listing}
 use Rattle.positions.proofs.PositionLaws.{few-digits}
 use Rattle.polygons.proofs.RoundTrip.{text-read, read-text}
@@ -89,10 +89,10 @@ module _ (t : List ℕ) where
     listing = corner-points (run ps .map)
 
     ranged-listing : T (all-in in-range listing)
-    ranged-listing = listing-listable (run-sound ps) .0
+    ranged-listing = listing-listable (run-shaped ps) .0
 
     listed-listing : T (listable listing)
-    listed-listing = listing-listable (run-sound ps) .1
+    listed-listing = listing-listable (run-shaped ps) .1
 
     read-is : corners-in t ≡ some listing
     read-is = ap corners-in (sym is) ∙ text-read listing (all-few listing ranged-listing)

@@ -33,7 +33,7 @@ use Rattle.plane.proofs.Heights.{lower-is}
 use Rattle.plane.proofs.Betweenness.{beside-left}
 use Rattle.plane.proofs.Convex.{corners-strict}
 use Rattle.hull.proofs.Beyond.{sound-convex}
-use Rattle.hull.proofs.History.{run-sound}
+use Rattle.hull.proofs.History.{run-shaped}
 use Rattle.corners.proofs.Listings.{Listable, listable-holds, listable-by, point-is, two-points, edge-to-next}
 
 -- ---- what is tested
@@ -283,7 +283,7 @@ module _ (cs : List Point) (few : length cs ≤ point-limit) (lowest : T (lowest
         let on-a = edge-to-next cs ranged l two a (omega arith) in
         let next : next-corner (run cs .map) a ≡ b = on-a .1 ∙ mod-eq-of-lt (omega arith) ∙ sym is in
         rw (← point-is cs ranged l a (omega arith), ← point-is cs ranged l b h, ← point-is cs ranged l c k, ← next)
-        (corners-strict (sound-convex (run-sound cs) (two-points cs ranged l two)) a c (on-a .0)
+        (corners-strict (sound-convex (run-shaped cs) (two-points cs ranged l two)) a c (on-a .0)
         (edge-to-next cs ranged l two c k .0) d (λ i. e (i ∙ next)))
 
     supporting-turns : T (turns cs)

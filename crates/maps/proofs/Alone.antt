@@ -15,37 +15,37 @@ use Rattle.model.specs.declared.Map.{Map}
 use Rattle.model.specs.Plane.{in-range, beside}
 use Rattle.model.specs.Maps.{point-limit, own, owner, point, has-helper, is-present, edge-link, point-link}
 use Rattle.model.specs.Outline.{next-corner, outline}
-use Rattle.model.specs.Arrival.{with-point, alone}
-use Rattle.model.specs.Sound.{Shaped, ShapedPoints, ShapedLinks, AllBeside}
+use Rattle.model.specs.Arrival.{freeing-none, with-point, alone}
+use Rattle.model.specs.Shape.{Shaped, ShapedPoints, ShapedLinks, ShapedNotes, AllBeside}
 use Rattle.maps.proofs.Darts.{by-present, own-present, helper-present, present-owner, present-dart}
 use Rattle.maps.proofs.Links.{DartOf}
 use Rattle.maps.proofs.Circuits.{Circuit, circuit-outline}
 use Rattle.maps.proofs.Outline.{outline-begins, outline-first, outline-circuit, outline-next, outline-reach, reference-closed-alone}
 use Rattle.maps.proofs.Soundness.{sound-without-outline, sound-with-outline}
-use Rattle.maps.proofs.Points.{point-new, point-old, with-point-sound}
+use Rattle.maps.proofs.Points.{point-new, point-old, with-point-sound, with-point-noted, freeing-none-fits}
 
 -- ---- what the new map has of the old one
 
-module _ (m : Map) (p : Point) where
+module _ (kind : ℕ) (m : Map) (p : Point) where
   -- an old dart is present, and so is the new one
-  pub alone-present-old : (d : ℕ) → T (is-present m d) → T (is-present (alone m p) d)
+  pub alone-present-old : (d : ℕ) → T (is-present m d) → T (is-present (alone kind m p) d)
   unfolding alone with-point has-helper
   alone-present-old =
-      by-present m (λ d. T (is-present (alone m p) d)) (λ k h. own-present (alone m p) k (omega arith))
-      (λ k h t. helper-present (alone m p) k (omega arith) t)
+      by-present m (λ d. T (is-present (alone kind m p) d)) (λ k h. own-present (alone kind m p) k (omega arith))
+      (λ k h t. helper-present (alone kind m p) k (omega arith) t)
 
-  pub alone-present-new : T (is-present (alone m p) (own (m .count)))
+  pub alone-present-new : T (is-present (alone kind m p) (own (m .count)))
   unfolding alone with-point
-  alone-present-new = own-present (alone m p) (m .count) (omega arith)
+  alone-present-new = own-present (alone kind m p) (m .count) (omega arith)
 
 -- ---- soundness
 
-module _ {m : Map} (s : Shaped m) (p : Point) where
+module _ {m : Map} (s : Shaped m) (kind : ℕ) (p : Point) where
   -- no dart is present but these
-  pub alone-present : (d : ℕ) → T (is-present (alone m p) d) → T (is-present m d) ⊎ (d ≡ own (m .count))
+  pub alone-present : (d : ℕ) → T (is-present (alone kind m p) d) → T (is-present m d) ⊎ (d ≡ own (m .count))
   unfolding alone with-point has-helper
   alone-present =
-      by-present (alone m p) (λ d. T (is-present m d) ⊎ (d ≡ own (m .count)))
+      by-present (alone kind m p) (λ d. T (is-present m d) ⊎ (d ≡ own (m .count)))
       (λ k h.
       ⊎-elim (λ (l : k < m .count). inl (own-present m k l)) (λ (e : k ≡ m .count). inr (ap own e))
       (below-suc (m .count) k h))
@@ -55,7 +55,7 @@ module _ {m : Map} (s : Shaped m) (p : Point) where
   pub alone-new-fixed : edge-link m (own (m .count)) ≡ own (m .count)
   alone-new-fixed = s .links .absent (own (m .count)) (λ t. omega (arith, present-owner m (own (m .count)) t))
 
-  alone-links : m .count < point-limit → ShapedLinks (alone m p)
+  alone-links : m .count < point-limit → ShapedLinks (alone kind m p)
   unfolding alone with-point edge-link has-helper
   alone-links room =
       record {
@@ -63,11 +63,11 @@ module _ {m : Map} (s : Shaped m) (p : Point) where
         edge-whole = s .links .edge-whole;
         fits = room;
         owned = λ k t. omega (arith, s .links .owned k t);
-        absent = λ d none. s .links .absent d (λ t. none (alone-present-old m p d t));
+        absent = λ d none. s .links .absent d (λ t. none (alone-present-old kind m p d t));
         present = λ d t.
             ⊎-elim
-            (λ old. alone-present-old m p (edge-link m d) (s .links .present d old))
-            (λ (e : d ≡ own (m .count)). rw (e, alone-new-fixed) (alone-present-new m p))
+            (λ old. alone-present-old kind m p (edge-link m d) (s .links .present d old))
+            (λ (e : d ≡ own (m .count)). rw (e, alone-new-fixed) (alone-present-new kind m p))
             (alone-present d t);
         undone = s .links .undone;
         crossing = s .links .crossing;
@@ -76,14 +76,14 @@ module _ {m : Map} (s : Shaped m) (p : Point) where
       }
 
   module _ (two : 2 ≤ m .count) where
-    pub alone-circuit : Circuit (alone m p) (outline m)
+    pub alone-circuit : Circuit (alone kind m p) (outline m)
     unfolding alone with-point edge-link has-helper
     alone-circuit =
         let c = outline-circuit s two in
         record { all-distinct = c .all-distinct; below = λ a h. omega (arith, c .below a h); helped = c .helped; edges = c .edges }
 
     -- a dart whose part is closed is none but an old one, so it lies on the outline
-    alone-every : (d : ℕ) → DartOf (alone m p) d → ClosedPart (edge-link (alone m p)) (point-link (alone m p)) d →
+    alone-every : (d : ℕ) → DartOf (alone kind m p) d → ClosedPart (edge-link (alone kind m p)) (point-link (alone kind m p)) d →
         T (elem (owner d) (outline m))
     unfolding alone with-point edge-link point-link has-helper
     alone-every d h c =
@@ -93,43 +93,47 @@ module _ {m : Map} (s : Shaped m) (p : Point) where
         (alone-present d (h .is-present))
 
     -- the outline stays
-    pub alone-outline : outline (alone m p) ≡ outline m
+    pub alone-outline : outline (alone kind m p) ≡ outline m
     unfolding alone with-point
     alone-outline =
         let b = outline-begins s two in
-        circuit-outline (owner (m .reference)) (b .0) (subst (Circuit (alone m p)) (b .1) alone-circuit)
+        circuit-outline (owner (m .reference)) (b .0) (subst (Circuit (alone kind m p)) (b .1) alone-circuit)
         (omega arith) refl ∙ sym (b .1)
 
     module _ (room : m .count < point-limit)
         (new-left : (a : ℕ) → T (elem a (outline m)) → T (beside (point m a) (point m (next-corner m a)) p)) where
       -- the new point lies beside each edge by assumption, and the old ones as before
-      alone-beside : AllBeside (alone m p) (outline m)
+      alone-beside : AllBeside (alone kind m p) (outline m)
       unfolding alone with-point next-corner edge-link
       alone-beside a c on h not-start not-end =
           let b = outline-circuit s two in
-          let old = point-old s room p (m .helpers) (m .edge) (m .reference) in
+          let old = point-old s room p (freeing-none kind) (m .helpers) (m .edge) (m .reference) in
           let next = b .below (next-corner m a) (outline-next s two a on .1) in
           rw (old a (omega (arith, b .below a on)), old (next-corner m a) (omega arith))
           (⊎-elim
           (λ (l : c < m .count). rw (old c (omega arith)) (s .outlined two .others a c on l not-start not-end))
-          (λ (e : c ≡ m .count). rw (e, point-new s room p (m .helpers) (m .edge) (m .reference)) (new-left a on))
+          (λ (e : c ≡ m .count). rw (e, point-new s room p (freeing-none kind) (m .helpers) (m .edge) (m .reference)) (new-left a on))
           (below-suc (m .count) c h))
 
-pub alone-sound : {m : Map} (p : Point) → Shaped m → m .count < point-limit → m .count ≢ 1 → T (in-range p) →
+pub alone-sound : {m : Map} (kind : ℕ) (p : Point) → kind ≤ 3 → Shaped m → m .count < point-limit → m .count ≢ 1 → T (in-range p) →
     ((k : ℕ) → k < m .count → point m k ≢ p) →
     (2 ≤ m .count → (a : ℕ) → T (elem a (outline m)) → T (beside (point m a) (point m (next-corner m a)) p)) →
-    Shaped (alone m p)
+    Shaped (alone kind m p)
 unfolding alone with-point has-helper
-alone-sound {m} p s room not-one ranged differs left =
+alone-sound {m} kind p small s room not-one ranged differs left =
     ⊎-elim
     (λ (few : m .count < 2).
-    sound-without-outline points (alone-links s p room) (omega arith)
+    sound-without-outline points (alone-links s kind p room) notes (omega arith)
     (record { no-helper = s .bare few .no-helper; unreferenced = s .bare few .unreferenced }))
     (λ (two : 2 ≤ m .count).
-    sound-with-outline points (alone-links s p room) (omega arith) (outline m) (alone-circuit s p two)
-    (alone-outline s p two) (s .outlined two .reference-own) (outline-first s two) (alone-every s p two)
-    (alone-beside s p two room (left two)))
+    sound-with-outline points (alone-links s kind p room) notes (omega arith) (outline m) (alone-circuit s kind p two)
+    (alone-outline s kind p two) (s .outlined two .reference-own) (outline-first s two) (alone-every s kind p two)
+    (alone-beside s kind p two room (left two)))
     (lt-or-ge (m .count) 2)
   where
-    points : ShapedPoints (alone m p)
-    points = with-point-sound s room p (m .helpers) (m .edge) (m .reference) ranged differs
+    points : ShapedPoints (alone kind m p)
+    points = with-point-sound s room p (freeing-none kind) (m .helpers) (m .edge) (m .reference) ranged differs
+
+    notes : ShapedNotes (alone kind m p)
+    notes =
+        with-point-noted s room p (freeing-none kind) (m .helpers) (m .edge) (m .reference) (freeing-none-fits kind small)

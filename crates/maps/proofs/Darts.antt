@@ -12,7 +12,7 @@ use Rattle.finite.specs.Tests.{and-left, and-right, and-both, or-cases, or-left
 use Rattle.orbits.proofs.Reach.{Dart}
 use Rattle.model.specs.declared.Map.{Map}
 use Rattle.model.specs.Maps.{own, helper, owner, is-own, other-dart, has-helper, is-present, point-link, dart-bound}
-use Rattle.model.proofs.Sound.{present-below}
+use Rattle.model.proofs.Shape.{present-below}
 
 -- ---- numbers
 

@@ -1,46 +1,99 @@
--- "The empty map, which is the sound map without points", in the order of this page: it is sound, since
--- it passes the test, which the prover computes; two sound maps without points agree at every place; so no
--- other map is sound and has no points.
-use mathlib.Core.Path.{_≡_, refl, sym, _∙_}
+-- "The empty map, which is the sound map without points": what stands at each of its places, and that it is
+-- shaped.
+use mathlib.Core.Path.{_≡_, refl, _∙_}
+use mathlib.Core.Logic.{⊎-elim}
 use mathlib.Core.Bool.{false}
-use Prim.Native.Nat.{ℕ}
+use Prim.Native.Nat.{ℕ, _≤_, _<_}
 use native.Mathlib.Omega.{arith}
 use lib.Dec.{T}
-use Rattle.finite.specs.Tests.{is-false}
-use Rattle.finite.specs.Bounded.{all, table}
-use Rattle.finite.specs.Lists.{all-in, all-places}
-use Rattle.model.specs.declared.Map.{Map}
+use lib.IntN.{pos}
+use lib.ListN.{length-replicate, List·getD-eq-default}
+use Rattle.finite.specs.Bounded.{table, lt-or-ge, length-table, getD-table}
+use Rattle.finite.specs.ListLaws.{replicate-at}
+use Rattle.orbits.specs.Sets.{dart-limit}
 use Rattle.model.specs.Plane.{origin}
-use Rattle.model.specs.Maps.{point, has-helper, is-present, edge-link, empty-map}
-use Rattle.model.specs.Sound.{arrays-whole, count-fits, points-in-range, points-differ, places-vacant, helpers-owned, absent-fixed, links-undo, edges-cross, lone-fixed, no-outline, sound, Shaped}
-use Rattle.model.proofs.Sound.{sound-holds}
+use Rattle.model.specs.Maps.{point-limit, no-dart, point, has-helper, is-present, edge-link, note, no-note, empty-map}
+use Rattle.model.specs.Shape.{ShapedPoints, ShapedLinks, ShapedNotes, Shaped}
 use Rattle.maps.proofs.Darts.{present-owner}
-use Rattle.maps.proofs.Same.{same-map}
-
-pub empty-sound : Shaped empty-map
-unfolding empty-map table sound arrays-whole count-fits points-in-range points-differ places-vacant helpers-owned absent-fixed links-undo edges-cross lone-fixed no-outline is-present all all-in all-places
-empty-sound = sound-holds empty-map tt
-
--- what a sound map without points has at each place
-module _ {m : Map} (s : Shaped m) (none : m .count ≡ 0) where
-  no-point : (k : ℕ) → point m k ≡ origin
-  no-point k = s .points .vacant k (omega arith)
-
-  no-helper : (k : ℕ) → has-helper m k ≡ false
-  no-helper k = is-false (has-helper m k) (s .bare (omega arith) .no-helper k)
-
-  no-edge : (d : ℕ) → edge-link m d ≡ d
-  no-edge d = s .links .absent d (λ t. omega (arith, present-owner m d t))
-
-no-points-same : {m n : Map} → Shaped m → Shaped n → m .count ≡ 0 → n .count ≡ 0 → m ≡ n
-no-points-same {m} {n} s t none none′ =
-    same-map s t (none ∙ sym none′) (λ k. no-point s none k ∙ sym (no-point t none′ k))
-    (λ k. no-helper s none k ∙ sym (no-helper t none′ k)) (λ d. no-edge s none d ∙ sym (no-edge t none′ d))
-    (s .bare (omega arith) .unreferenced ∙ sym (t .bare (omega arith) .unreferenced))
+use Rattle.maps.proofs.Soundness.{sound-without-outline}
 
 empty-count : empty-map .count ≡ 0
 unfolding empty-map
 empty-count = refl
 
-pub empty-only : (m : Map) → T (sound m) → m .count ≡ 0 → m ≡ empty-map
-empty-only m t none = no-points-same (sound-holds m t) empty-sound none empty-count
+no-point : (k : ℕ) → point empty-map k ≡ origin
+unfolding empty-map point
+no-point k =
+    let e = replicate-at point-limit (pos 0) k in
+    λ i. record { x = e i; y = e i }
+
+no-helper : (k : ℕ) → has-helper empty-map k ≡ false
+unfolding empty-map has-helper
+no-helper k = replicate-at point-limit false k
+
+no-edge : (d : ℕ) → edge-link empty-map d ≡ d
+unfolding empty-map edge-link
+no-edge d =
+    ⊎-elim (λ (h : d < dart-limit). getD-table dart-limit (λ e. e) d d h)
+    (λ (h : dart-limit ≤ d).
+    List·getD-eq-default (table dart-limit (λ e. e)) d (rw (length-table dart-limit (λ e. e)) h))
+    (lt-or-ge d dart-limit)
+
+none-noted : (k : ℕ) → note empty-map k ≡ no-note
+unfolding empty-map note
+none-noted k =
+    let e = replicate-at {A = ℕ} point-limit 0 k in
+    let f = replicate-at point-limit no-dart k in
+    λ i. record { arrival = e i; left = f i; right = f i }
+
+no-dart-present : (d : ℕ) → ¬ T (is-present empty-map d)
+no-dart-present d t = omega (arith, present-owner empty-map d t, empty-count)
+
+no-helper-there : (k : ℕ) → ¬ T (has-helper empty-map k)
+no-helper-there k t = rw (no-helper k) at t
+
+empty-points : ShapedPoints empty-map
+unfolding empty-map
+empty-points =
+    record {
+      xs-whole = length-replicate point-limit (pos 0);
+      ys-whole = length-replicate point-limit (pos 0);
+      ranged = λ k h. absurd (omega arith);
+      distinct = λ j k l h. absurd (omega arith);
+      vacant = λ k h. no-point k;
+    }
+
+empty-links : ShapedLinks empty-map
+unfolding empty-map
+empty-links =
+    record {
+      helpers-whole = length-replicate point-limit false;
+      edge-whole = length-table dart-limit (λ d. d);
+      fits = omega arith;
+      owned = λ k t. absurd (no-helper-there k t);
+      absent = λ d none. no-edge d;
+      present = λ d t. absurd (no-dart-present d t);
+      undone = λ d. no-edge (edge-link empty-map d) ∙ no-edge d;
+      crossing = λ d moves. absurd (moves (no-edge d));
+      leaving = λ d moves. absurd (moves (no-edge d));
+      lone = λ k none. no-edge _;
+    }
+
+empty-notes : ShapedNotes empty-map
+unfolding empty-map
+empty-notes =
+    record {
+      arrivals-whole = length-replicate {A = ℕ} point-limit 0;
+      lefts-whole = length-replicate point-limit no-dart;
+      rights-whole = length-replicate point-limit no-dart;
+      fitting = λ k.
+          rw (none-noted k)
+          (record { arrival-small = omega arith; left-small = omega arith; right-small = omega arith });
+      unnoted = λ k h. none-noted k;
+    }
+
+pub empty-sound : Shaped empty-map
+unfolding empty-map
+empty-sound =
+    sound-without-outline empty-points empty-links empty-notes (omega arith)
+    (record { no-helper = no-helper-there; unreferenced = refl })

@@ -17,8 +17,8 @@ use Rattle.model.specs.declared.Map.{Map}
 use Rattle.model.specs.Maps.{own, helper, owner, has-helper, is-present, edge-link, point-link, face-link, dart-bound}
 use Rattle.model.specs.Outline.{next-corner}
 use Rattle.model.specs.Reading.{links-of, number-of, darts}
-use Rattle.model.specs.Sound.{Shaped}
-use Rattle.model.proofs.Sound.{moved-present}
+use Rattle.model.specs.Shape.{Shaped}
+use Rattle.model.proofs.Shape.{moved-present}
 use Rattle.maps.proofs.Darts.{own-or-helper, present-helper, present-dart, point-twice, point-present}
 
 -- the edge link undoes itself and keeps the present darts

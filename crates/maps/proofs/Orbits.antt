@@ -23,7 +23,7 @@ use Rattle.orbits.proofs.Parts.{reached-set-bound}
 use Rattle.model.specs.declared.Kind.{Kind}
 use Rattle.model.specs.declared.Map.{Map}
 use Rattle.model.specs.Maps.{is-present, edge-link, point-link, face-link, dart-bound}
-use Rattle.model.specs.Sound.{Shaped}
+use Rattle.model.specs.Shape.{Shaped}
 use Rattle.model.specs.Reading.{links-of, orbit-set}
 use Rattle.maps.proofs.Darts.{present-dart}
 use Rattle.maps.proofs.Links.{DartOf, sound-linked, edge-involutes, point-involutes, links-symmetric}

@@ -29,7 +29,7 @@ use Rattle.orbits.proofs.ClosedWalks.{ClosedPart, OneClosed, one-closed-at}
 use Rattle.model.specs.declared.Map.{Map}
 use Rattle.model.specs.Maps.{own, helper, owner, is-present, edge-link, point-link, dart-bound}
 use Rattle.model.specs.Outline.{next-corner, previous-corner, outline}
-use Rattle.model.specs.Sound.{Shaped}
+use Rattle.model.specs.Shape.{Shaped}
 use Rattle.maps.proofs.Darts.{owner-own, own-dart, own-injective, present-owner, present-dart, point-helper}
 use Rattle.maps.proofs.Links.{Linked, sound-linked, links, DartOf, links-keep, links-symmetric, edge-injective, moved-own, moved-own-owned, next-owned, next-another}
 use Rattle.maps.proofs.Circuits.{Edge, Circuit, circuit-next, circuit-previous, circuit-both-ways, circuit-rotate, circuit-outline, circuit-iff, circuit-dart, circuit-closed-part}

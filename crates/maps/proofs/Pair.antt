@@ -19,13 +19,13 @@ use Rattle.model.specs.declared.Map.{Map}
 use Rattle.model.specs.Plane.{in-range}
 use Rattle.model.specs.Maps.{point-limit, own, helper, owner, point, has-helper, is-present, edge-link}
 use Rattle.model.specs.Outline.{next-corner, outline}
-use Rattle.model.specs.Arrival.{join, with-point, pair}
-use Rattle.model.specs.Sound.{Shaped, AllBeside}
+use Rattle.model.specs.Arrival.{second-kind, freeing-none, join, with-point, pair}
+use Rattle.model.specs.Shape.{Shaped, AllBeside}
 use Rattle.maps.proofs.Darts.{each-dart, present-owner, present-helper}
 use Rattle.maps.proofs.Edges.{length-join, join-first, join-second, join-other}
 use Rattle.maps.proofs.Circuits.{Circuit, circuit-outline}
 use Rattle.maps.proofs.Soundness.{sound-with-outline}
-use Rattle.maps.proofs.Points.{with-point-sound}
+use Rattle.maps.proofs.Points.{with-point-sound, with-point-noted, freeing-none-fits}
 use Rattle.maps.proofs.Splice.{Splices, splice-links, splice-next-left, splice-next-new}
 
 -- with fewer than two points every dart is fixed
@@ -148,10 +148,14 @@ pub pair-sound : {m : Map} (p : Point) → Shaped m → m .count ≡ 1 → T (in
 unfolding pair with-point
 pair-sound {m} p s one ranged differs =
     let room : m .count < point-limit = omega arith in
+    let noted = freeing-none second-kind in
     sound-with-outline
-    (with-point-sound s room p (set (set (m .helpers) 0 true) 1 true) (join 2 1 (join 0 3 (m .edge))) 2
+    (with-point-sound s room p noted (set (set (m .helpers) 0 true) 1 true) (join 2 1 (join 0 3 (m .edge))) 2
     ranged differs)
-    (splice-links s room (omega arith) (omega arith) (pair-splices s one p)) (omega arith)
+    (splice-links s room (omega arith) (omega arith) (pair-splices s one p))
+    (with-point-noted s room p noted (set (set (m .helpers) 0 true) 1 true) (join 2 1 (join 0 3 (m .edge))) 2
+    (freeing-none-fits second-kind (omega arith)))
+    (omega arith)
     (1 ∷ 0 ∷ []) (pair-circuit s one p) (pair-outline s one p) tt (elem-head 1 (0 ∷ []))
     (λ d h o. below-two s one p (owner d) (omega (arith, present-owner (pair m p) d (h .is-present))))
     (pair-beside s one p)

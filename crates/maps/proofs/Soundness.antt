@@ -11,7 +11,7 @@ use Rattle.orbits.proofs.ClosedWalks.{ClosedPart, OneClosed, one-closed-by}
 use Rattle.model.specs.declared.Map.{Map}
 use Rattle.model.specs.Maps.{owner, is-own, is-present, edge-link, point-link, dart-bound}
 use Rattle.model.specs.Outline.{outline}
-use Rattle.model.specs.Sound.{ShapedPoints, ShapedLinks, AllBeside, Bare, Shaped}
+use Rattle.model.specs.Shape.{ShapedPoints, ShapedLinks, ShapedNotes, AllBeside, Bare, Shaped}
 use Rattle.maps.proofs.Links.{Linked, DartOf, links-symmetric}
 use Rattle.maps.proofs.Circuits.{Circuit, circuit-dart, circuit-reach, circuit-closed, circuit-closed-part}
 
@@ -19,18 +19,19 @@ pub links-linked : {m : Map} → ShapedLinks m → Linked m
 links-linked l = record { present = l .present; undone = l .undone }
 
 -- fewer than two points
-pub sound-without-outline : {m : Map} → ShapedPoints m → ShapedLinks m → m .count < 2 → Bare m → Shaped m
-sound-without-outline p l few bare =
-    record { points = p; links = l; outlined = λ two. absurd (omega arith); bare = λ h. bare }
+pub sound-without-outline : {m : Map} → ShapedPoints m → ShapedLinks m → ShapedNotes m → m .count < 2 → Bare m → Shaped m
+sound-without-outline p l n few bare =
+    record { points = p; links = l; notes = n; outlined = λ two. absurd (omega arith); bare = λ h. bare }
 
 -- two points or more: the circuit is the outline
-pub sound-with-outline : {m : Map} → ShapedPoints m → ShapedLinks m → 2 ≤ m .count → (s : List ℕ) → Circuit m s →
+pub sound-with-outline : {m : Map} → ShapedPoints m → ShapedLinks m → ShapedNotes m → 2 ≤ m .count → (s : List ℕ) → Circuit m s →
     outline m ≡ s → T (is-own (m .reference)) → T (elem (owner (m .reference)) s) →
     ((d : ℕ) → DartOf m d → ClosedPart (edge-link m) (point-link m) d → T (elem (owner d) s)) → AllBeside m s → Shaped m
-sound-with-outline {m} p l two s c e own-dart first every others =
+sound-with-outline {m} p l n two s c e own-dart first every others =
     record {
       points = p;
       links = l;
+      notes = n;
       outlined =
           λ h.
           record {

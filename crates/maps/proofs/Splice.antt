@@ -24,7 +24,7 @@ use Rattle.orbits.proofs.ClosedWalks.{ClosedPart, one-closed-at, agree-reach, a
 use Rattle.model.specs.declared.Map.{Map}
 use Rattle.model.specs.Maps.{point-limit, own, helper, owner, has-helper, is-present, edge-link, point-link}
 use Rattle.model.specs.Outline.{next-corner}
-use Rattle.model.specs.Sound.{Shaped, ShapedLinks}
+use Rattle.model.specs.Shape.{Shaped, ShapedLinks}
 use Rattle.maps.proofs.Darts.{owner-own, owner-helper, own-differs, own-injective, helper-injective, by-present, own-present, helper-present, present-owner, present-dart}
 use Rattle.maps.proofs.Links.{Linked, sound-linked, links, DartOf, links-symmetric}
 use Rattle.maps.proofs.Circuits.{Edge, Circuit, edge-next, circuit-dart, circuit-stays, circuit-closed-part}

@@ -4,7 +4,7 @@
 -- corner, where that is both; and the map is sound if all points lie beside that outline.
 use mathlib.Core.Path.{_≡_, refl, sym, ap, _∙_}
 use mathlib.Core.Logic.{_≢_, _⊎_, inl, inr, ⊎-elim}
-use mathlib.Core.Bool.{true, false}
+use mathlib.Core.Bool.{true, false, not}
 use mathlib.Core.List.{List, [], _∷_, _++_}
 use Prim.Native.Nat.{ℕ, suc, _≤_, _<_}
 use native.Mathlib.Omega.{arith}
@@ -21,14 +21,14 @@ use Rattle.model.specs.declared.Map.{Map}
 use Rattle.model.specs.Plane.{in-range, beside}
 use Rattle.model.specs.Maps.{point-limit, own, helper, owner, point, has-helper, is-present, edge-link}
 use Rattle.model.specs.Outline.{next-corner, outline}
-use Rattle.model.specs.Arrival.{cut, join, with-point, spliced}
-use Rattle.model.specs.Sound.{Shaped, ShapedLinks, AllBeside}
+use Rattle.model.specs.Arrival.{cut, join, freeing, with-point, spliced}
+use Rattle.model.specs.Shape.{Shaped, ShapedLinks, AllBeside}
 use Rattle.maps.proofs.Darts.{owner-own, is-own-own, own-differs, own-present, helper-present, present-owner}
 use Rattle.maps.proofs.Edges.{length-cut, cut-same, cut-other, length-join, join-first, join-second, join-other}
 use Rattle.maps.proofs.Circuits.{Circuit, circuit-outline}
 use Rattle.maps.proofs.Outline.{outline-circuit, outline-next, circuit-on-outline}
 use Rattle.maps.proofs.Soundness.{sound-with-outline}
-use Rattle.maps.proofs.Points.{point-new, point-old, with-point-sound}
+use Rattle.maps.proofs.Points.{point-new, point-old, with-point-sound, with-point-noted, freeing-fits}
 use Rattle.maps.proofs.Splice.{Splices, Kept, arc, arc-kept, single-kept, splice-next-left, splice-next-new, splice-links, splice-every}
 
 -- ---- the edge links, step by step
@@ -236,9 +236,12 @@ module _ {m : Map} (s : Shaped m) (two : 2 ≤ m .count) (room : m .count < poin
   unfolding spliced with-point
   spliced-sound ranged differs left =
       sound-with-outline
-      (with-point-sound s room p (set (m .helpers) (m .count) true)
+      (with-point-sound s room p (freeing m l r) (set (m .helpers) (m .count) true)
       (join (own (m .count)) (helper r) (left-joined m l r)) (own (m .count)) ranged differs)
-      spliced-links (omega arith) (m .count ∷ kept) (K .new-circuit) spliced-outline (is-own-own (m .count))
+      spliced-links
+      (with-point-noted s room p (freeing m l r) (set (m .helpers) (m .count) true)
+      (join (own (m .count)) (helper r) (left-joined m l r)) (own (m .count)) (freeing-fits s l r (omega (arith, left-below, s .links .fits)) (omega (arith, right-below, s .links .fits))))
+      (omega arith) (m .count ∷ kept) (K .new-circuit) spliced-outline (is-own-own (m .count))
       (rw (owner-own (m .count)) (elem-head (m .count) kept))
       (splice-every s room left-below right-below between-corners kept K two
       (spliced-helper-old s room p l r))
@@ -252,13 +255,13 @@ module _ {m : Map} (s : Shaped m) (two : 2 ≤ m .count) (room : m .count < poin
   pub spliced-point-new : point (spliced m p l r) (m .count) ≡ p
   unfolding spliced
   spliced-point-new =
-      point-new s room p (set (m .helpers) (m .count) true)
+      point-new s room p (freeing m l r) (set (m .helpers) (m .count) true)
       (join (own (m .count)) (helper r) (left-joined m l r)) (own (m .count))
 
   pub spliced-point-old : (k : ℕ) → k < m .count → point (spliced m p l r) k ≡ point m k
   unfolding spliced
   spliced-point-old k h =
-      point-old s room p (set (m .helpers) (m .count) true)
+      point-old s room p (freeing m l r) (set (m .helpers) (m .count) true)
       (join (own (m .count)) (helper r) (left-joined m l r)) (own (m .count)) k (omega arith)
 
   -- every point lies beside the outline's edges where the new one lies beside those that stay, and

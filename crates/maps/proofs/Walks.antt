@@ -33,7 +33,7 @@ use Rattle.model.specs.declared.Map.{Map}
 use Rattle.model.specs.Maps.{own, helper, owner, has-helper, is-present, edge-link, point-link}
 use Rattle.model.specs.Outline.{outline}
 use Rattle.model.specs.Reading.{darts}
-use Rattle.model.specs.Sound.{Shaped}
+use Rattle.model.specs.Shape.{Shaped}
 use Rattle.maps.proofs.Darts.{own-differs, own-injective, helper-injective, own-or-helper, by-present, present-dart, point-own, point-helper, point-lone}
 use Rattle.maps.proofs.Links.{Linked, sound-linked, edge-involutes, point-involutes, links-keep}
 use Rattle.maps.proofs.Circuits.{Edge, Circuit, edge-back, circuit-dart}

@@ -2,6 +2,7 @@
 
 use model::Map;
 use model::NO_DART;
+use model::NONE_FREED;
 use model::POINT_LIMIT;
 ghost use mathlib.Core.Path.{_≡_};
 ghost use Rattle.model.specs.Maps.{empty-map};
@@ -22,6 +23,9 @@ pub fn empty_map() -> Map
         ys: [0i64; POINT_LIMIT],
         helpers: [false; POINT_LIMIT],
         edge,
+        arrivals: [0u8; POINT_LIMIT],
+        lefts: [NONE_FREED; POINT_LIMIT],
+        rights: [NONE_FREED; POINT_LIMIT],
         count: 0,
         reference: NO_DART,
     }

@@ -23,7 +23,7 @@ ghost use Rattle.finite.specs.Bounded.{count};
 ghost use Rattle.orbits.specs.Walks.{walk, walker-at};
 ghost use Rattle.orbits.specs.Links.{test-of};
 ghost use Rattle.model.specs.Maps.{point-limit, own, is-present, edge-link, point-link};
-ghost use Rattle.model.specs.Sound.{Shaped};
+ghost use Rattle.model.specs.Shape.{Shaped};
 ghost use Rattle.model.specs.Reading.{along, orbit-set, counts, darts};
 ghost use Rattle.model.specs.Maps.{present-by};
 

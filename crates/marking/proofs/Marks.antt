@@ -26,9 +26,10 @@ use Rattle.model.specs.History.{run}
 use Rattle.model.specs.Building.{building-rules, built}
 use Rattle.model.specs.Marking.{points-of, is-rotation, mark-call}
 use Rattle.model.proofs.Answers.{RulesDecide, refuses, serves, unless-decides, unless-none, unless-refuses, outcome-refuses, outcome-serves}
-use Rattle.model.proofs.Sound.{place-ranged}
-use Rattle.hull.proofs.History.{run-sound}
-use Rattle.hull.proofs.Building.{built-points, all-accepted, built-is-run, first-refusal-met}
+use Rattle.model.proofs.Shape.{place-ranged}
+use Rattle.hull.proofs.History.{run-shaped}
+use Rattle.hull.proofs.Building.{built-points}
+use Rattle.hull.proofs.Runs.{all-accepted, built-is-run, first-refusal-met}
 use Rattle.marking.specs.Claims.{Holds, PointsTaken, RangedPlaces, claim-passes}
 use Rattle.marking.proofs.Points.{pairs-length}
 use Rattle.marking.proofs.Rotations.{claim-below, claim-decides, rotation-parts, rotation-by}
@@ -85,7 +86,7 @@ module _ (ps : List Point) (claim : List ℕ) where
       let wrong : ¬ T asked = λ t.
       beyond
       (rw (ap (λ (n : Map). n .count) (sym map-is) ∙ built-points ps) at
-      (claim-below (m .xs) (m .ys) (m .count) claim (rw (claim-decides (run-sound ps) claim, ← map-is) t))) in
+      (claim-below (m .xs) (m .ys) (m .count) claim (rw (claim-decides (run-shaped ps) claim, ← map-is) t))) in
       served all ∙ rw (is-false asked wrong) refl
 
 -- "returns the first refusal met": the points before it are accepted, and it is refused, whatever is claimed

@@ -19,7 +19,7 @@ use lib.Seq.{take-append-seam, drop-append-seam}
 use Rattle.finite.specs.Tests.{and-left, and-right, and-both, or-cases, or-left, or-right, implies-use, implies-by}
 use Rattle.finite.specs.Tests.{is-false, same-test, equal-by, differ-use, differ-by, same-or-not}
 use Rattle.finite.specs.Bounded.{all, any, all-at, all-by, any-at, any-by}
-use Rattle.finite.specs.Lists.{elem, same-list, all-in, distinct}
+use Rattle.finite.specs.Lists.{elem, same-by, same-list, all-in, distinct}
 use Rattle.finite.specs.ListLaws.{elem-head, elem-tail, elem-cut, all-elem, all-in-by, same-list-eq, same-list-refl}
 use Rattle.finite.specs.Distinct.{distinct-head, distinct-swap}
 use Rattle.finite.specs.Cycles.{Chain, Cycle}
@@ -30,7 +30,7 @@ use Rattle.model.specs.Plane.{beside}
 use Rattle.model.specs.Maps.{point-at, point}
 use Rattle.model.specs.Outline.{next-corner, outline, corners}
 use Rattle.model.specs.Marking.{begun-at, is-rotation}
-use Rattle.model.specs.Sound.{Shaped}
+use Rattle.model.specs.Shape.{Shaped}
 use Rattle.maps.specs.Places.{aside-at}
 use Rattle.maps.proofs.Circuits.{Edge, edge-next}
 use Rattle.hull.proofs.Theorems.{outline-is-hull}
@@ -144,7 +144,7 @@ module _ (xs ys : List ℤ) (n : ℕ) where
 
 -- no number is below 0, so that only the empty claim passes
 none-decides : (xs ys : List ℤ) (claim : List ℕ) → claim-passes xs ys 0 claim ≡ is-rotation claim []
-unfolding claim-passes is-rotation begun-at any same-list
+unfolding claim-passes is-rotation begun-at any same-by
 none-decides xs ys [] = refl
 none-decides xs ys (x ∷ t) =
     is-false (claim-passes xs ys 0 (x ∷ t)) (λ p. omega (arith, claim-holds xs ys 0 x t p 0 (omega arith) .below))
@@ -169,7 +169,7 @@ one-rotated x claim r =
 
 -- so 0 alone passes, and is the listing of one point
 one-decides : (xs ys : List ℤ) (claim : List ℕ) → claim-passes xs ys 1 claim ≡ is-rotation claim (0 ∷ [])
-unfolding claim-passes all is-rotation begun-at any same-list
+unfolding claim-passes all is-rotation begun-at any same-by
 one-decides xs ys claim =
     same-test (claim-passes xs ys 1 claim) (is-rotation claim (0 ∷ []))
     (λ p. rw (one-claimed xs ys claim p) tt)

@@ -14,7 +14,7 @@ use Rattle.model.specs.declared.Point.{Point}
 use Rattle.model.specs.Answers.{outcome-by}
 use Rattle.model.specs.Plane.{in-range}
 use Rattle.model.specs.Maps.{point-at, empty-map}
-use Rattle.model.specs.Sound.{Shaped}
+use Rattle.model.specs.Shape.{Shaped}
 use Rattle.model.specs.Building.{building-rules, built}
 use Rattle.maps.specs.Places.{PlacesFor, aside-at}
 

@@ -24,9 +24,9 @@ use Rattle.model.specs.Plane.{coordinate-limit, origin, in-line}
 use Rattle.model.specs.Maps.{point}
 use Rattle.model.specs.Outline.{next-corner, previous-corner, lowest-corner, corners}
 use Rattle.model.specs.Outlines.{corner-points}
-use Rattle.model.specs.Sound.{Shaped}
+use Rattle.model.specs.Shape.{Shaped}
 use Rattle.model.specs.Area.{fan, area-from, doubled-area, area-limit}
-use Rattle.model.proofs.Sound.{place-ranged}
+use Rattle.model.proofs.Shape.{place-ranged}
 use Rattle.plane.proofs.Orientation.{orientation-cyclic, orientation-twice, left-positive, in-line-zero, zero-in-line}
 use Rattle.plane.proofs.Bounds.{x-near, y-near}
 use Rattle.plane.proofs.Heights.{lower-by}

@@ -22,9 +22,9 @@ use Rattle.model.specs.Plane.{origin, orientation}
 use Rattle.model.specs.Maps.{point, point-at}
 use Rattle.model.specs.Outline.{corners}
 use Rattle.model.specs.Outlines.{corner-points}
-use Rattle.model.specs.Sound.{Shaped}
+use Rattle.model.specs.Shape.{Shaped}
 use Rattle.model.specs.Area.{fan, area-from, doubled-area, area-limit}
-use Rattle.model.proofs.Sound.{place-ranged}
+use Rattle.model.proofs.Shape.{place-ranged}
 use Rattle.plane.proofs.Fan.{fan-fixed}
 use Rattle.plane.proofs.Convex.{fan-terms}
 use Rattle.corners.specs.declared.listing.CornerList.{CornerList}

@@ -26,14 +26,15 @@ use Rattle.finite.specs.ListLaws.{elem-head, elem-tail, elem-append-left}
 use Rattle.finite.specs.Distinct.{count-in-zero}
 use Rattle.finite.specs.Cycles.{Chain, Cycle}
 use Rattle.model.specs.declared.Point.{Point}
+use Rattle.model.specs.declared.Note.{Note}
 use Rattle.model.specs.declared.Map.{Map}
 use Rattle.model.specs.declared.Offered.{Offered}
 use Rattle.model.specs.Plane.{origin, orientation}
 use Rattle.model.specs.Maps.{point, empty-map}
 use Rattle.model.specs.Outline.{next-corner, previous-corner, outline, sees, visible-edges, corners}
 use Rattle.model.specs.Outlines.{corner-points}
-use Rattle.model.specs.Sound.{Shaped}
-use Rattle.model.specs.Arrival.{turning-left, turning-right, is-beyond, farther, left-corner, right-corner, with-point, alone, pair, spliced}
+use Rattle.model.specs.Shape.{Shaped}
+use Rattle.model.specs.Arrival.{first-kind, inside-kind, freeing-none, turning-left, turning-right, is-beyond, farther, left-corner, right-corner, with-point, alone, pair, spliced}
 use Rattle.model.specs.History.{Entry, Run, run}
 use Rattle.model.specs.Area.{path-sum, fan, area-from, doubled-area, sum-of, triangle-added, area-added, history-area}
 use Rattle.plane.proofs.Orientation.{orientation-cyclic}
@@ -47,7 +48,7 @@ use Rattle.hull.specs.Requires.{Accepted}
 use Rattle.hull.proofs.Outcomes.{Arrives, first, second, inside, outside}
 use Rattle.hull.proofs.Beyond.{sound-convex, all-seen, by-beyond}
 use Rattle.hull.proofs.Arrivals.{beyond-outline, split-is, turning-outline}
-use Rattle.hull.proofs.History.{with-entry, run-keeps, few-outline, run-sound}
+use Rattle.hull.proofs.History.{with-entry, run-keeps, few-outline, run-shaped}
 use Rattle.hull.proofs.Admissions.{outline-most}
 use Rattle.corners.proofs.Corners.{corners-rotated}
 
@@ -153,11 +154,11 @@ map-same f g (a ∷ s) same =
 
 module _ {m : Map} {p : Point} (a : Accepted m p) where
   -- at the numbers that it had, they are the old ones
-  points-old : (helpers : List Bool) (edge : List ℕ) (reference : ℕ) (s : List ℕ) →
-      ((c : ℕ) → T (elem c s) → c < m .count) → map (point (with-point m p helpers edge reference)) s ≡ map (point m) s
-  points-old helpers edge reference s below =
-      map-same (point (with-point m p helpers edge reference)) (point m) s
-      (λ c h. point-old (a .is-sound) (a .room) p helpers edge reference c (omega (arith, below c h)))
+  points-old : (noted : Note) (helpers : List Bool) (edge : List ℕ) (reference : ℕ) (s : List ℕ) →
+      ((c : ℕ) → T (elem c s) → c < m .count) → map (point (with-point m p noted helpers edge reference)) s ≡ map (point m) s
+  points-old noted helpers edge reference s below =
+      map-same (point (with-point m p noted helpers edge reference)) (point m) s
+      (λ c h. point-old (a .is-sound) (a .room) p noted helpers edge reference c (omega (arith, below c h)))
 
   -- ---- fewer than two points
 
@@ -175,11 +176,11 @@ module _ {m : Map} {p : Point} (a : Accepted m p) where
     -- ---- inside
 
     -- the outline stays, and no edge is visible
-    inside-adds : visible-edges m p ≡ 0 → outline-area (alone m p) ≡ outline-area m +ℤ added m p (outline m)
+    inside-adds : visible-edges m p ≡ 0 → outline-area (alone inside-kind m p) ≡ outline-area m +ℤ added m p (outline m)
     unfolding alone visible-edges
     inside-adds none =
-        ap (λ (s : List ℕ). fan origin (map (point (alone m p)) s)) (alone-outline (a .is-sound) p two)
-        ∙ (ap (fan origin) (points-old (m .helpers) (m .edge) (m .reference) (outline m) corner-below)
+        ap (λ (s : List ℕ). fan origin (map (point (alone inside-kind m p)) s)) (alone-outline (a .is-sound) inside-kind p two)
+        ∙ (ap (fan origin) (points-old (freeing-none inside-kind) (m .helpers) (m .edge) (m .reference) (outline m) corner-below)
         ∙ sym
         (ap (λ (z : ℤ). outline-area m +ℤ z)
         (hidden-adds m p (outline m) (count-in-zero (sees m p) (outline m) none))
@@ -239,8 +240,8 @@ module _ {m : Map} {p : Point} (a : Accepted m p) where
       unfolding spliced
       points-after =
           ap (map (point (spliced m p l r))) (turning-outline a two not-beyond some)
-          ∙ (ap₂ _∷_ (point-new (a .is-sound) (a .room) p _ _ _)
-          (points-old _ _ _ (remaining split)
+          ∙ (ap₂ _∷_ (point-new (a .is-sound) (a .room) p _ _ _ _)
+          (points-old _ _ _ _ (remaining split)
           (λ c h. corner-below c (split-member split c (elem-append-left c (remaining split) (split .inner) h))))
           ∙ ap (λ (s : List Point). p ∷ point m r ∷ s) (map-append (point m) (split .middle) (l ∷ [])))
 
@@ -276,7 +277,7 @@ module _ {m : Map} {p : Point} (a : Accepted m p) where
 arrival-adds-area : (m : Map) (p : Point) → Accepted m p → (o : Offered) → Arrives m p o →
     outline-area (o .map) ≡ outline-area m +ℤ added m p (outline m)
 unfolding alone pair with-point
-arrival-adds-area m p a o (first none) = few-add a (alone m p) (omega arith) (omega (arith, outline-most (alone m p)))
+arrival-adds-area m p a o (first none) = few-add a (alone first-kind m p) (omega arith) (omega (arith, outline-most (alone first-kind m p)))
 arrival-adds-area m p a o (second one) = few-add a (pair m p) (omega arith) (omega (arith, outline-most (pair m p)))
 arrival-adds-area m p a o (inside two none) = inside-adds a two none
 arrival-adds-area m p a o (outside two some) = outside-adds a two some
@@ -327,4 +328,4 @@ listed-area {m} s place =
 -- after every list of offers, twice the outline's area from any corner is the history's total
 pub area-of-history : (ps : List Point) (place : ℕ) → doubled-area (run ps .map) place ≡ history-area (run ps .history)
 area-of-history ps place =
-    listed-area (run-sound ps) place ∙ run-keeps AddsUp adds-up-more adds-up-start ps
+    listed-area (run-shaped ps) place ∙ run-keeps AddsUp adds-up-more adds-up-start ps

@@ -11,7 +11,7 @@ ghost use mathlib.Core.Path.{_≡_};
 ghost use Rattle.model.specs.Answers.{answer-of};
 ghost use Rattle.model.specs.Plane.{orientation};
 ghost use Rattle.model.specs.Maps.{point-at};
-ghost use Rattle.model.specs.Sound.{Shaped};
+ghost use Rattle.model.specs.Shape.{Shaped};
 ghost use Rattle.model.specs.Area.{fan};
 ghost use Rattle.maps.specs.Places.{RangedQuery};
 ghost use Rattle.measures.specs.Areas.{Fanned, corners-at, sound-area-call};

@@ -1,7 +1,9 @@
 -- Laws of the definitions. Nothing is assumed.
---     Sound      the tests of a sound map and its statements agree: `sound-holds`, `sound-by`
+--     Shape      laws of shaped maps
 --     Answers    the first rule that applies decides; what an answer means
 --     Lent       what is promised of a lent list
-pub mod Sound
+--     Sound      a map is sound just where its points build it: `sound-is`, `sound-by`
+pub mod Shape
 pub mod Answers
 pub mod Lent
+pub mod Sound

@@ -7,7 +7,7 @@ use Prim.Native.String.{String}
 use lib.Dec.{T}
 use lib.IntN.{pos, negℤ}
 use Rattle.finite.specs.Bounded.{all, any, sum, count, one-if, table-onto, table}
-use Rattle.finite.specs.Lists.{elem, same-list, all-in, all-places, any-in, count-in, first-in, ring, insert, union}
+use Rattle.finite.specs.Lists.{elem, same-by, same-list, all-in, all-places, any-in, count-in, first-in, ring, insert, union}
 use Rattle.orbits.specs.Reach.{spread, reached, reaches}
 use Rattle.orbits.specs.Classes.{is-least, classes, is-fixed, is-closed, closed-walks}
 use Rattle.model.specs.declared.Point.{Point}
@@ -16,9 +16,10 @@ use Rattle.model.specs.Spelling.{bytes, decimal, spelt}
 use Rattle.model.specs.Refusals.{number, unless}
 use Rattle.model.specs.Answers.{answer-of, doubled-answer}
 use Rattle.model.specs.Plane.{at, coordinate-limit, coordinate-in-range, in-range, same-point, orientation, left-of, visible-from, in-line, beside, sees-edge, strictly-between, lower}
-use Rattle.model.specs.Maps.{no-dart, other-dart, point, has-helper, is-present, edge-link, point-link, empty-map}
+use Rattle.model.specs.Maps.{with-outline, note, no-dart, other-dart, point, has-helper, is-present, edge-link, point-link, empty-map}
 use Rattle.model.specs.Outline.{next-corner, previous-corner, corners-from, outline, sees, visible-edges, lowest-corner, corners}
-use Rattle.model.specs.Sound.{arrays-whole, count-fits, points-in-range, points-differ, places-vacant, helpers-owned, absent-fixed, links-undo, edges-cross, lone-fixed, one-outline, reference-on-outline, others-beside, no-outline, sound}
+use Rattle.model.specs.Building.{building-rules, built}
+use Rattle.model.specs.Sound.{agree, sound}
 use Rattle.model.specs.Arrival.{cut, join, turning-left, turning-right, is-farther, is-beyond, farther, left-corner, right-corner}
 use Rattle.model.specs.Arrival.{with-point, alone, pair, spliced, later-point, arrive, is-repeated}
 use Rattle.model.specs.Offers.{offer}
@@ -49,16 +50,7 @@ at-ends =
 
 -- the outline has no reference
 unlinked : Map
-unlinked =
-    let m = after 6 in
-    record {
-      xs = m .xs;
-      ys = m .ys;
-      helpers = m .helpers;
-      edge = m .edge;
-      count = m .count;
-      reference = no-dart;
-    }
+unlinked = let m = after 6 in with-outline m (m .xs) (m .ys) (m .edge) (m .count) no-dart
 
 pub area-questions : List Question
 area-questions =
@@ -89,12 +81,10 @@ unfolding table-onto all any sum count one-if table elem all-in all-places any-i
     closed-walks bytes decimal spelt number unless doubled-answer coordinate-in-range in-range
     same-point orientation left-of visible-from in-line beside sees-edge strictly-between lower
     other-dart point has-helper is-present edge-link point-link empty-map next-corner
-    previous-corner corners-from outline sees visible-edges lowest-corner corners arrays-whole
-    count-fits points-in-range points-differ places-vacant helpers-owned absent-fixed links-undo
-    edges-cross lone-fixed one-outline reference-on-outline others-beside no-outline sound cut join
+    previous-corner corners-from outline sees visible-edges lowest-corner corners note agree building-rules built sound cut join
     turning-left turning-right is-farther is-beyond farther left-corner right-corner with-point
     alone pair spliced later-point arrive is-repeated offer is-accepted extended run-from run
     spaced corner-points path-sum fan area-from doubled-area sum-of triangle-added area-added
     history-area session after told-at says refuses on-rail at-ends unlinked area-questions
-    same-list
+    same-by
 area-answers-are-right = tt

@@ -1,7 +1,7 @@
 -- A list of points offered one after another, in the order of this page: why they are not all accepted, by the first
 -- refusal met; the map that they build where they are. Neither asks whether the map is sound, since from a sound map
 -- every accepted offer leads to a sound one. That from the empty map these are the refusals and the map of document
--- 01's offers is `all-accepted`, `first-refusal-met` and `built-is-run` of hull/proofs/Building.
+-- 01's offers is `all-accepted`, `first-refusal-met` and `built-is-run` of hull/proofs/Runs.
 use mathlib.Core.List.{List, [], _∷_, _++_}
 use Rattle.model.specs.declared.Point.{Point}
 use Rattle.model.specs.declared.Map.{Map}

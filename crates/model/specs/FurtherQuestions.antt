@@ -11,7 +11,7 @@ use lib.Dec.{T}
 use lib.IntN.{ℤ, pos, negℤ}
 use lib.ListN.{length, take, drop, set, replicate}
 use Rattle.finite.specs.Bounded.{all, any, sum, count, one-if, table-onto, table}
-use Rattle.finite.specs.Lists.{elem, same-list, all-in, all-places, any-in, count-in, first-in, before, beyond}
+use Rattle.finite.specs.Lists.{elem, same-by, same-list, all-in, all-places, any-in, count-in, first-in, before, beyond}
 use Rattle.finite.specs.Lists.{total, ring, insert, union}
 use Rattle.orbits.specs.declared.Ending.{Ending}
 use Rattle.orbits.specs.declared.Walk.{Walk}
@@ -46,14 +46,12 @@ use Rattle.model.specs.Plane.{coordinate-limit, coordinate-in-range, in-
 use Rattle.model.specs.Plane.{same-point, orientation, orientation-limit, left-of}
 use Rattle.model.specs.Plane.{visible-from, in-line, beside, sees-edge, strictly-between}
 use Rattle.model.specs.Plane.{lower}
-use Rattle.model.specs.Maps.{point-limit, no-dart, other-dart, point, has-helper, is-present}
-use Rattle.model.specs.Maps.{edge-link, point-link, face-link, empty-map, map-of}
+use Rattle.model.specs.Maps.{note, point-limit, no-dart, other-dart, point, has-helper, is-present}
+use Rattle.model.specs.Maps.{edge-link, point-link, face-link, empty-map, map-of, with-coordinates, with-outline}
 use Rattle.model.specs.Outline.{next-corner, previous-corner, corners-from, outline, sees}
 use Rattle.model.specs.Outline.{visible-edges, lowest-corner, corners}
-use Rattle.model.specs.Sound.{arrays-whole, count-fits, points-in-range, points-differ}
-use Rattle.model.specs.Sound.{places-vacant, helpers-owned, absent-fixed, links-undo}
-use Rattle.model.specs.Sound.{edges-cross, lone-fixed, one-outline, reference-on-outline}
-use Rattle.model.specs.Sound.{others-beside, no-outline, sound}
+use Rattle.model.specs.Building.{building-rules, built}
+use Rattle.model.specs.Sound.{agree, sound}
 use Rattle.model.specs.Reading.{links-of, number-of, darts, counts, orbit-set, walker-call}
 use Rattle.model.specs.Arrival.{cut, join, turning-left, turning-right, is-farther, is-beyond}
 use Rattle.model.specs.Arrival.{farther, left-corner, right-corner, with-point, alone, pair}
@@ -63,10 +61,10 @@ use Rattle.model.specs.History.{Entry, Run, is-accepted, extended, run-f
 use Rattle.model.specs.History.{reported-edges, is-outside, outside-arrivals, edges-seen}
 use Rattle.model.specs.Placing.{strictly-visible, place-among, place-call}
 use Rattle.model.specs.Lent.{writing, lent-after}
-use Rattle.model.specs.Saved.{version, big-endian, number-at, complement, signed, block}
+use Rattle.model.specs.Saved.{version, old-version, big-endian, number-at, complement, signed, block}
 use Rattle.model.specs.Saved.{version-place, count-place, reference-place, header-length}
-use Rattle.model.specs.Saved.{helpers-place, links-place, saved-length, following, coordinate}
-use Rattle.model.specs.Saved.{header, saved-in, saved, file-in-form-of, file-in-form, map-in}
+use Rattle.model.specs.Saved.{helpers-place, links-place, notes-place, saved-length, following, coordinate}
+use Rattle.model.specs.Saved.{header, notes-length, packed-note, notes-in, saved-in, saved, file-in-form-of, file-in-form, map-in}
 use Rattle.model.specs.Saved.{load-call}
 use Rattle.model.specs.Text.{digit-limit, is-digit, has-minus, digits, value-after, magnitude}
 use Rattle.model.specs.Text.{is-number, number-value, line-read, in-first-line, lines}
@@ -156,7 +154,7 @@ number-of-rules rules = unless number rules 0
 
 -- a map of so many points, all at the origin, as the rules of an offer see it
 crowded : ℕ → Map
-crowded n = map-of [] [] [] [] n no-dart
+crowded n = map-of [] [] [] [] [] [] [] n no-dart
 
 -- the end of the range, and one beyond it
 far : ℤ
@@ -168,7 +166,7 @@ beyond-far = pos 1_000_000_001
 limits : List Question
 limits =
     (coordinate-limit ∷ point-limit ∷ dart-limit ∷ no-dart ∷ digit-limit ∷ text-limit ∷ version ∷ []
-    is 1_000_000_000 ∷ 512 ∷ 1_024 ∷ 1_024 ∷ 10 ∷ 65_536 ∷ 1 ∷ [])
+    is 1_000_000_000 ∷ 512 ∷ 1_024 ∷ 1_024 ∷ 10 ∷ 65_536 ∷ 2 ∷ [])
     -- "from -1,000,000,000 to 1,000,000,000", in both coordinates
     ∷ (map (λ p. one-if (in-range p))
     (at far (negℤ far) ∷ at (negℤ far) far ∷ at beyond-far (pos 0) ∷ at (negℤ beyond-far) (pos 0)
@@ -185,11 +183,12 @@ limits =
     -- "512 points already", and one fewer: the place that is looked at next holds an equal point
     ∷ (map (λ n. number-of-rules (admission-rules (crowded n) origin)) (512 ∷ 511 ∷ [])
     is 2 ∷ 4 ∷ [])
-    -- "The whole is 9 + 13 × n bytes", and where its parts stand
+    -- "The whole is 9 + 13 × n bytes", "A version 2 file is 9 + 18 × n bytes", and where their parts stand
     ∷ (version-place ∷ count-place ∷ reference-place ∷ header-length ∷ [] is 4 ∷ 5 ∷ 7 ∷ 9 ∷ [])
-    ∷ (helpers-place 6 ∷ links-place 6 ∷ saved-length 6 ∷ following 6 ∷ []
-    is 57 ∷ 63 ∷ 87 ∷ 83 ∷ [])
-    ∷ (saved-length 0 ∷ saved-length 512 ∷ [] is 9 ∷ 6_665 ∷ [])
+    ∷ (helpers-place 6 ∷ links-place 6 ∷ notes-place 6 ∷ [] is 57 ∷ 63 ∷ 87 ∷ [])
+    ∷ (saved-length 1 6 ∷ following 1 6 ∷ saved-length 2 6 ∷ following 2 6 ∷ [] is 87 ∷ 83 ∷ 117 ∷ 113 ∷ [])
+    ∷ (saved-length 1 0 ∷ saved-length 1 512 ∷ saved-length 2 0 ∷ saved-length 2 512 ∷ []
+    is 9 ∷ 6_665 ∷ 9 ∷ 9_225 ∷ [])
     ∷ []
 
 -- ---- sound maps
@@ -205,13 +204,18 @@ five =
 
 -- a map with some of its fields changed
 with-xs : List ℤ → Map → Map
-with-xs xs m = map-of xs (m .ys) (m .helpers) (m .edge) (m .count) (m .reference)
+with-xs xs m = with-coordinates m xs (m .ys) (m .count)
 
 with-links : List Bool → List ℕ → Map → Map
-with-links helpers edge m = map-of (m .xs) (m .ys) helpers edge (m .count) (m .reference)
+with-links helpers edge m =
+    map-of (m .xs) (m .ys) helpers edge (m .arrivals) (m .lefts) (m .rights) (m .count) (m .reference)
 
 with-reference : ℕ → Map → Map
-with-reference d m = map-of (m .xs) (m .ys) (m .helpers) (m .edge) (m .count) d
+with-reference d m = with-outline m (m .xs) (m .ys) (m .edge) (m .count) d
+
+with-notes : List ℕ → List ℕ → List ℕ → Map → Map
+with-notes arrivals lefts rights m =
+    map-of (m .xs) (m .ys) (m .helpers) (m .edge) arrivals lefts rights (m .count) (m .reference)
 
 -- the points 3 and 4 with helpers, and with these edge links of darts 6 to 9
 chained : ℕ → ℕ → ℕ → ℕ → Map → Map
@@ -244,14 +248,30 @@ unsound-maps one two m =
     ∷ with-reference 0 one
     ∷ []
 
-sound-maps : Map → List Map
-sound-maps m = m ∷ chained 6 7 8 9 m ∷ chained 9 7 8 6 m ∷ with-reference 0 m ∷ []
+-- all of document 01's sentences hold of these, but their points build another map: another chain within the
+-- outline, helpers without an edge, another reference
+other-maps : Map → List Map
+other-maps m = chained 6 7 8 9 m ∷ chained 9 7 8 6 m ∷ with-reference 0 m ∷ []
 
-soundness : Map → Map → Map → List Question
-soundness one two m =
-    (map (λ m. one-if (sound m)) (sound-maps m) is 1 ∷ 1 ∷ 1 ∷ 1 ∷ [])
-    ∷ (map (λ m. one-if (sound m)) (unsound-maps one two m) is replicate 14 0)
+-- another arrival, another freed dart, the freed darts exchanged, and a note at a place without a point
+other-notes : Map → List Map
+other-notes m =
+    with-notes (set (m .arrivals) 4 3) (m .lefts) (m .rights) m
+    ∷ with-notes (m .arrivals) (set (m .lefts) 5 1025) (m .rights) m
+    ∷ with-notes (m .arrivals) (m .rights) (m .lefts) m
+    ∷ with-notes (m .arrivals) (m .lefts) (set (m .rights) 6 0) m
     ∷ []
+
+soundness : Map → Map → Map → Map → List Question
+soundness one two m six =
+    (map (λ m. one-if (sound m)) (empty-map ∷ one ∷ two ∷ m ∷ six ∷ []) is replicate 5 1)
+    ∷ (map (λ m. one-if (sound m)) (unsound-maps one two m ++ other-maps m ++ other-notes six) is replicate 21 0)
+    ∷ []
+
+-- ---- notes
+
+noted-of : Map → ℕ → List ℕ
+noted-of m k = note m k .arrival ∷ note m k .left ∷ note m k .right ∷ []
 
 -- ---- reading
 
@@ -289,6 +309,13 @@ of-session r =
     -- "reference 2k", "reference kept": the last point, 5, is outside
     ∷ (map (λ (e : Entry). e .before .reference) (r .history) is 1024 ∷ 1024 ∷ 2 ∷ 4 ∷ 6 ∷ 6 ∷ [])
     ∷ (r .map .reference ∷ [] is 10 ∷ [])
+    -- what is noted of the points, and of a place without one
+    ∷ (flatMap (noted-of (r .map)) (0 ∷ 1 ∷ 2 ∷ 3 ∷ 4 ∷ 5 ∷ 6 ∷ [])
+    is 0 ∷ 1024 ∷ 1024 ∷ 1 ∷ 1024 ∷ 1024 ∷ 3 ∷ 1024 ∷ 1024 ∷ 3 ∷ 1024 ∷ 1024 ∷ 2 ∷ 1024 ∷ 1024 ∷ 3 ∷ 7 ∷ 6
+    ∷ 0
+    ∷ 1024
+    ∷ 1024
+    ∷ [])
     -- "A fixed dart is an edge orbit of one"
     ∷ (orbit-sizes (r .map) 6 is 1 ∷ 2 ∷ 2 ∷ 2 ∷ [])
     ∷ (orbit-sizes (r .map) 2 is 2 ∷ 2 ∷ 4 ∷ 8 ∷ [])
@@ -335,6 +362,8 @@ of-rail r =
     is flatten (says "outside 0\n" ∷ says "outside 0\n" ∷ says "edge 0 2\n" ∷ says "outside 1\n" ∷ []))
     -- "or zero and lie between the edge's ends": sound, and with the point between moved beyond an end not
     ∷ (map (λ x. one-if (sound (with-xs (set (r .map .xs) 1 x) (r .map)))) (pos 3 ∷ pos 5 ∷ []) is 1 ∷ 0 ∷ [])
+    -- the farther corner's edges are those that the new point frees
+    ∷ (noted-of (r .map) 2 is 3 ∷ 3 ∷ 2 ∷ [])
     ∷ []
 
 rails : List Question
@@ -356,20 +385,27 @@ rails =
 
 -- ---- lent lists and files
 
--- the file of one point with a negative coordinate
-one-point : List ℕ
-one-point =
+-- the file of one point with a negative coordinate, in both versions
+one-point-old : List ℕ
+one-point-old =
     0 ∷ 0 ∷ 0 ∷ 18 ∷ 1 ∷ 0 ∷ 1 ∷ 4 ∷ 0 ∷ 255 ∷ 255 ∷ 255 ∷ 254 ∷ 59 ∷ 154 ∷ 202 ∷ 0 ∷ 0 ∷ 0 ∷ 0 ∷ 0
     ∷ 1
     ∷ []
+
+one-point : List ℕ
+one-point = set (set one-point-old 3 23) 4 2 ++ 0 ∷ 4 ∷ 0 ∷ 4 ∷ 0 ∷ []
 
 -- the same with these bytes for its other coordinate
 with-y : List ℕ → List ℕ
 with-y y = take 13 one-point ++ y ++ drop 17 one-point
 
--- two: the file of two points
-files : List ℕ → List Question
-files two =
+-- the numbers that files get
+file-numbers : List (List ℕ) → List ℕ
+file-numbers = map (λ s. number-of-rules (load-call s .rules))
+
+-- two, old: the file of two points in both versions; rail-file: that of three points on a rail
+files : List ℕ → List ℕ → List ℕ → List Question
+files two old rail-file =
     -- "lent list shorter than the result; a longer one keeps its tail"
     (map (λ lent. number-of-rules (writing {A = ℕ} [] (1 ∷ 2 ∷ []) lent .rules))
     ((7 ∷ []) ∷ (7 ∷ 8 ∷ []) ∷ [])
@@ -379,7 +415,20 @@ files two =
     is 7 ∷ 1 ∷ 2 ∷ 9 ∷ [])
     -- two's complement, both ways
     ∷ (saved (run (at (negℤ (pos 2)) far ∷ []) .map) is one-point)
+    ∷ (saved-in old-version (run (at (negℤ (pos 2)) far ∷ []) .map) is one-point-old)
     ∷ (saved (map-in one-point) is one-point)
+    -- "Version 1 files are still read, their records rebuilt"
+    ∷ (saved (map-in one-point-old) is one-point)
+    ∷ (file-numbers (two ∷ old ∷ rail-file ∷ one-point ∷ one-point-old ∷ (0 ∷ 0 ∷ 0 ∷ 5 ∷ 1 ∷ 0 ∷ 0 ∷ 4 ∷ 0 ∷ []) ∷ [])
+    is replicate 6 0)
+    -- of both versions another reference, a helper and a link wrong; of version 2 another arrival, a freed
+    -- dart above 1,024, and the freed darts exchanged
+    ∷ (file-numbers
+    (set two 8 0 ∷ set old 8 0 ∷ set two 26 0 ∷ set old 26 0 ∷ set two 28 1 ∷ set old 28 1 ∷ set two 40 2
+    ∷ set two 37 1
+    ∷ (take 60 rail-file ++ 2 ∷ 0 ∷ 3 ∷ [])
+    ∷ [])
+    is replicate 9 1)
     ∷ (flatMap (λ n. spelt (signed n)) (2_147_483_647 ∷ 2_147_483_648 ∷ 4_294_967_295 ∷ [])
     is bytes "2147483647-2147483648-1")
     -- 4 bytes hold more than the range: its two ends, what lies beyond them, and the ends of 4 bytes
@@ -390,14 +439,21 @@ files two =
     ∷ (128 ∷ 0 ∷ 0 ∷ 0 ∷ [])
     ∷ [])
     is 0 ∷ 0 ∷ 1 ∷ 1 ∷ 1 ∷ 1 ∷ [])
-    -- in form; under 9 bytes; one byte more; the length, the version and a helper byte wrong; n
-    -- above 512
-    ∷ (map (λ s. one-if (file-in-form s))
-    (two ∷ take 8 two ∷ (two ++ 0 ∷ []) ∷ set two 3 32 ∷ set two 4 2
+    -- under 9 bytes; one byte more; the length, the version and a helper byte wrong; the length of the other
+    -- version; an arrival above 3; n above 512
+    ∷ (file-numbers
+    (take 8 two ∷ (two ++ 0 ∷ []) ∷ (old ++ 0 ∷ []) ∷ set two 3 42 ∷ set old 3 32 ∷ set two 4 3 ∷ set two 4 0
     ∷ set two 25 2
-    ∷ (header version 513 no-dart ++ replicate (13 * 513) 0)
+    ∷ set old 25 2
+    ∷ set old 4 2
+    ∷ set two 4 1
+    ∷ take 35 two
+    ∷ set two 35 4
+    ∷ set two 40 4
+    ∷ (header version 513 no-dart ++ replicate (18 * 513) 0)
+    ∷ (header old-version 513 no-dart ++ replicate (13 * 513) 0)
     ∷ [])
-    is 1 ∷ 0 ∷ 0 ∷ 0 ∷ 0 ∷ 0 ∷ 0 ∷ [])
+    is replicate 16 7)
     ∷ []
 
 -- ---- texts
@@ -451,11 +507,11 @@ texts =
 
 pub further-questions : List Question
 further-questions =
-    answers ++ limits ++ soundness (after 1) (after 2) five ++ of-session (run session)
+    answers ++ limits ++ soundness (after 1) (after 2) five (after 6) ++ of-session (run session)
     ++ of-few (after 0) (after 1) (after 2)
     ++ of-rail (run rail)
     ++ rails
-    ++ files (saved (after 2))
+    ++ files (saved (after 2)) (saved-in old-version (after 2)) (saved (run rail .map))
     ++ texts
 
 -- one check over the list
@@ -467,16 +523,14 @@ unfolding table-onto all any sum count one-if table elem all-in all-places any-i
     placed-answer doubled-answer marked-answer written-answer line-answer coordinate-in-range in-range same-point orientation
     left-of visible-from in-line beside sees-edge strictly-between lower other-dart point has-helper
     is-present edge-link point-link face-link empty-map next-corner previous-corner corners-from
-    outline sees visible-edges lowest-corner corners arrays-whole count-fits points-in-range
-    points-differ places-vacant helpers-owned absent-fixed links-undo edges-cross lone-fixed
-    one-outline reference-on-outline others-beside no-outline sound links-of number-of darts counts
+    outline sees visible-edges lowest-corner corners note agree building-rules built sound links-of number-of darts counts
     cut join turning-left turning-right is-farther is-beyond farther left-corner right-corner
     with-point alone pair spliced later-point arrive is-repeated offer is-accepted extended run-from
     run reported reported-edges is-outside outside-arrivals edges-seen strictly-visible place-among
-    big-endian number-at complement signed block coordinate header saved-in file-in-form-of map-in is-digit has-minus
+    big-endian number-at complement signed block coordinate header notes-length packed-note notes-in saved-in file-in-form-of file-in-form map-in is-digit has-minus
     digits value-after magnitude is-number number-value line-read in-first-line lines one-line spaced printed
-    offer-line closing arrivals report session after far same-list told says short refusals
+    offer-line closing arrivals report session after far same-by told says short refusals
     orbit-with five-counts walk-to answers number-of-rules crowded beyond-far limits five with-xs
-    with-links with-reference chained unsound-maps sound-maps soundness orbit-sizes moves placings
-    sums of-session of-few rail of-rail rails one-point with-y files number-of-line lent-line texts further-questions
+    with-links with-reference with-notes chained unsound-maps other-maps other-notes soundness noted-of orbit-sizes moves placings
+    sums of-session of-few rail of-rail rails one-point-old one-point with-y file-numbers files number-of-line lent-line texts further-questions
 further-answers-are-right = tt

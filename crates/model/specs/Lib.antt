@@ -6,9 +6,11 @@
 --     Plane        coordinates, orientation and its three cases
 --     Maps         darts, points, links, the empty map
 --     Outline      the outline, what is visible of it, the corners in listing order
---     Sound        a sound map: tests, and the same as statements
---     Reading      orbits, counts, walks, the walker
+--     Shape        what is true of a map that offers build
 --     Arrival      a point offered to a sound map, and the map after it
+--     Building     a list of points offered one after another
+--     Sound        a sound map: the one that its points build
+--     Reading      orbits, counts, walks, the walker
 --     Offers       a point offered to any map
 --     Changes      what an offer changes, place by place
 --     History      a list of offers; demand 3 as one record
@@ -19,7 +21,6 @@
 --     Report       the report on a survey text
 --     Outlines     an outline as text: written, read, and which corners some survey lists
 --     Area         twice the area of an outline: from a corner, and by the history
---     Building     a list of points offered one after another
 --     Marking      a claimed outline, right or wrong
 --     Orders       the order in which each call looks at its rules
 --     Questions    the starred questions, one list with one check
@@ -33,9 +34,11 @@ pub mod Answers
 pub mod Plane
 pub mod Maps
 pub mod Outline
+pub mod Shape
+pub mod Arrival
+pub mod Building
 pub mod Sound
 pub mod Reading
-pub mod Arrival
 pub mod Offers
 pub mod Changes
 pub mod History
@@ -46,7 +49,6 @@ pub mod Text
 pub mod Report
 pub mod Outlines
 pub mod Area
-pub mod Building
 pub mod Marking
 pub mod Orders
 pub mod Questions

@@ -1,7 +1,7 @@
 -- Maps, in the order of this page: the limits; the darts of a point; points, present darts and
--- point links by coordinates and helpers alone, for code that is lent a map's arrays; the points,
--- the helpers, the present darts and the two links of a map; the empty map; a map by its arrays, of
--- which code is lent all or some.
+-- point links by coordinates and helpers alone, and what is noted of a point, for code that is lent a
+-- map's arrays; the points, the helpers, the present darts, the two links and the notes of a map; the
+-- empty map; a map by its arrays, of which code is lent all or some.
 -- Document 01, "What the engine holds" and "A sound map". A dart that the document calls own is 2k
 -- and a helper 2k + 1, for the point k that owns them.
 use mathlib.Core.Bool.{Bool, false, cond, _&&_, _||_}
@@ -15,6 +15,7 @@ use Rattle.finite.specs.Bounded.{table}
 use Rattle.orbits.specs.Sets.{dart-limit}
 use Rattle.orbits.specs.Links.{link-of, test-of}
 use Rattle.model.specs.declared.Point.{Point}
+use Rattle.model.specs.declared.Note.{Note}
 use Rattle.model.specs.declared.Map.{Map}
 
 -- "A map has at most 512 points"
@@ -55,6 +56,16 @@ present-by helped count d = ltb (owner d) count && (is-own d || helped (owner d)
 abbrev pub point-link-by : (ℕ → Bool) → ℕ → ℕ
 point-link-by helped d = cond (helped (owner d)) (other-dart d) d
 
+-- "The map gains for each point its arrival (0 first, 1 second, 2 inside, 3 outside) and the two freed
+-- darts": what is noted of the point numbered k, by the arrays
+abbrev pub note-at : List ℕ → List ℕ → List ℕ → ℕ → Note
+note-at arrivals lefts rights k =
+    record { arrival = getD arrivals k 0; left = getD lefts k no-dart; right = getD rights k no-dart }
+
+-- "A place without a point holds 0, 1,024, 1,024."
+abbrev pub no-note : Note
+no-note = record { arrival = 0; left = no-dart; right = no-dart }
+
 -- the same of a map; both links leave a number that is no dart where it is
 unfoldable pub point : Map → ℕ → Point
 point m = point-at (m .xs) (m .ys)
@@ -70,6 +81,9 @@ edge-link m = link-of (m .edge)
 
 unfoldable pub point-link : Map → ℕ → ℕ
 point-link m = point-link-by (has-helper m)
+
+unfoldable pub note : Map → ℕ → Note
+note m = note-at (m .arrivals) (m .lefts) (m .rights)
 
 -- "edge link, then point link"
 unfoldable pub face-link : Map → ℕ → ℕ
@@ -87,6 +101,9 @@ empty-map =
       ys = replicate point-limit (pos 0);
       helpers = replicate point-limit false;
       edge = table dart-limit (λ d. d);
+      arrivals = replicate point-limit 0;
+      lefts = replicate point-limit no-dart;
+      rights = replicate point-limit no-dart;
       count = 0;
       reference = no-dart;
     }
@@ -96,25 +113,36 @@ empty-map =
 -- map is said here, once.
 
 -- the map of these arrays and numbers
-abbrev pub map-of : List ℤ → List ℤ → List Bool → List ℕ → ℕ → ℕ → Map
-map-of xs ys helpers edge count reference =
+abbrev pub map-of : List ℤ → List ℤ → List Bool → List ℕ → List ℕ → List ℕ → List ℕ → ℕ → ℕ → Map
+map-of xs ys helpers edge arrivals lefts rights count reference =
     record {
       xs = xs;
       ys = ys;
       helpers = helpers;
       edge = edge;
+      arrivals = arrivals;
+      lefts = lefts;
+      rights = rights;
       count = count;
       reference = reference;
     }
 
 -- the map whose arrays are lent
-abbrev pub map-lent : RefT (List ℤ) → RefT (List ℤ) → RefT (List Bool) → RefT (List ℕ) → ℕ → ℕ → Map
-map-lent xs ys helpers edge = map-of (now xs) (now ys) (now helpers) (now edge)
+abbrev pub map-lent : RefT (List ℤ) → RefT (List ℤ) → RefT (List Bool) → RefT (List ℕ) →
+    RefT (List ℕ) → RefT (List ℕ) → RefT (List ℕ) → ℕ → ℕ → Map
+map-lent xs ys helpers edge arrivals lefts rights =
+    map-of (now xs) (now ys) (now helpers) (now edge) (now arrivals) (now lefts) (now rights)
 
 -- where the coordinates alone are lent: the map m with these, and its other fields as they are ..
 abbrev pub with-coordinates : Map → List ℤ → List ℤ → ℕ → Map
-with-coordinates m xs ys count = map-of xs ys (m .helpers) (m .edge) count (m .reference)
+with-coordinates m xs ys count =
+    map-of xs ys (m .helpers) (m .edge) (m .arrivals) (m .lefts) (m .rights) count (m .reference)
 
 -- .. and where the edge links are lent too: the map m with this outline
 abbrev pub with-outline : Map → List ℤ → List ℤ → List ℕ → ℕ → ℕ → Map
-with-outline m xs ys edge count reference = map-of xs ys (m .helpers) edge count reference
+with-outline m xs ys edge count reference =
+    map-of xs ys (m .helpers) edge (m .arrivals) (m .lefts) (m .rights) count reference
+
+-- the points of a map, in their order
+abbrev pub map-points : Map → List Point
+map-points m = table (m .count) (point m)

@@ -7,7 +7,7 @@ use lib.Dec.{T}
 use lib.IntN.{ℤ, pos}
 use lib.ListN.{take, replicate}
 use Rattle.finite.specs.Bounded.{all, any, sum, count, one-if, table-onto, table}
-use Rattle.finite.specs.Lists.{elem, same-list, all-in, any-in, count-in, first-in, ring}
+use Rattle.finite.specs.Lists.{elem, same-by, same-list, all-in, any-in, count-in, first-in, ring}
 use Rattle.model.specs.Spelling.{bytes}
 use Rattle.model.specs.Refusals.{number, unless}
 use Rattle.model.specs.Answers.{answer-of, marked-answer}
@@ -85,7 +85,7 @@ mark-questions =
 
 -- one check over the list
 pub mark-answers-are-right : T (all-in (λ q. same-list (q .said) (q .right)) mark-questions)
-unfolding table-onto all any sum count one-if table elem same-list all-in any-in count-in first-in ring
+unfolding table-onto all any sum count one-if table elem same-by all-in any-in count-in first-in ring
     flatMap flatten bytes number unless marked-answer coordinate-in-range in-range same-point
     orientation left-of visible-from in-line beside sees-edge strictly-between lower other-dart point
     has-helper edge-link empty-map next-corner previous-corner corners-from outline sees

@@ -8,16 +8,17 @@ use lib.Dec.{T}
 use lib.IntN.{pos}
 use lib.ListN.{replicate}
 use Rattle.finite.specs.Bounded.{all, any, sum, count, one-if, table-onto, table}
-use Rattle.finite.specs.Lists.{elem, same-list, all-in, all-places, any-in, count-in, first-in, ring, insert, union}
+use Rattle.finite.specs.Lists.{elem, same-by, same-list, all-in, all-places, any-in, count-in, first-in, ring, insert, union}
 use Rattle.orbits.specs.Reach.{spread, reached, reaches}
 use Rattle.orbits.specs.Classes.{is-least, classes, is-fixed, is-closed, closed-walks}
 use Rattle.model.specs.declared.Point.{Point}
 use Rattle.model.specs.Spelling.{bytes, decimal, spelt}
 use Rattle.model.specs.Refusals.{number, unless}
 use Rattle.model.specs.Plane.{at, coordinate-in-range, in-range, same-point, orientation, left-of, visible-from, in-line, beside, sees-edge, strictly-between, lower}
-use Rattle.model.specs.Maps.{other-dart, point, has-helper, is-present, edge-link, point-link, empty-map}
+use Rattle.model.specs.Maps.{note, other-dart, point, has-helper, is-present, edge-link, point-link, empty-map}
 use Rattle.model.specs.Outline.{next-corner, previous-corner, corners-from, outline, sees, visible-edges, lowest-corner, corners}
-use Rattle.model.specs.Sound.{arrays-whole, count-fits, points-in-range, points-differ, places-vacant, helpers-owned, absent-fixed, links-undo, edges-cross, lone-fixed, one-outline, reference-on-outline, others-beside, no-outline, sound}
+use Rattle.model.specs.Building.{building-rules, built}
+use Rattle.model.specs.Sound.{agree, sound}
 use Rattle.model.specs.Arrival.{cut, join, turning-left, turning-right, is-farther, is-beyond, farther, left-corner, right-corner}
 use Rattle.model.specs.Arrival.{with-point, alone, pair, spliced, later-point, arrive, is-repeated}
 use Rattle.model.specs.Offers.{offer}
@@ -121,14 +122,12 @@ unfolding table-onto all any sum count one-if table elem all-in all-places any-i
     closed-walks bytes decimal spelt number unless coordinate-in-range in-range same-point
     orientation left-of visible-from in-line beside sees-edge strictly-between lower other-dart
     point has-helper is-present edge-link point-link empty-map next-corner previous-corner
-    corners-from outline sees visible-edges lowest-corner corners arrays-whole count-fits
-    points-in-range points-differ places-vacant helpers-owned absent-fixed links-undo edges-cross
-    lone-fixed one-outline reference-on-outline others-beside no-outline sound cut join
+    corners-from outline sees visible-edges lowest-corner corners note agree building-rules built sound cut join
     turning-left turning-right is-farther is-beyond farther left-corner right-corner with-point
     alone pair spliced later-point arrive is-repeated offer is-accepted extended run-from run
     is-digit has-minus digits value-after magnitude is-number number-value leading-digits front
     spaced point-text joined outline-text corner-points starts-with is-word second is-position
     position after-position with-first positions positions-in exactly ring-of corners-in is-some
     or-none is-outline corners-spelt lowest-is-first all-support listable coordinates session after
-    number-of-text numbers-of-texts reading reads-as on-rail outline-questions same-list
+    number-of-text numbers-of-texts reading reads-as on-rail outline-questions same-by
 outline-answers-are-right = tt

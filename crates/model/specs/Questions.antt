@@ -7,7 +7,7 @@ use lib.Dec.{T}
 use lib.IntN.{ℤ, pos, negℤ}
 use lib.ListN.{take, replicate}
 use Rattle.finite.specs.Bounded.{all, any, sum, count, one-if, table-onto, table}
-use Rattle.finite.specs.Lists.{elem, same-list, all-in, all-places, any-in, count-in, first-in, before, beyond, ring, insert, union}
+use Rattle.finite.specs.Lists.{elem, same-by, same-list, all-in, all-places, any-in, count-in, first-in, before, beyond, ring, insert, union}
 use Rattle.orbits.specs.Reach.{spread, reached, reaches}
 use Rattle.orbits.specs.Classes.{is-least, classes, is-fixed, is-closed, closed-walks}
 use Rattle.orbits.specs.Walks.{edge-step, point-step, walk}
@@ -18,16 +18,17 @@ use Rattle.model.specs.declared.Kind.{Kind}
 use Rattle.model.specs.Spelling.{bytes, decimal, spelt}
 use Rattle.model.specs.Refusals.{number, unless}
 use Rattle.model.specs.Plane.{at, coordinate-in-range, in-range, same-point, orientation, left-of, visible-from, in-line, beside, sees-edge, oriented, strictly-between, lower}
-use Rattle.model.specs.Maps.{other-dart, point, has-helper, is-present, edge-link, point-link, face-link, empty-map}
+use Rattle.model.specs.Maps.{note, other-dart, point, has-helper, is-present, edge-link, point-link, face-link, empty-map}
 use Rattle.model.specs.Outline.{next-corner, previous-corner, corners-from, outline, sees, visible-edges, lowest-corner, corners}
-use Rattle.model.specs.Sound.{arrays-whole, count-fits, points-in-range, points-differ, places-vacant, helpers-owned, absent-fixed, links-undo, edges-cross, lone-fixed, one-outline, reference-on-outline, others-beside, no-outline, sound}
+use Rattle.model.specs.Building.{building-rules, built}
+use Rattle.model.specs.Sound.{agree, sound}
 use Rattle.model.specs.Reading.{links-of, number-of, darts, counts, counted, orbit-of, walked}
 use Rattle.model.specs.Answers.{oriented-answer, arrival-answer, counted-answer, walked-answer}
 use Rattle.model.specs.Arrival.{cut, join, turning-left, turning-right, is-farther, is-beyond, farther, left-corner, right-corner}
 use Rattle.model.specs.Arrival.{with-point, alone, pair, spliced, later-point, arrive, is-repeated}
 use Rattle.model.specs.Offers.{offer}
 use Rattle.model.specs.History.{is-accepted, extended, run-from, run}
-use Rattle.model.specs.Saved.{big-endian, complement, block, coordinate, header, saved-in, saved}
+use Rattle.model.specs.Saved.{big-endian, complement, block, coordinate, header, notes-length, packed-note, notes-in, saved-in, saved}
 use Rattle.model.specs.Text.{is-digit, has-minus, digits, value-after, magnitude, is-number, number-value, line-read, in-first-line, lines}
 use Rattle.model.specs.Report.{spaced, printed, offer-line, closing, arrivals, report}
 
@@ -91,7 +92,7 @@ questions =
     ∷ (offered (after 0) (pos 1_000_000_000) (pos 0) is bytes "first\n")
     ∷ (offered (after 0) (pos 1_000_000_001) (pos 0) is bytes "refused 3\n")
     -- the empty map saved
-    ∷ (saved (after 0) is 0 ∷ 0 ∷ 0 ∷ 5 ∷ 1 ∷ 0 ∷ 0 ∷ 4 ∷ 0 ∷ [])
+    ∷ (saved (after 0) is 0 ∷ 0 ∷ 0 ∷ 5 ∷ 2 ∷ 0 ∷ 0 ∷ 4 ∷ 0 ∷ [])
     ∷ []
 
 -- one check over the list
@@ -102,13 +103,11 @@ unfolding table-onto all any sum count one-if table elem all-in all-places any-i
     spelt number unless coordinate-in-range in-range same-point orientation left-of visible-from
     in-line beside sees-edge strictly-between lower other-dart point has-helper is-present
     edge-link point-link face-link empty-map next-corner previous-corner corners-from outline sees visible-edges
-    lowest-corner corners arrays-whole count-fits points-in-range points-differ places-vacant
-    helpers-owned absent-fixed links-undo edges-cross lone-fixed one-outline
-    reference-on-outline others-beside no-outline sound links-of number-of darts counts counted
+    lowest-corner corners note agree building-rules built sound links-of number-of darts counts counted
     orbit-of walked oriented-answer arrival-answer counted-answer walked-answer oriented cut join
     turning-left turning-right is-farther is-beyond farther left-corner right-corner with-point
     alone pair spliced later-point arrive is-repeated offer is-accepted extended run-from run
-    big-endian complement block coordinate header saved-in is-digit has-minus digits value-after magnitude is-number number-value line-read in-first-line lines
+    big-endian complement block coordinate header notes-length packed-note notes-in saved-in is-digit has-minus digits value-after magnitude is-number number-value line-read in-first-line lines
     spaced printed offer-line closing arrivals report session after offered orientation-of counts-of million
-    questions same-list
+    questions same-by
 answers-are-right = tt

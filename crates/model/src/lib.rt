@@ -14,6 +14,9 @@ pub const POINT_LIMIT: usize = 512;
 // The reference of a map without outline.
 pub const NO_DART: usize = DART_LIMIT;
 
+// The same, as it is noted of a point that freed no dart.
+pub const NONE_FREED: u16 = 1024;
+
 // A mark: whole numbers of thousandths of a millimetre.
 pub struct Point {
     pub x: i64,
@@ -22,14 +25,26 @@ pub struct Point {
 
 // A map of darts. Point k stands at place k of `xs` and `ys` and owns dart 2k; it has the helper dart
 // 2k + 1 where `helpers` says so. `edge` holds the edge link of each dart; the point link follows
-// from the helpers. `reference` is a dart of the outline, or 1,024 for none.
+// from the helpers. `reference` is a dart of the outline, or 1,024 for none. `arrivals`, `lefts` and
+// `rights` hold for each point what is noted of its arrival; a place without a point holds 0, 1,024, 1,024.
 pub struct Map {
     pub xs: [i64; POINT_LIMIT],
     pub ys: [i64; POINT_LIMIT],
     pub helpers: [bool; POINT_LIMIT],
     pub edge: [usize; DART_LIMIT],
+    pub arrivals: [u8; POINT_LIMIT],
+    pub lefts: [u16; POINT_LIMIT],
+    pub rights: [u16; POINT_LIMIT],
     pub count: usize,
     pub reference: usize,
+}
+
+// What is noted of a point: its arrival (0 first, 1 second, 2 inside, 3 outside), and the darts that it
+// freed, the left corner's old partner and the right corner's, or 1,024 for none.
+pub struct Note {
+    pub arrival: usize,
+    pub left: usize,
+    pub right: usize,
 }
 
 // Why a call is refused. specs/Refusals gives each its number.

@@ -274,7 +274,7 @@ module _ {n : ℕ} {present : ℕ → Bool} {next other : ℕ → List ℕ}
 -- ---- closed parts
 
 -- the test that `is-closed` makes at each dart
-pub both-move : (f g : ℕ → ℕ) (d : ℕ) → T (not (is-fixed f d) && not (is-fixed g d)) ↔ ((f d ≢ d) × (g d ≢ d))
+both-move : (f g : ℕ → ℕ) (d : ℕ) → T (not (is-fixed f d) && not (is-fixed g d)) ↔ ((f d ≢ d) × (g d ≢ d))
 unfolding is-fixed
 both-move f g d = (
   λ t. (

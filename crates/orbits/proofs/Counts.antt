@@ -1,7 +1,7 @@
 -- The count of parts, in the order of this page: what holds when the darts below a have been passed; at the
 -- start; past a dart that is absent or in the queue; past a dart from which a visit was made, which is
 -- the least of its part; at the end.
-use mathlib.Core.Path.{_≡_, refl, sym, _∙_, ap, subst}
+use mathlib.Core.Path.{_≡_, refl, _∙_, ap, subst}
 use mathlib.Core.Logic.{⊎-elim}
 use mathlib.Core.Bool.{Bool, true, false, not, _&&_}
 use mathlib.Core.List.{List}
@@ -11,34 +11,29 @@ use native.Mathlib.Numerals.{add-one}
 use native.Mathlib.Omega.{arith}
 use mir.Val.{boolByte}
 use lib.Dec.{T, T-not, not-T}
-use lib.ListN.{getD, replicate}
-use Rattle.finite.specs.Tests.{and-left, and-right, and-both, of-true, decide, same-test}
+use lib.ListN.{replicate}
+use Rattle.finite.specs.Tests.{and-left, and-right, and-both, of-true, decide}
 use Rattle.finite.specs.Bounded.{one-if, sum, count, lt-or-ge}
 use Rattle.finite.specs.Counting.{count-small, one-if-passes, one-if-fails}
 use Rattle.orbits.specs.Reach.{Reach, by-one, by-two}
-use Rattle.finite.specs.Loops.{Tests}
-use Rattle.orbits.specs.Classes.{is-least, classes, is-fixed, is-closed, closed-walks}
+use Rattle.orbits.specs.Classes.{is-least, classes}
 use Rattle.orbits.specs.Sets.{dart-limit}
-use Rattle.orbits.specs.Links.{Dart, Permutes, link-of, test-of, Permuted, part-counts}
-use Rattle.orbits.specs.Queue.{Queue, Closed, Ready, Visited, Movable, both-move-at}
-use Rattle.orbits.specs.declared.PartCounts.{PartCounts}
-use Rattle.orbits.proofs.Reach.{Symmetric, reach-trans, reach-sym, double-to-single, single-to-double}
+use Rattle.orbits.specs.Links.{Dart, Permutes, link-of, test-of, Permuted}
+use Rattle.orbits.specs.Queue.{Queue, Closed, Ready, Visited}
+use Rattle.orbits.proofs.Reach.{Symmetric, double-to-single, single-to-double}
 use Rattle.orbits.proofs.Permutations.{orbit-keeps, part-keeps, part-symmetric}
-use Rattle.orbits.proofs.Classes.{least-iff-first, same-classes, both-move, closed-iff}
-use Rattle.orbits.proofs.Queue.{queue-small, lengthened-seen, lengthened-cases}
+use Rattle.orbits.proofs.Classes.{least-iff-first, same-classes}
+use Rattle.orbits.proofs.Queue.{lengthened-seen, lengthened-cases}
 use Rattle.orbits.proofs.Parts.{none-seen, queue-none, closed-none, closed-reach, part-within}
 
--- a is the first dart of its part, and of a closed part
+-- a is the first dart of its part
 abbrev first : List ℕ → List ℕ → ℕ → (ℕ → Bool) → ℕ → Bool
 first f g n present a = present a && is-least (by-two (link-of f) (link-of g)) n a
 
-abbrev first-closed : List ℕ → List ℕ → ℕ → (ℕ → Bool) → ℕ → Bool
-first-closed f g n present = first f g n (λ a. present a && is-closed (link-of f) (link-of g) n a)
-
--- The darts below a have been passed: what they reach is in the queue, and nothing else; their parts,
--- and the closed ones, are counted.
+-- The darts below a have been passed: what they reach is in the queue, and nothing else; their parts
+-- are counted.
 pub record Counting (f g : List ℕ) (n : ℕ) (present : ℕ → Bool) (order : List ℕ) (seen : List Bool)
-    (end parts closed a : ℕ) : Type 0 where
+    (end parts a : ℕ) : Type 0 where
   pub queue : Queue order seen end
   pub links : Closed (link-of f) (link-of g) seen
   pub from : (e : ℕ) → T (test-of seen e) →
@@ -46,10 +41,9 @@ pub record Counting (f g : List ℕ) (n : ℕ) (present : ℕ → Bool) (order :
   pub passed : (b : ℕ) → b < a → Dart n present b → T (test-of seen b)
   pub within : a ≤ n
   pub parts-counted : parts ≡ count a (first f g n present)
-  pub closed-counted : closed ≡ count a (first-closed f g n present)
 
 pub counting-none : (f g : List ℕ) (n : ℕ) (present : ℕ → Bool) →
-    Counting f g n present (replicate dart-limit 0) (replicate dart-limit false) 0 0 0 0
+    Counting f g n present (replicate dart-limit 0) (replicate dart-limit false) 0 0 0
 unfolding count sum
 counting-none f g n present =
     record {
@@ -59,26 +53,21 @@ counting-none f g n present =
       passed = λ b l h. absurd (not-suc-le-zero l);
       within = zero-le;
       parts-counted = refl;
-      closed-counted = refl;
     }
 
 -- the same numbers under other names, as where two ways through the code meet
 pub counting-same : {f g : List ℕ} {n : ℕ} {present : ℕ → Bool} {order order₁ : List ℕ} {seen seen₁ : List Bool}
-    {end end₁ parts parts₁ closed closed₁ a : ℕ} → order₁ ≡ order → seen₁ ≡ seen → end₁ ≡ end → parts₁ ≡ parts →
-    closed₁ ≡ closed → Counting f g n present order seen end parts closed a →
-    Counting f g n present order₁ seen₁ end₁ parts₁ closed₁ a
-counting-same o s e p k c = rw (o, s, e, p, k) c
+    {end end₁ parts parts₁ a : ℕ} → order₁ ≡ order → seen₁ ≡ seen → end₁ ≡ end → parts₁ ≡ parts →
+    Counting f g n present order seen end parts a → Counting f g n present order₁ seen₁ end₁ parts₁ a
+counting-same o s e p c = rw (o, s, e, p) c
 
 pub counting-ends : {f g : List ℕ} {n : ℕ} {present : ℕ → Bool} {order : List ℕ} {seen : List Bool}
-    {end parts closed a : ℕ} → Counting f g n present order seen end parts closed a → n ≤ a →
-    _≡_ {A = PartCounts} (record { parts = parts; closed = closed }) (part-counts (link-of f) (link-of g) n present)
-unfolding part-counts classes closed-walks
+    {end parts a : ℕ} → Counting f g n present order seen end parts a → n ≤ a →
+    parts ≡ classes (by-two (link-of f) (link-of g)) n present
+unfolding classes
 counting-ends {f} {g} {n} {present} {a = a} c l =
     let e : a ≡ n = omega (arith, c .within) in
-    λ i. record {
-      parts = (c .parts-counted ∙ ap (λ (k : ℕ). count k (first f g n present)) e) i;
-      closed = (c .closed-counted ∙ ap (λ (k : ℕ). count k (first-closed f g n present)) e) i;
-    }
+    c .parts-counted ∙ ap (λ (k : ℕ). count k (first f g n present)) e
 
 pub count-next : (a : ℕ) (p : ℕ → Bool) → count (a + 1) p ≡ count a p + one-if (p a)
 unfolding count sum
@@ -95,29 +84,27 @@ one-if-byte false = refl
 
 -- there are no more parts than darts passed
 pub counting-small : {f g : List ℕ} {n : ℕ} {present : ℕ → Bool} {order : List ℕ} {seen : List Bool}
-    {end parts closed a : ℕ} → Counting f g n present order seen end parts closed a → (parts ≤ a) × (closed ≤ a)
-counting-small {f} {g} {n} {present} {a = a} c = (
-  omega (arith, c .parts-counted, count-small a (first f g n present)),
-  omega (arith, c .closed-counted, count-small a (first-closed f g n present)),
-)
+    {end parts a : ℕ} → Counting f g n present order seen end parts a → parts ≤ a
+counting-small {f} {g} {n} {present} {a = a} c =
+    omega (arith, c .parts-counted, count-small a (first f g n present))
 
 module _ {f g : List ℕ} {n : ℕ} {present : ℕ → Bool} (p : Permuted n present f g) where
   symmetric : Symmetric n present (by-two (link-of f) (link-of g))
   symmetric = part-symmetric (p .first .permutes) (p .second .permutes)
 
-  module _ {order : List ℕ} {seen : List Bool} {end parts closed a : ℕ}
-      (c : Counting f g n present order seen end parts closed a) (l : a < n) where
+  module _ {order : List ℕ} {seen : List Bool} {end parts a : ℕ} (c : Counting f g n present order seen end parts a)
+      (l : a < n) where
     -- a dart that is in the queue is reached from one before it
-    old-not-first : T (test-of seen a) → (s : ℕ → Bool) → ((b : ℕ) → T (s b) → T (present b)) → ¬ T (first f g n s a)
-    old-not-first t s sub u =
+    old-not-first : T (test-of seen a) → ¬ T (first f g n present a)
+    old-not-first t u =
         let b = c .from a t in
         least-iff-first symmetric
-        (record { below = l; is-present = sub a (and-left (s a) _ u) }) .0
-        (and-right (s a) _ u) (b .0) (b .1) (b .2) (b .3)
+        (record { below = l; is-present = and-left (present a) _ u }) .0
+        (and-right (present a) _ u) (b .0) (b .1) (b .2) (b .3)
 
     -- past a dart that is absent or in the queue
     pub counting-skip : present a && not (test-of seen a) ≡ false →
-        Counting f g n present order seen end parts closed (a + 1)
+        Counting f g n present order seen end parts (a + 1)
     counting-skip old =
         record {
           queue = c .queue;
@@ -131,10 +118,13 @@ module _ {f g : List ℕ} {n : ℕ} {present : ℕ → Bool} (p : Permuted n pre
               rw e (in-queue (subst (λ (x : ℕ). T (present x)) e (d .is-present))))
               (lt-or-ge b a);
           within = omega arith;
-          parts-counted = carried parts present (λ b t. t) (c .parts-counted);
-          closed-counted =
-              carried closed (λ b. present b && is-closed (link-of f) (link-of g) n b)
-              (λ b t. and-left (present b) _ t) (c .closed-counted);
+          parts-counted =
+              omega (
+                arith,
+                c .parts-counted,
+                count-next a (first f g n present),
+                one-if-fails (first f g n present a) (not-T (first f g n present a) not-first),
+              );
         }
       where
         in-queue : T (present a) → T (test-of seen a)
@@ -145,15 +135,8 @@ module _ {f g : List ℕ} {n : ℕ} {present : ℕ → Bool} (p : Permuted n pre
             absurd (subst T old (and-both (present a) (not (test-of seen a)) t s)))
             (decide (test-of seen a))
 
-        carried : (k : ℕ) (s : ℕ → Bool) → ((b : ℕ) → T (s b) → T (present b)) → k ≡ count a (first f g n s) →
-            k ≡ count (a + 1) (first f g n s)
-        carried k s sub e =
-            omega (
-              arith,
-              count-next a (first f g n s),
-              one-if-fails (first f g n s a)
-                  (not-T (first f g n s a) (λ u. old-not-first (in-queue (sub a (and-left (s a) _ u))) s sub u)),
-            )
+        not-first : ¬ T (first f g n present a)
+        not-first u = old-not-first (in-queue (and-left (present a) _ u)) u
 
     -- a dart that is not in the queue is the first of its part
     module _ (new : present a && not (test-of seen a) ≡ true) where
@@ -178,93 +161,37 @@ module _ {f g : List ℕ} {n : ℕ} {present : ℕ → Bool} (p : Permuted n pre
       pub counting-ready : Ready f g a order seen end
       counting-ready = record { within = part-within p a-dart; queue = c .queue; closed = c .links }
 
-      module _ {order₁ : List ℕ} {seen₁ : List Bool} {end₁ : ℕ} (v : Visited f g a order end order₁ seen₁ end₁) where
-        pub counting-movable : Movable f g order₁ end end₁
-        counting-movable =
-            record {
-              first-whole = p .first .whole;
-              second-whole = p .second .whole;
-              room = queue-small (v .lengthened .queue);
-              below = λ i h m. part-within p a-dart .below (getD order₁ i 0) (v .lengthened .added i h m);
-            }
-
-        -- what is reached from a is new
-        reached-new : (e : ℕ) → Reach (by-two (link-of f) (link-of g)) a e →
-            (i : ℕ) × (end ≤ i) × (i < end₁) × (getD order₁ i 0 ≡ e)
-        reached-new e r =
-            let at = v .lengthened .queue .place e (closed-reach seen₁ (v .closed) r (v .start)) in
-            ⊎-elim
-            (λ (h : at .0 < end).
-            let same = sym (v .lengthened .same (at .0) h) ∙ at .2 in
-            let b = c .from e (subst (λ (x : ℕ). T (test-of seen x)) same (c .queue .held (at .0) h)) in
-            let back = reach-trans (b .3) (reach-sym symmetric a-dart r) in
-            absurd (not-seen (closed-reach seen (c .links) back (c .passed (b .0) (b .1) (b .2)))))
-            (λ (h : end ≤ at .0). (at .0, h, at .1, at .2))
-            (lt-or-ge (at .0) end)
-
-        first-closed-is : first-closed f g n present a ≡ is-closed (link-of f) (link-of g) n a
-        first-closed-is =
-            let shut = is-closed (link-of f) (link-of g) n a in
-            same-test (first-closed f g n present a) shut
-            (λ t. and-right (present a) shut (and-left (present a && shut) _ t))
-            (λ t. and-both (present a && shut) _ (and-both (present a) shut a-present t) a-least)
-
-        -- so its part is closed just where both links move the new darts
-        closed-is : (r : Bool) → Tests r (both-move-at (link-of f) (link-of g) order₁) end end₁ →
-            is-closed (link-of f) (link-of g) n a ≡ r
-        closed-is r moves =
-            same-test (is-closed (link-of f) (link-of g) n a) r
-            (λ t. moves .whole
-            (λ i h m.
-            both-move (link-of f) (link-of g) (getD order₁ i 0) .1
-            (closed-iff (symmetric .keeps) a-dart .0 t (getD order₁ i 0) (v .lengthened .added i h m))))
-            (λ t. closed-iff (symmetric .keeps) a-dart .1
-            (λ e s.
-            let at = reached-new e s in
-            both-move (link-of f) (link-of g) e .0
-            (subst (λ (d : ℕ). T (not (is-fixed (link-of f) d) && not (is-fixed (link-of g) d))) (at .3)
-            (moves .each t (at .0) (at .1) (at .2)))))
-
-        -- past it, with its part counted
-        pub counting-part : (r : Bool) → Tests r (both-move-at (link-of f) (link-of g) order₁) end end₁ →
-            Counting f g n present order₁ seen₁ end₁ (parts + 1) (closed + boolByte r) (a + 1)
-        counting-part r moves =
-            record {
-              queue = v .lengthened .queue;
-              links = v .closed;
-              from = λ e t.
-                  ⊎-elim
-                  (λ (o : T (test-of seen e)). let b = c .from e o in (b .0, omega (arith, b .1), b .2, b .3))
-                  (λ (s : Reach (by-two (link-of f) (link-of g)) a e). (a, omega arith, a-dart, s))
-                  (lengthened-cases (v .lengthened) (c .queue) e t);
-              passed = λ b h d.
-                  ⊎-elim
-                  (λ (m : b < a). lengthened-seen (v .lengthened) (c .queue) b (c .passed b m d))
-                  (λ (m : a ≤ b). let e : b ≡ a = omega arith in rw e (v .start))
-                  (lt-or-ge b a);
-              within = omega arith;
-              parts-counted =
-                  omega (
-                    arith,
-                    c .parts-counted,
-                    count-next a (first f g n present),
-                    one-if-passes (first f g n present a) (and-both (present a) _ a-present a-least),
-                  );
-              closed-counted =
-                  omega (
-                    arith,
-                    c .closed-counted,
-                    count-next a (first-closed f g n present),
-                    ap one-if (first-closed-is ∙ closed-is r moves),
-                    one-if-byte r,
-                  );
-            }
+      -- past it, with its part counted
+      pub counting-part : {order₁ : List ℕ} {seen₁ : List Bool} {end₁ : ℕ} → Visited f g a order end order₁ seen₁ end₁ →
+          Counting f g n present order₁ seen₁ end₁ (parts + 1) (a + 1)
+      counting-part v =
+          record {
+            queue = v .lengthened .queue;
+            links = v .closed;
+            from = λ e t.
+                ⊎-elim
+                (λ (o : T (test-of seen e)). let b = c .from e o in (b .0, omega (arith, b .1), b .2, b .3))
+                (λ (s : Reach (by-two (link-of f) (link-of g)) a e). (a, omega arith, a-dart, s))
+                (lengthened-cases (v .lengthened) (c .queue) e t);
+            passed = λ b h d.
+                ⊎-elim
+                (λ (m : b < a). lengthened-seen (v .lengthened) (c .queue) b (c .passed b m d))
+                (λ (m : a ≤ b). let e : b ≡ a = omega arith in rw e (v .start))
+                (lt-or-ge b a);
+            within = omega arith;
+            parts-counted =
+                omega (
+                  arith,
+                  c .parts-counted,
+                  count-next a (first f g n present),
+                  one-if-passes (first f g n present a) (and-both (present a) _ a-present a-least),
+                );
+          }
 
 -- ---- one link
 
 -- the parts under a link taken twice over are its orbits
 pub orbits-counted : {n : ℕ} {present : ℕ → Bool} {f : ℕ → ℕ} → Permutes n present f →
-    part-counts f f n present .parts ≡ classes (by-one f) n present
-unfolding part-counts
+    classes (by-two f f) n present ≡ classes (by-one f) n present
 orbits-counted p =
     same-classes (part-keeps p p) (orbit-keeps p) (λ a b h r. double-to-single r) (λ a b h r. single-to-double r)

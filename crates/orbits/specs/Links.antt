@@ -1,7 +1,6 @@
 -- Links, in the order of this page: the link that a list holds; two links one after the other; lists
 -- whose links lead from a dart to darts alone; darts, which are below a bound and present; links that
--- keep the darts, permute them, or undo themselves on them; lists that hold permutations; the numbers
--- of parts that two links have.
+-- keep the darts, permute them, or undo themselves on them; lists that hold permutations.
 use mathlib.Core.Path.{_≡_}
 use mathlib.Core.Bool.{Bool, false}
 use mathlib.Core.List.{List}
@@ -9,9 +8,7 @@ use Prim.Native.Nat.{ℕ, _≤_, _<_}
 use lib.Dec.{T}
 use lib.ListN.{length, getD}
 use Rattle.finite.specs.Lists.{elem}
-use Rattle.orbits.specs.declared.PartCounts.{PartCounts}
 use Rattle.orbits.specs.Reach.{by-two, StaysBelow}
-use Rattle.orbits.specs.Classes.{classes, closed-walks}
 use Rattle.orbits.specs.Sets.{dart-limit}
 
 -- where the link of dart d leads; a number past the list is left where it is
@@ -67,9 +64,3 @@ pub record Permuted (n : ℕ) (present : ℕ → Bool) (f g : List ℕ) : Type 0
   pub within : n ≤ dart-limit
   pub first : Permutation n present f
   pub second : Permutation n present g
-
--- the numbers of connected parts and of closed walks
-unfoldable pub part-counts : (ℕ → ℕ) → (ℕ → ℕ) → ℕ → (ℕ → Bool) → PartCounts
-unfolding classes closed-walks
-part-counts f g n present =
-    record { parts = classes (by-two f g) n present; closed = closed-walks f g n present }

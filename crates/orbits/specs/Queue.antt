@@ -1,17 +1,15 @@
 -- The queue by which darts are visited, in the order of this page: the queue; what a call adds to it;
--- when a part can be visited, and that it was; one dart put; the darts of the queue as a test; when
--- both links move the darts of some places.
+-- when a part can be visited, and that it was; one dart put; the darts of the queue as a test.
 -- The first `end` places of `order` are the queue, and `seen` marks the darts that stand in it. So no
 -- dart is put twice, and what is reached from a dart is found in as many steps as it has darts.
 use mathlib.Core.Path.{_≡_}
-use mathlib.Core.Bool.{Bool, not, _&&_}
+use mathlib.Core.Bool.{Bool}
 use mathlib.Core.List.{List}
 use Prim.Native.Nat.{ℕ, _≤_, _<_}
 use lib.Dec.{T, eqb}
 use lib.ListN.{length, getD}
 use Rattle.finite.specs.Bounded.{any, count}
 use Rattle.orbits.specs.Reach.{Reach, by-two}
-use Rattle.orbits.specs.Classes.{is-fixed}
 use Rattle.orbits.specs.Sets.{dart-limit}
 use Rattle.orbits.specs.Links.{link-of, test-of, Followable}
 
@@ -61,14 +59,3 @@ pub record Put (d : ℕ) (order : List ℕ) (end : ℕ) (order-after : List ℕ)
 unfoldable pub queued : List ℕ → ℕ → ℕ → Bool
 unfolding any
 queued order end d = any end (λ i. eqb d (getD order i 0))
-
--- the places from `from` up to `to` hold darts, of which the lists tell the links
-pub record Movable (f g order : List ℕ) (from to : ℕ) : Type 0 where
-  pub first-whole : length f ≡ dart-limit
-  pub second-whole : length g ≡ dart-limit
-  pub room : to ≤ dart-limit
-  pub below : (i : ℕ) → from ≤ i → i < to → getD order i 0 < dart-limit
-
--- both links move the dart at place i
-abbrev pub both-move-at : (ℕ → ℕ) → (ℕ → ℕ) → List ℕ → ℕ → Bool
-both-move-at f g order i = not (is-fixed f (getD order i 0)) && not (is-fixed g (getD order i 0))

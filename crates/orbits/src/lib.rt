@@ -9,7 +9,7 @@ ghost use Rattle.orbits.specs.Reach.{by-one, by-two, reaches, StaysBelow
 ghost use Rattle.orbits.specs.Classes.{classes};
 ghost use Rattle.orbits.specs.Sets.{dart-limit, set-of, no-darts, has, with-dart};
 ghost use Rattle.orbits.specs.Walks.{walker-at};
-ghost use Rattle.orbits.specs.Links.{link-of, test-of, Composed, Followable, Permuted, part-counts};
+ghost use Rattle.orbits.specs.Links.{link-of, test-of, Composed, Followable, Permuted};
 
 // Darts are numbered 0 to 1,023.
 pub const DART_LIMIT: usize = 1024;
@@ -112,12 +112,6 @@ impl Walker {
     }
 }
 
-// How many connected parts there are, and in how many of them neither link fixes a dart.
-pub struct PartCounts {
-    pub parts: usize,
-    pub closed: usize,
-}
-
 // Where the link that a list holds leads from d; a number past the list stays.
 pub fn link_of(links: &[usize], d: usize) -> usize
     ensures { λ r. ⌜ r ≡ link-of (now (links .entry)) d ⌝ }
@@ -159,34 +153,31 @@ pub fn orbit(f: &[usize; DART_LIMIT], d: usize) -> DartSet
     part(f, f, d)
 }
 
-// How many connected parts the present darts below n have under the links f and g, and in how many of
-// them neither link fixes a dart. Each part is visited from its least dart.
-pub fn part_counts(
+// How many connected parts the present darts below n have under the links f and g. Each part is visited
+// from its least dart.
+pub fn part_count(
     f: &[usize; DART_LIMIT],
     g: &[usize; DART_LIMIT],
     n: usize,
     present: &[bool; DART_LIMIT],
-) -> PartCounts
+) -> usize
     requires { ⌜ Permuted n (test-of (now present)) (now f) (now g) ⌝ }
     ensures { λ r. ⌜ r ≡
-        part-counts (link-of (now (f .entry))) (link-of (now (g .entry))) n (test-of (now (present .entry))) ⌝ }
+        classes (by-two (link-of (now (f .entry))) (link-of (now (g .entry)))) n (test-of (now (present .entry))) ⌝ }
 {
     let mut order = [0usize; DART_LIMIT];
     let mut seen = [false; DART_LIMIT];
     let mut end = 0;
     let mut parts = 0;
-    let mut closed = 0;
     let mut a = 0;
     while a < n {
         if visits::is_unseen(present, &seen, a) {
-            let from = end;
-            end = visits::visit(f, g, a, &mut order, &mut seen, from);
+            end = visits::visit(f, g, a, &mut order, &mut seen, end);
             parts += 1;
-            closed += visits::all_move(f, g, &order, from, end) as usize;
         }
         a += 1;
     }
-    PartCounts { parts, closed }
+    parts
 }
 
 // How many orbits the present darts below n have under the link f.
@@ -194,6 +185,5 @@ pub fn orbit_count(f: &[usize; DART_LIMIT], n: usize, present: &[bool; DART_LIMI
     requires { ⌜ Permuted n (test-of (now present)) (now f) (now f) ⌝ }
     ensures { λ r. ⌜ r ≡ classes (by-one (link-of (now (f .entry)))) n (test-of (now (present .entry))) ⌝ }
 {
-    let counts = part_counts(f, f, n, present);
-    counts.parts
+    part_count(f, f, n, present)
 }

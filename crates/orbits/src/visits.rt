@@ -4,12 +4,9 @@ use crate::DartSet;
 ghost use mathlib.Core.Path.{_≡_};
 ghost use mathlib.Core.Bool.{_&&_, not};
 ghost use Prim.Native.Nat.{_<_, _≤_};
-ghost use lib.ListN.{length};
-ghost use Rattle.finite.specs.Loops.{Tests};
-ghost use Rattle.orbits.specs.Classes.{is-fixed};
 ghost use Rattle.orbits.specs.Sets.{dart-limit, set-of};
-ghost use Rattle.orbits.specs.Links.{link-of, test-of};
-ghost use Rattle.orbits.specs.Queue.{Queue, Put, Ready, Visited, queued, Movable, both-move-at};
+ghost use Rattle.orbits.specs.Links.{test-of};
+ghost use Rattle.orbits.specs.Queue.{Queue, Put, Ready, Visited, queued};
 
 // Puts d at the end of the queue, if it is not there, and gives the new end.
 pub(crate) fn put(
@@ -65,45 +62,6 @@ pub(crate) fn set_of(order: &[usize; DART_LIMIT], end: usize) -> DartSet
         i += 1;
     }
     darts
-}
-
-// Whether the link f leaves dart a where it is.
-fn fixes(f: &[usize; DART_LIMIT], a: usize) -> bool
-    requires { ⌜ (length (now f) ≡ dart-limit) × (a < dart-limit) ⌝ }
-    ensures { λ r. ⌜ r ≡ is-fixed (link-of (now (f .entry))) a ⌝ }
-{
-    f[a] == a
-}
-
-// Whether f and g both move dart a.
-fn both_move(f: &[usize; DART_LIMIT], g: &[usize; DART_LIMIT], a: usize) -> bool
-    requires { ⌜ (length (now f) ≡ dart-limit) × (length (now g) ≡ dart-limit) × (a < dart-limit) ⌝ }
-    ensures { λ r. ⌜ r ≡
-        (not (is-fixed (link-of (now (f .entry))) a) && not (is-fixed (link-of (now (g .entry))) a)) ⌝ }
-{
-    !fixes(f, a) && !fixes(g, a)
-}
-
-// Whether f and g both move each dart of the queue from place `from` up to place `to`.
-pub(crate) fn all_move(
-    f: &[usize; DART_LIMIT],
-    g: &[usize; DART_LIMIT],
-    order: &[usize; DART_LIMIT],
-    from: usize,
-    to: usize,
-) -> bool
-    requires { ⌜ Movable (now f) (now g) (now order) from to ⌝ }
-    ensures { λ r. ⌜ Tests r
-        (both-move-at (link-of (now (f .entry))) (link-of (now (g .entry))) (now (order .entry))) from to ⌝ }
-{
-    let mut i = from;
-    while i < to {
-        if !both_move(f, g, order[i]) {
-            return false;
-        }
-        i += 1;
-    }
-    true
 }
 
 // Whether dart a is present and not in the queue.

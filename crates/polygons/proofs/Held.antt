@@ -4,9 +4,9 @@
 use mathlib.Core.Path.{_≡_, refl, sym, ap, ap₂, subst, _∙_}
 use mathlib.Core.Logic.{_≢_, ⊎-elim}
 use mathlib.Core.Bool.{Bool, true, false, not, cond, _&&_}
-use mathlib.Core.List.{List, [], _∷_, _++_}
+use mathlib.Core.List.{List, [], _∷_}
 use mathlib.Core.Option.{Option, none, some}
-use Prim.Native.Nat.{ℕ, zero, suc, _-_, _≤_, _<_}
+use Prim.Native.Nat.{ℕ, _-_, _≤_, _<_}
 use native.Mathlib.Omega.{arith}
 use borrow.Author.Tests.{eq-eqb, ne-eqb, le-leb, lt-leb}
 use lib.Dec.{T, T-not, leb, eqb, leb→le, le→leb}
@@ -16,7 +16,7 @@ use lib.Seq.{take-all, length-take-le}
 use Rattle.finite.specs.Tests.{and-left, and-right, and-both, decide, is-true, is-false, same-test}
 use Rattle.finite.specs.Bounded.{lt-or-ge}
 use Rattle.finite.specs.Lists.{all-in}
-use Rattle.finite.specs.ListLaws.{all-in-at, all-in-snoc}
+use Rattle.finite.specs.ListLaws.{all-in-at, all-in-snoc, replicate-at}
 use Rattle.model.specs.declared.Point.{Point}
 use Rattle.model.specs.Plane.{at, coordinate-in-range, in-range, origin, same-point}
 use Rattle.model.specs.Maps.{point-at, point-limit}
@@ -279,11 +279,6 @@ module _ (opening closing t : List ℕ) where
 
 -- ---- arrays that hold nothing yet
 
-none-kept : (n k : ℕ) → getD (replicate n (pos 0)) k (pos 0) ≡ pos 0
-none-kept zero k = refl
-none-kept (suc n) zero = refl
-none-kept (suc n) (suc k) = none-kept n k
-
 pub zeros-ready : Ready (replicate point-limit (pos 0)) (replicate point-limit (pos 0))
 zeros-ready =
     record {
@@ -291,6 +286,6 @@ zeros-ready =
       long-ys = length-replicate point-limit (pos 0);
       ranged =
           λ k.
-          subst (λ (p : Point). T (in-range p)) (sym (ap₂ at (none-kept point-limit k) (none-kept point-limit k)))
+          subst (λ (p : Point). T (in-range p)) (sym (ap₂ at (replicate-at point-limit (pos 0) k) (replicate-at point-limit (pos 0) k)))
           origin-ranged;
     }

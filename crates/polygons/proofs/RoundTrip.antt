@@ -19,7 +19,7 @@ use Rattle.model.specs.declared.Point.{Point}
 use Rattle.model.specs.Plane.{origin, same-point}
 use Rattle.model.specs.Spelling.{bytes, space, spelt}
 use Rattle.model.specs.Text.{is-digit, front, leading-digits}
-use Rattle.model.proofs.Sound.{same-point-eq, same-point-by}
+use Rattle.model.proofs.Shape.{same-point-eq, same-point-by}
 use Rattle.model.specs.Outlines.{corners-in, exactly, is-word, joined, positions-in, outline-text, point-text, positions, ring-of, starts-with}
 use Rattle.positions.proofs.WordLaws.{word-then, word-whole}
 use Rattle.positions.proofs.PositionLaws.{few-digits, none-some, Closes, joined-read, read-joined}

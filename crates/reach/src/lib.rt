@@ -9,6 +9,7 @@ use drawings::text_length;
 use drawings::write_text;
 use engine::files::load;
 use engine::texts::report;
+use layout::VERSION;
 use layout::saved_length;
 use listings::read_outline;
 use maps::empty_map;
@@ -43,6 +44,7 @@ use replies::writing::write_corner_list;
 use replies::writing::write_darts;
 use replies::writing::write_number;
 use replies::writing::write_point;
+use replies::writing::write_saved;
 use replies::writing::write_values;
 use saved::write_map;
 use survey::lines::read_line;
@@ -53,7 +55,7 @@ ghost use Rattle.model.specs.declared.Link.{Link};
 ghost use Rattle.model.specs.Plane.{at, orientation-call};
 ghost use Rattle.model.specs.Maps.{empty-map};
 ghost use Rattle.model.specs.Outline.{corners};
-ghost use Rattle.model.specs.Sound.{Shaped};
+ghost use Rattle.model.specs.Shape.{Shaped};
 ghost use Rattle.model.specs.Reading.{unsound};
 ghost use Rattle.model.specs.Saved.{load-call, map-in, saved};
 ghost use Rattle.model.specs.Text.{line-call};
@@ -102,11 +104,11 @@ fn write_orientation(a: Point, b: Point, c: Point, out: &mut [i64]) -> u32
 pub extern "C" fn reach_empty(out: &mut [u8]) -> u32
     ensures { λ r. ⌜ Served (only (saved empty-map)) (now (out .entry)) (now (out .exit)) r ⌝ }
 {
-    let length = saved_length(0);
+    let length = saved_length(VERSION, 0);
     if out.len() < length {
         return SHORT_LIST;
     }
-    write_map(empty_map(), out);
+    write_map(empty_map(), VERSION, out);
     0
 }
 
@@ -120,6 +122,21 @@ pub extern "C" fn reach_check(map: &[u8]) -> u32
     match outcome {
         Outcome::Refused(refusal) => code(refusal),
         Outcome::Served => 0,
+    }
+}
+
+// The version 2 file of a file's map, and how long it is: numbers 7, 1 and 10.
+#[no_mangle]
+pub extern "C" fn reach_load(file: &[u8], out: &mut [u8], length: &mut [usize]) -> u32
+    ensures { λ r. ⌜ ServedBoth (of-file (now (file .entry)) (λ m. unsound m ∷ []))
+        (saved (map-in (now (file .entry)))) (length-told (saved (map-in (now (file .entry)))))
+        (now (out .entry)) (now (out .exit)) (now (length .entry)) (now (length .exit)) r ⌝ }
+{
+    let loaded = load(file);
+    let outcome = loaded.outcome;
+    match outcome {
+        Outcome::Refused(refusal) => code(refusal),
+        Outcome::Served => write_saved(loaded.map, out, length),
     }
 }
 

@@ -1,13 +1,11 @@
 -- A point offered to a sound map, in the order of this page: the refusal of an arrival, by the case
--- that the code tests; an arrival is served; the outcome is that of the rules; the map after it is
--- sound.
-use mathlib.Core.Path.{_≡_, refl, sym, ap, subst}
-use mathlib.Core.Bool.{Bool, true, false, not, cond}
+-- that the code tests; an arrival is served; the outcome is that of the rules.
+use mathlib.Core.Path.{_≡_, refl}
+use mathlib.Core.Bool.{Bool, true, false, cond}
 use mathlib.Core.List.{[], _∷_}
 use types.Run.{OneOf, miss}
 use denote.Enum.Declared.{tagOf}
 use lib.Dec.{eqb}
-use Rattle.finite.specs.Tests.{is-true}
 use Rattle.model.specs.declared.Point.{Point}
 use Rattle.model.specs.declared.Map.{Map}
 use Rattle.model.specs.declared.Arrival.{Arrival}
@@ -15,15 +13,9 @@ use Rattle.model.proofs.Arrival.{the-type}
 use Rattle.model.specs.declared.Offered.{Offered}
 use Rattle.model.specs.declared.Outcome.{Outcome}
 use Rattle.model.specs.Answers.{outcome-by}
-use Rattle.model.specs.Sound.{sound, Shaped}
 use Rattle.model.specs.Outline.{visible-edges}
-use Rattle.model.specs.Arrival.{left-corner, right-corner, alone, pair, spliced}
+use Rattle.model.specs.Arrival.{left-corner, right-corner, first-kind, inside-kind, alone, pair, spliced}
 use Rattle.model.specs.Arrival.{arrived, later-point, arrive, admission-rules, refusing, admitted}
-use Rattle.model.specs.Offers.{offer}
-use Rattle.model.specs.Reading.{unsound}
-use Rattle.model.proofs.Sound.{sound-by}
-use Rattle.model.proofs.Answers.{rule-passes}
-use Rattle.hull.proofs.Arrivals.{offer-sound}
 use Rattle.replies.proofs.Serving.{answer-outcome}
 
 abbrev pub arrival-outcome : Arrival → Outcome
@@ -49,31 +41,23 @@ module _ (m : Map) (p : Point) where
   arrival-served : outcome-of (arrive m p) ≡ Outcome.Served
   unfolding arrive later-point
   arrival-served =
-      go (eqb (m .count) 0) (eqb (m .count) 1) (eqb (visible-edges m p) 0) (alone m p) (pair m p)
-      (spliced m p (left-corner m p) (right-corner m p))
+      go (eqb (m .count) 0) (eqb (m .count) 1) (eqb (visible-edges m p) 0) (alone first-kind m p) (pair m p)
+      (alone inside-kind m p) (spliced m p (left-corner m p) (right-corner m p))
     where
-      go : (first second inside : Bool) (u v w : Map) →
+      go : (first second inside : Bool) (u v t w : Map) →
           outcome-of
           (cond first (arrived Arrival.First u)
           (cond second (arrived Arrival.Second v)
-          (cond inside (arrived Arrival.Inside u)
+          (cond inside (arrived Arrival.Inside t)
           (arrived (Arrival.Outside (left-corner m p) (right-corner m p) (visible-edges m p)) w))))
           ≡ Outcome.Served
-      go true second inside u v w = refl
-      go false true inside u v w = refl
-      go false false true u v w = refl
-      go false false false u v w = refl
+      go true second inside u v t w = refl
+      go false true inside u v t w = refl
+      go false false true u v t w = refl
+      go false false false u v t w = refl
 
   pub admitted-outcome : outcome-of (admitted m p) ≡ outcome-by (admission-rules m p)
   unfolding admitted
   admitted-outcome =
       answer-outcome outcome-of (refusing m) (λ r. refl) (admission-rules m p)
       (arrive m p) arrival-served
-
-  pub admitted-sound : Shaped m → Shaped (admitted m p .map)
-  unfolding admitted offer
-  admitted-sound s =
-      subst (λ (o : Offered). Shaped (o .map))
-      (sym (rule-passes (refusing m) (unsound m) (admission-rules m p) (arrive m p)
-      (ap not (is-true (sound m) (sound-by m s))) refl))
-      (offer-sound m p s)

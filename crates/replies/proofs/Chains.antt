@@ -6,8 +6,9 @@ use mathlib.Core.Path.{_≡_, refl, sym, ap, _∙_}
 use mathlib.Core.Logic.{_≢_}
 use mathlib.Core.Bool.{Bool, true, false, not, cond, _||_}
 use mathlib.Core.List.{List, [], _∷_, _++_, append-nil}
-use Prim.Native.Nat.{ℕ, _<_}
+use Prim.Native.Nat.{ℕ}
 use native.Mathlib.Omega.{arith}
+use lib.Dec.{T}
 use lib.ListN.{length, drop}
 use Rattle.finite.specs.Tests.{is-true}
 use Rattle.model.specs.declared.Refusal.{Refusal}
@@ -16,17 +17,20 @@ use Rattle.model.specs.declared.Map.{Map}
 use Rattle.model.specs.declared.Offered.{Offered}
 use Rattle.model.specs.Refusals.{number, Rule, _when_, unless}
 use Rattle.model.specs.Maps.{empty-map}
-use Rattle.model.specs.Sound.{Shaped}
+use Rattle.model.specs.Sound.{sound}
 use Rattle.model.specs.Arrival.{arrive, refusing}
 use Rattle.model.specs.Offers.{offer-rules, offer-call, offer}
 use Rattle.model.specs.History.{Run, extended, run-from, run}
-use Rattle.model.specs.Saved.{version, map-in, saved, file-in-form, loaded}
-use Rattle.model.proofs.Sound.{sound-by}
+use Rattle.model.specs.Saved.{map-in, saved, file-in-form, loaded}
+use Rattle.model.proofs.Sound.{sound-is}
 use Rattle.model.proofs.Answers.{rule-passes, unless-made}
-use Rattle.maps.proofs.Empty.{empty-sound}
-use Rattle.hull.proofs.Arrivals.{offer-sound}
+use Rattle.hull.proofs.Sound.{sound-shaped, empty-is-sound}
+use Rattle.hull.proofs.Offers.{sound-kept}
 use Rattle.hull.proofs.History.{run-sound}
-use Rattle.saved.proofs.Files.{served, saved-in-form, map-back, load-of-save}
+use Rattle.layout.proofs.Form.{is-saved}
+use Rattle.saved.proofs.Files.{saved-in-form, map-back}
+use Rattle.soundness.specs.Rebuilding.{served}
+use Rattle.soundness.proofs.Saving.{load-of-save}
 use Rattle.model.specs.Lent.{and-short, is-short}
 use Rattle.replies.specs.Opened.{of-file}
 use Rattle.replies.specs.Replies.{Offering, meaning-of, arrival-told}
@@ -132,36 +136,34 @@ module _ (s : List ℕ) (p : Point) {before after before′ after′ : List ℕ}
 
 -- ---- the file of a sound map
 
-file-of-offer : (m : Map) (p : Point) → Shaped m → file-after (saved m) p ≡ saved (offer m p .map)
+file-of-offer : (m : Map) (p : Point) → T (sound m) → file-after (saved m) p ≡ saved (offer m p .map)
 unfolding file-after offer
-file-of-offer m p s =
-    let small : version < 256 = omega arith in
-    rw (map-back version small s)
+file-of-offer m p t =
+    let s = sound-shaped m t in
+    rw (map-back is-saved s (λ e. sound-is m t .is-built))
     (sym
     (rule-passes (λ r. saved m) (Refusal.BadFile when not (file-in-form (saved m)))
     (offer-rules m p) (saved (arrive m p .map))
-    (ap not (is-true (file-in-form (saved m)) (saved-in-form version small s)))
+    (ap not (is-true (file-in-form (saved m)) (saved-in-form is-saved s)))
     (unless-made (λ (o : Offered). saved (o .map)) (refusing m) (λ r. saved m) (λ r. refl)
     (offer-rules m p) (arrive m p))))
 
 -- ---- a chain of calls
 
-file-run-from : (r : Run) → Shaped (r .map) → (ps : List Point) →
+file-run-from : (r : Run) → T (sound (r .map)) → (ps : List Point) →
     files-after (saved (r .map)) ps ≡ saved (run-from r ps .map)
 unfolding files-after run-from extended
-file-run-from r s [] = refl
-file-run-from r s (p ∷ ps) =
-    ap (λ (t : List ℕ). files-after t ps) (file-of-offer (r .map) p s)
-    ∙ file-run-from (extended r p) (offer-sound (r .map) p s) ps
+file-run-from r t [] = refl
+file-run-from r t (p ∷ ps) =
+    ap (λ (u : List ℕ). files-after u ps) (file-of-offer (r .map) p t)
+    ∙ file-run-from (extended r p) (sound-kept (r .map) p t) ps
 
 -- from the empty map's file the chain holds the map of the run, of which `always-balanced` speaks,
 pub file-run : (ps : List Point) → files-after (saved empty-map) ps ≡ saved (run ps .map)
 unfolding run
-file-run ps = file-run-from (record { map = empty-map; history = [] }) empty-sound ps
+file-run ps = file-run-from (record { map = empty-map; history = [] }) empty-is-sound ps
 
 -- and that map is what is loaded from it
 pub chain-loads : (ps : List Point) →
     loaded (files-after (saved empty-map) ps) ≡ served (run ps .map)
-chain-loads ps =
-    ap loaded (file-run ps)
-    ∙ load-of-save (run ps .map) (sound-by (run ps .map) (run-sound ps))
+chain-loads ps = ap loaded (file-run ps) ∙ load-of-save is-saved (run ps .map) (run-sound ps)

@@ -15,11 +15,12 @@ use Rattle.model.specs.Refusals.{number, Rule, _when_, NoneApplies, none, nor}
 use Rattle.model.specs.Answers.{Call, answer-of, Answered, outcome-by}
 use Rattle.model.specs.Plane.{in-range}
 use Rattle.model.specs.Maps.{empty-map, is-present}
-use Rattle.model.specs.Sound.{sound, Shaped}
+use Rattle.model.specs.Shape.{Shaped}
+use Rattle.model.specs.Sound.{sound}
 use Rattle.model.specs.Reading.{unsound, dart-rules}
 use Rattle.model.specs.Placing.{place-call}
 use Rattle.model.specs.Saved.{load-call, map-in}
-use Rattle.model.proofs.Sound.{sound-holds}
+use Rattle.hull.proofs.Sound.{sound-shaped}
 use Rattle.model.proofs.Answers.{rule-applies, rule-passes, no-rule, unless-made, served-none, unless-append}
 use Rattle.model.proofs.Answers.{outcome-refuses, outcome-serves}
 use Rattle.finite.specs.Tests.{not-not}
@@ -98,7 +99,7 @@ module _ {s : List ℕ} {more : List Rule} {l : Loaded}
   pub opened-sound : Shaped (l .map)
   opened-sound =
       subst Shaped (sym (o .map e))
-      (sound-holds (map-in s) (parts (served-none _ (sym e ∙ o .outcome)) .0))
+      (sound-shaped (map-in s) (parts (served-none _ (sym e ∙ o .outcome)) .0))
 
   pub opened-further : NoneApplies more
   opened-further = parts (served-none _ (sym e ∙ o .outcome)) .1

@@ -47,6 +47,10 @@ module _ (short : Bool) where
     unfolding number
     reach-check-order = refl
 
+    pub reach-load-order : with-10 (of-file s (λ m. unsound m ∷ [])) ≡ 7 ∷ 1 ∷ 10 ∷ []
+    unfolding number
+    reach-load-order = refl
+
     pub reach-offer-order :
         with-10 (of-file s (λ m. offer-call m p .rules)) ≡ 7 ∷ 1 ∷ 2 ∷ 3 ∷ 4 ∷ 10 ∷ []
     unfolding number

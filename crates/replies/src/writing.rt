@@ -5,6 +5,7 @@ use crate::values::arrival_values;
 use corners::listing::corners_of;
 use corners::listing::write_corners;
 use hull::admitted;
+use layout::VERSION;
 use layout::saved_length;
 use model::Arrival;
 use model::Map;
@@ -21,14 +22,14 @@ ghost use mathlib.Core.List.{[], _∷_, _++_};
 ghost use lib.ListN.{length};
 ghost use Rattle.model.specs.Refusals.{number};
 ghost use Rattle.model.specs.Answers.{arrival-answer};
-ghost use Rattle.model.specs.Sound.{Shaped};
+ghost use Rattle.model.specs.Shape.{Shaped};
 ghost use Rattle.model.specs.Outline.{corners};
 ghost use Rattle.model.specs.Arrival.{admission-rules, arrive};
 ghost use Rattle.model.specs.Saved.{saved};
 ghost use Rattle.model.specs.Report.{report-rules};
 ghost use Rattle.model.specs.Lent.{and-short};
 ghost use Rattle.replies.specs.Served.{Served, ServedBoth, number-by, only};
-ghost use Rattle.replies.specs.Replies.{arrival-told};
+ghost use Rattle.replies.specs.Replies.{arrival-told, length-told};
 
 // The number of a call that is lent a list shorter than its result.
 pub const SHORT_LIST: u32 = 10;
@@ -116,17 +117,35 @@ fn write_offered(offered: Offered, out: &mut [u8], arrival: &mut [u64]) -> u32
         (now (arrival .entry)) (now (arrival .exit)) r ⌝ }
 {
     let map = offered.map;
-    let length = saved_length(map.count);
+    let length = saved_length(VERSION, map.count);
     if out.len() < length {
         return SHORT_LIST;
     }
     if arrival.len() < 4 {
         return SHORT_LIST;
     }
-    write_map(map, out);
+    write_map(map, VERSION, out);
     let answer = offered.arrival;
     let values = arrival_values(answer);
     write_values(&values, arrival)
+}
+
+// Writes the bytes of a sound map, and how many they are: number 10.
+pub fn write_saved(map: Map, out: &mut [u8], length: &mut [usize]) -> u32
+    requires { ⌜ Shaped map ⌝ }
+    ensures { λ r. ⌜ ServedBoth [] (saved map) (length-told (saved map))
+        (now (out .entry)) (now (out .exit)) (now (length .entry)) (now (length .exit)) r ⌝ }
+{
+    let bytes = saved_length(VERSION, map.count);
+    if out.len() < bytes {
+        return SHORT_LIST;
+    }
+    if length.len() < 1 {
+        return SHORT_LIST;
+    }
+    write_map(map, VERSION, out);
+    length[0] = bytes;
+    0
 }
 
 // Lists the corners of a sound map, and writes how many they are: number 10.

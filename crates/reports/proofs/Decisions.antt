@@ -8,6 +8,7 @@ use Prim.Native.Nat.{ℕ, suc, _+_, _≤_, _<_}
 use native.Mathlib.Numerals.{add-one}
 use native.Mathlib.Omega.{arith}
 use borrow.Author.Tests.{leb-false}
+use lib.Dec.{T}
 use lib.ListN.{length, set, drop, length-set}
 use lib.Seq.{getD-set-same, getD-set-other}
 use Rattle.finite.specs.Bounded.{table, table-same, flatten-more}
@@ -17,18 +18,17 @@ use Rattle.model.specs.declared.Point.{Point}
 use Rattle.model.specs.declared.Map.{Map}
 use Rattle.model.specs.declared.Offered.{Offered}
 use Rattle.model.specs.Maps.{empty-map}
-use Rattle.model.specs.Sound.{Shaped}
+use Rattle.model.specs.Sound.{sound}
 use Rattle.model.specs.Arrival.{arrive, refusing}
 use Rattle.model.specs.Text.{lines}
 use Rattle.model.specs.Report.{text-limit, arrivals, closing, offer-line}
-use Rattle.maps.proofs.Empty.{empty-sound}
 use Rattle.survey.specs.declared.lines.Read.{Read}
 use Rattle.survey.specs.Places.{at-end, line-at, next-line, read-at}
 use Rattle.printing.specs.Printing.{arrival-line}
 use Rattle.survey.proofs.Texts.{next-further}
 use Rattle.printing.proofs.Reports.{report-ended, report-goes-on}
 use Rattle.hull.specs.Requires.{Accepted}
-use Rattle.hull.proofs.Building.{arrive-sound}
+use Rattle.hull.proofs.Sound.{sound-shaped, sound-grows, empty-is-sound}
 use Rattle.reports.specs.declared.deciding.Verdict.{Verdict}
 use Rattle.reports.specs.declared.deciding.Stop.{Stop}
 use Rattle.lines.specs.Packing.{Packable, packed, unpacked}
@@ -59,7 +59,7 @@ pub reports-begin : (text answers : List ℕ) → length text ≤ text-limit →
 unfolding answer-lines flatten table
 reports-begin text answers short whole =
     record {
-      is-sound = empty-sound;
+      is-sound = empty-is-sound;
       together = refl;
       few = omega arith;
       inside = omega arith;
@@ -90,7 +90,7 @@ module _ {text answers : List ℕ} {m : Map} {n at : ℕ} (r : Reports text m an
 
     -- with the answer of this line, and the map that it leaves
     reports-more : (o : Offered) → offer-line m (line-at text at) ≡ o → Packable (o .arrival) →
-        Shaped (o .map) →
+        T (sound (o .map)) →
         Reports text (o .map) (set answers n (packed (o .arrival))) (n + 1) (next-line text at)
     reports-more o e p s =
         record {
@@ -117,7 +117,7 @@ module _ {text answers : List ℕ} {m : Map} {n at : ℕ} (r : Reports text m an
         Verdict.Refused x ≡ verdict-by (m .xs) (m .ys) (m .count) (line-at text at) →
         Reports text m (set answers n (packed (Arrival.Refused x))) (n + 1) (next-line text at)
     reports-refused x e =
-        reports-more (refusing m x) (line-refused (r .is-sound) (line-at text at) x e)
+        reports-more (refusing m x) (line-refused m (r .is-sound) (line-at text at) x e)
         (refusal-packable (m .xs) (m .ys) (m .count) text at {read = read-at text at} refl e refl)
         (r .is-sound)
 
@@ -135,8 +135,8 @@ module _ {text answers : List ℕ} {m : Map} {n at : ℕ} (r : Reports text m an
         Reports text (arrive m p .map) (set answers n (packed (arrive m p .arrival))) (n + 1)
         (next-line text at)
     reports-accepted p e =
-        let a = line-accepted (r .is-sound) (line-at text at) p e in
-        reports-more (arrive m p) (a .0) (arrive-packable (a .1)) (arrive-sound (a .1))
+        let a = line-accepted m (r .is-sound) (line-at text at) p e in
+        reports-more (arrive m p) (a .0) (arrive-packable (a .1)) (sound-grows (r .is-sound) (a .1))
 
   -- ---- the end
 
@@ -191,7 +191,7 @@ module _ {text answers : List ℕ} {m : Map} {s : Stop} {from : ℕ}
 
   pub stop-accepted : Accepted m (s .p)
   stop-accepted =
-      line-accepted (stopped .reports .is-sound) (line-at text (s .at)) (s .p)
+      line-accepted m (stopped .reports .is-sound) (line-at text (s .at)) (s .p)
       (stopped .accepted more) .1
 
   -- as the code has it
@@ -221,7 +221,7 @@ pub surveys : {text answers : List ℕ} {m : Map} {s : Stop} {from : ℕ} →
 surveys stopped e =
     let r = stopped .reports in
     record {
-      is-sound = r .is-sound;
+      is-sound = sound-shaped _ (r .is-sound);
       whole = r .whole;
       lines-fit = omega (arith, r .few, r .inside, r .short);
       together = reports-end r (stopped .at-the-end e);

@@ -27,20 +27,20 @@ use Rattle.model.specs.Spelling.{bytes, line-feed, spelt}
 use Rattle.model.specs.Refusals.{number}
 use Rattle.model.specs.Answers.{refused, arrival-answer}
 use Rattle.model.specs.Maps.{point-limit, empty-map}
-use Rattle.model.specs.Sound.{Shaped}
+use Rattle.model.specs.Shape.{Shaped}
+use Rattle.model.specs.Sound.{sound}
 use Rattle.model.specs.Outline.{corners}
 use Rattle.model.specs.Reading.{counts}
 use Rattle.model.specs.Text.{line-read, in-first-line, lines}
 use Rattle.model.specs.Report.{text-limit, spaced, printed, offer-line, closing, arrivals, report}
 use Rattle.model.proofs.Answers.{number-most}
-use Rattle.maps.proofs.Empty.{empty-sound}
 use Rattle.survey.proofs.Texts.{blank-refused}
 use Rattle.printing.specs.Printing.{answer-line, arrival-line, values-spaced}
 use Rattle.printing.proofs.Decimals.{length-one, length-between}
 use Rattle.printing.proofs.Values.{spaced-length}
 use Rattle.printing.proofs.Printed.{line-length, first-line, second-line, inside-line, outside-line, refused-line, refused-arrival, refused-most, arrival-line-length}
 use Rattle.printing.proofs.Reports.{closing-lines}
-use Rattle.hull.proofs.Building.{arrive-sound}
+use Rattle.hull.proofs.Sound.{sound-shaped, sound-grows, empty-is-sound}
 use Rattle.corners.proofs.Corners.{corners-circuit, one-listed, none-listed}
 use Rattle.reports.specs.declared.deciding.Verdict.{Verdict}
 use Rattle.lines.specs.Packing as packing
@@ -131,22 +131,22 @@ blank-most =
     )
 
 -- what a line comes to on a sound map
-offered-small : {m : Map} → Shaped m → (line : Line) →
-    (length (printed (arrival-answer (offer-line m line .arrival))) ≤ 20) × Shaped (offer-line m line .map)
-offered-small {m} s line = go (verdict-by (m .xs) (m .ys) (m .count) line) refl
+offered-small : (m : Map) → T (sound m) → (line : Line) →
+    (length (printed (arrival-answer (offer-line m line .arrival))) ≤ 20) × T (sound (offer-line m line .map))
+offered-small m s line = go (verdict-by (m .xs) (m .ys) (m .count) line) refl
   where
     go : (v : Verdict) → v ≡ verdict-by (m .xs) (m .ys) (m .count) line →
-        (length (printed (arrival-answer (offer-line m line .arrival))) ≤ 20) × Shaped (offer-line m line .map)
+        (length (printed (arrival-answer (offer-line m line .arrival))) ≤ 20) × T (sound (offer-line m line .map))
     go (Verdict.Taken q) e =
-        let a = line-accepted s line q e in
-        rw (a .0) (answer-most (arrive-packable (a .1)), arrive-sound (a .1))
-    go (Verdict.Refused r) e = rw (line-refused s line r e) (refused-answer-most r, s)
+        let a = line-accepted m s line q e in
+        rw (a .0) (answer-most (arrive-packable (a .1)), sound-grows s (a .1))
+    go (Verdict.Refused r) e = rw (line-refused m s line r e) (refused-answer-most r, s)
 
 -- its line takes 16 bytes at most for each byte of it and its feed
-line-most : {m : Map} → Shaped m → (n : ℕ) → n < text-limit → (l : List ℕ) →
+line-most : (m : Map) → T (sound m) → (n : ℕ) → n < text-limit → (l : List ℕ) →
     length (arrival-line n (offer-line m (line-read l) .arrival)) ≤ 16 * (length l + 1)
 unfolding offer-line
-line-most {m} s n h [] =
+line-most m s n h [] =
     rw blank-refused
     (omega (
       arith,
@@ -154,13 +154,13 @@ line-most {m} s n h [] =
       spelt-most 4 n (omega arith) (omega arith),
       blank-most,
     ))
-line-most {m} s n h (b ∷ l) =
+line-most m s n h (b ∷ l) =
     let a = offer-line m (line-read (b ∷ l)) .arrival in
     omega (
       arith,
       arrival-line-length n a,
       spelt-most 4 n (omega arith) (omega arith),
-      offered-small s (line-read (b ∷ l)) .0,
+      offered-small m s (line-read (b ∷ l)) .0,
     )
 
 -- ---- the corners and the counts
@@ -252,16 +252,16 @@ arrivals-more m n l ls =
     let o = offer-line m (line-read l) in
     length-append (arrival-line n (o .arrival)) (arrivals (o .map) (suc n) ls)
 
-arrivals-most : {m : Map} → Shaped m → (n : ℕ) (ls : List (List ℕ)) →
+arrivals-most : (m : Map) → T (sound m) → (n : ℕ) (ls : List (List ℕ)) →
     n + length ls ≤ text-limit → length (arrivals m n ls) ≤ 16 * spent ls + 2_168
 unfolding arrivals spent
-arrivals-most s n [] few = omega (arith, closing-most s)
-arrivals-most {m} s n (l ∷ ls) few =
+arrivals-most m s n [] few = omega (arith, closing-most (sound-shaped m s))
+arrivals-most m s n (l ∷ ls) few =
     omega (
       arith,
       arrivals-more m n l ls,
-      line-most s n (omega arith) l,
-      arrivals-most (offered-small s (line-read l) .1) (suc n) ls (omega arith),
+      line-most m s n (omega arith) l,
+      arrivals-most (offer-line m (line-read l) .map) (offered-small m s (line-read l) .1) (suc n) ls (omega arith),
     )
 
 -- ---- the report
@@ -279,7 +279,7 @@ report-most text = go (ltb text-limit (length text)) refl
         let f = lines-few text in
         omega (
           arith,
-          arrivals-most empty-sound 0 (lines text)
+          arrivals-most empty-map empty-is-sound 0 (lines text)
               (omega (arith, f .number-most, ltb-false text-limit (length text) e)),
           f .spent-most,
         )

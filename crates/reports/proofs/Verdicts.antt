@@ -4,6 +4,7 @@
 use mathlib.Core.Path.{_≡_, sym, ap, subst, _∙_}
 use mathlib.Core.List.{List}
 use Prim.Native.Nat.{ℕ, _≤_}
+use lib.Dec.{T}
 use lib.IntN.{ℤ}
 use native.Mathlib.Omega.{arith}
 use Rattle.model.specs.declared.Refusal.{Refusal}
@@ -15,7 +16,7 @@ use Rattle.model.specs.declared.Line.{Line}
 use Rattle.model.specs.declared.Offered.{Offered}
 use Rattle.model.specs.Refusals.{Refuses, at-once, later}
 use Rattle.model.specs.Maps.{point-limit}
-use Rattle.model.specs.Sound.{Shaped}
+use Rattle.model.specs.Sound.{sound}
 use Rattle.model.specs.Arrival.{arrive, refusing}
 use Rattle.model.specs.Outline.{visible-edges}
 use Rattle.model.specs.Offers.{offer}
@@ -25,6 +26,7 @@ use Rattle.survey.specs.declared.lines.Read.{Read}
 use Rattle.survey.specs.Places.{line-at, read-at}
 use Rattle.survey.proofs.Texts.{line-at-refused}
 use Rattle.admission.specs.Admission.{rules-by, admission-by}
+use Rattle.hull.proofs.Sound.{sound-shaped}
 use Rattle.hull.proofs.Admissions.{admission-refused, admission-served, admission-accepted, visible-most, corners-below}
 use Rattle.hull.specs.Requires.{Accepted}
 use Rattle.hull.proofs.Outcomes.{Arrives, first, second, inside, outside, arrive-arrives}
@@ -45,12 +47,12 @@ unfolding verdict-on
 outcome-served p q Outcome.Served e = (cc, cc)
 outcome-served p q (Outcome.Refused r) e = absurd (let z : _≡_ {A = ℕ} 0 1 = cc in omega arith)
 
-module _ {m : Map} (s : Shaped m) where
+module _ (m : Map) (s : T (sound m)) where
   pub line-refused : (line : Line) (r : Refusal) →
       Verdict.Refused r ≡ verdict-by (m .xs) (m .ys) (m .count) line →
       offer-line m line ≡ refusing m r
   unfolding verdict-by offer-line
-  line-refused (Line.Named p) r e = admission-refused s p r (outcome-refused p r _ e)
+  line-refused (Line.Named p) r e = admission-refused m s p r (outcome-refused p r _ e)
   line-refused (Line.Refused q) r e = cc
 
   pub line-accepted : (line : Line) (q : Point) →
@@ -60,7 +62,7 @@ module _ {m : Map} (s : Shaped m) where
   line-accepted (Line.Named p) q e =
       let o = outcome-served p q (admission-by (m .xs) (m .ys) (m .count) p) e in
       let both : (offer m p ≡ arrive m p) × Accepted m p =
-      (admission-served s p (o .1), admission-accepted s p (o .1)) in
+      (admission-served m s p (o .1), admission-accepted (sound-shaped m s) p (o .1)) in
       (both .0 ∙ ap (arrive m) (o .0), subst (Accepted m) (o .0) (both .1))
   line-accepted (Line.Refused r) q e = absurd (let z : _≡_ {A = ℕ} 0 1 = cc in omega arith)
 

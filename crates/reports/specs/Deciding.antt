@@ -5,11 +5,13 @@ use mathlib.Core.Path.{_≡_}
 use mathlib.Core.Bool.{Bool, true, false}
 use mathlib.Core.List.{List, _++_}
 use Prim.Native.Nat.{ℕ, _≤_}
+use lib.Dec.{T}
 use lib.IntN.{ℤ}
 use lib.ListN.{length, drop}
 use Rattle.model.specs.declared.Map.{Map}
 use Rattle.model.specs.Maps.{empty-map, with-coordinates}
-use Rattle.model.specs.Sound.{Shaped}
+use Rattle.model.specs.Shape.{Shaped}
+use Rattle.model.specs.Sound.{sound}
 use Rattle.model.specs.Text.{lines}
 use Rattle.model.specs.Report.{text-limit, arrivals, closing, report}
 use Rattle.survey.specs.Places.{at-end, line-at, next-line}
@@ -24,7 +26,7 @@ use Rattle.reports.specs.Summaries.{report-of, Fits}
 
 -- the answers of the lines before number n, and the lines from a place on, offered to the map
 pub record Reports (text : List ℕ) (m : Map) (answers : List ℕ) (n at : ℕ) : Type 0 where
-  pub is-sound : Shaped m
+  pub is-sound : T (sound m)
   pub together :
       answer-lines answers n ++ arrivals m n (lines (drop at text))
       ≡ arrivals empty-map 0 (lines text)

@@ -128,6 +128,9 @@ pub(crate) fn decide_lines(text: &[u8], answers: &mut [u32; TEXT_LIMIT]) -> Surv
     let mut ys = empty.ys;
     let mut helpers = empty.helpers;
     let mut edge = empty.edge;
+    let mut arrivals = empty.arrivals;
+    let mut lefts = empty.lefts;
+    let mut rights = empty.rights;
     let mut count = empty.count;
     let mut reference = empty.reference;
     let mut hashes = no_hashes();
@@ -141,6 +144,9 @@ pub(crate) fn decide_lines(text: &[u8], answers: &mut [u32; TEXT_LIMIT]) -> Surv
             &mut ys,
             &mut helpers,
             &mut edge,
+            &mut arrivals,
+            &mut lefts,
+            &mut rights,
             count,
             reference,
             p,
@@ -158,6 +164,9 @@ pub(crate) fn decide_lines(text: &[u8], answers: &mut [u32; TEXT_LIMIT]) -> Surv
             ys,
             helpers,
             edge,
+            arrivals,
+            lefts,
+            rights,
             count,
             reference,
         },

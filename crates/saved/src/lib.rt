@@ -1,56 +1,94 @@
-// The saved form of a map: writing it, and reading the map of a file that is in form.
+// The saved form of a map: writing it in a version, and reading the coordinates of a file.
 
-use layout::COUNT_PLACE;
 use layout::HEADER_LENGTH;
-use layout::REFERENCE_PLACE;
 use layout::helpers_place;
 use layout::links_place;
-use layout::numbers::number_at;
+use layout::notes_place;
 use model::Map;
 ghost use mathlib.Core.Path.{_≡_};
-ghost use Prim.Native.Nat.{_≤_};
+ghost use Prim.Native.Nat.{ℕ, _≤_};
 ghost use lib.Dec.{T};
 ghost use lib.ListN.{length};
 ghost use Rattle.finite.specs.Overwriting.{over};
-ghost use Rattle.model.specs.Sound.{Shaped};
-ghost use Rattle.model.specs.Saved.{file-in-form, map-in, saved, saved-length};
+ghost use Rattle.model.specs.Plane.{in-range};
+ghost use Rattle.model.specs.Maps.{map-lent, point-at, point-limit};
+ghost use Rattle.model.specs.Shape.{Shaped};
+ghost use Rattle.model.specs.Saved.{notes-place, saved-in, saved-length};
+ghost use Rattle.saved.specs.Fields.{unnoted-by};
 
-mod reading;
+pub mod reading;
 mod writing;
 
-// Writes a map over the front of the lent list, which keeps its tail.
-pub fn write_map(map: Map, lent: &mut [u8])
+// Writes a map in a version over the front of the lent list, which keeps its tail.
+pub fn write_map(map: Map, version: usize, lent: &mut [u8])
     requires { ⌜ Shaped map ⌝ }
-    requires { ⌜ saved-length (map .count) ≤ length (now lent) ⌝ }
-    ensures { λ _. ⌜ now (lent .exit) ≡ over (saved map) (now (lent .entry)) ⌝ }
+    requires { ⌜ saved-length version (map .count) ≤ length (now lent) ⌝ }
+    ensures { λ _. ⌜ now (lent .exit) ≡ over (saved-in version map) (now (lent .entry)) ⌝ }
 {
     let count = map.count;
     let reference = map.reference;
-    writing::write_header(count, reference, lent);
-    writing::write_coordinates(&map.xs, &map.ys, count, &mut lent[HEADER_LENGTH..]);
-    let helpers_start = helpers_place(count);
-    writing::write_helpers(&map.helpers, count, &mut lent[helpers_start..]);
-    let links_start = links_place(count);
-    writing::write_links(&map.edge, count, &mut lent[links_start..]);
-}
-
-// The map whose fields stand in a file that is in form.
-pub fn map_in(file: &[u8]) -> Map
-    requires { ⌜ T (file-in-form (now file)) ⌝ }
-    ensures { λ r. ⌜ r ≡ map-in (now (file .entry)) ⌝ }
-{
-    let count = number_at(file, COUNT_PLACE, 2);
-    let xs = reading::coordinates_in(file, count, 0);
-    let ys = reading::coordinates_in(file, count, 1);
-    let helpers = reading::helpers_in(file, count);
-    let edge = reading::links_in(file, count);
-    let reference = number_at(file, REFERENCE_PLACE, 2);
-    Map {
-        xs,
-        ys,
-        helpers,
-        edge,
+    write_arrays(
+        &map.xs,
+        &map.ys,
+        &map.helpers,
+        &map.edge,
+        &map.arrivals,
+        &map.lefts,
+        &map.rights,
         count,
         reference,
-    }
+        version,
+        lent,
+    );
+}
+
+// The same, where the arrays of the map are lent: no map is copied.
+pub fn write_arrays<'a>(
+    xs: &'a [i64],
+    ys: &'a [i64],
+    helpers: &'a [bool],
+    edge: &'a [usize],
+    arrivals: &'a [u8],
+    lefts: &'a [u16],
+    rights: &'a [u16],
+    count: usize,
+    reference: usize,
+    version: usize,
+    lent: &mut [u8],
+)
+    requires { ⌜ Shaped (map-lent xs ys helpers edge arrivals lefts rights count reference) ⌝ }
+    requires { ⌜ saved-length version count ≤ length (now lent) ⌝ }
+    ensures { λ _. ⌜ now (lent .exit) ≡
+        over (saved-in version (map-lent (xs .entry) (ys .entry) (helpers .entry) (edge .entry) (arrivals .entry)
+        (lefts .entry) (rights .entry) count reference)) (now (lent .entry)) ⌝ }
+{
+    write_unnoted(xs, ys, helpers, edge, count, reference, version, lent);
+    let noted = writing::noted_in(version, count);
+    let start = notes_place(count);
+    writing::write_notes(arrivals, lefts, rights, noted, &mut lent[start..]);
+}
+
+// Writes all but the notes, from the arrays of a map.
+fn write_unnoted<'a>(
+    xs: &'a [i64],
+    ys: &'a [i64],
+    helpers: &'a [bool],
+    edge: &'a [usize],
+    count: usize,
+    reference: usize,
+    version: usize,
+    lent: &mut [u8],
+)
+    requires { ⌜ ((k : ℕ) → T (in-range (point-at (now xs) (now ys) k))) ⌝ }
+    requires { ⌜ (count ≤ point-limit) × (notes-place count ≤ length (now lent)) ⌝ }
+    ensures { λ _. ⌜ now (lent .exit) ≡
+        over (unnoted-by version (now (xs .entry)) (now (ys .entry)) (now (helpers .entry)) (now (edge .entry)) count reference)
+        (now (lent .entry)) ⌝ }
+{
+    writing::write_header(version, count, reference, lent);
+    writing::write_coordinates(xs, ys, count, &mut lent[HEADER_LENGTH..]);
+    let helpers_start = helpers_place(count);
+    writing::write_helpers(helpers, count, &mut lent[helpers_start..]);
+    let links_start = links_place(count);
+    writing::write_links(edge, count, &mut lent[links_start..]);
 }

@@ -1,8 +1,8 @@
 // Writing the parts of a file, each over the front of a lent list.
 
 use layout::COUNT_PLACE;
+use layout::OLD_VERSION;
 use layout::REFERENCE_PLACE;
-use layout::VERSION;
 use layout::VERSION_PLACE;
 use layout::numbers::complement;
 use layout::numbers::put_number;
@@ -11,26 +11,29 @@ use maps::reading::coordinate;
 use maps::reading::has_helper;
 use orbits::link_of;
 ghost use mathlib.Core.Path.{_≡_};
-ghost use Prim.Native.Nat.{ℕ, _*_, _≤_};
+ghost use Prim.Native.Nat.{ℕ, _+_, _*_, _≤_};
 ghost use lib.Dec.{T};
 ghost use lib.ListN.{length};
 ghost use Rattle.finite.specs.Overwriting.{over};
 ghost use Rattle.model.specs.Plane.{in-range};
 ghost use Rattle.model.specs.Maps.{point-limit};
-ghost use Rattle.model.specs.Saved.{block, header, header-length, version};
+ghost use Rattle.model.specs.Saved.{block, header, header-length};
 ghost use Rattle.orbits.specs.Links.{link-of};
 ghost use Rattle.model.specs.Maps.{point-at};
-ghost use Rattle.saved.specs.Fields.{coordinate-field, helper-field};
+ghost use Rattle.saved.specs.Fields.{NotesFor, coordinate-field, helper-field, note-field, noted-in};
 
-// The header of a map of so many points with a reference.
-pub fn write_header(count: usize, reference: usize, lent: &mut [u8])
+// What a number of 2 bytes stands below.
+const HALF_WORD: usize = 65536;
+
+// The header in a version of a map of so many points with a reference.
+pub fn write_header(version: usize, count: usize, reference: usize, lent: &mut [u8])
     requires { ⌜ (count ≤ point-limit) × (header-length ≤ length (now lent)) ⌝ }
     ensures { λ _. ⌜ now (lent .exit) ≡
         over (header version count reference) (now (lent .entry)) ⌝ }
 {
-    let following = saved_length(count) - VERSION_PLACE;
+    let following = saved_length(version, count) - VERSION_PLACE;
     put_number(lent, 4, following);
-    put_number(&mut lent[VERSION_PLACE..], 1, VERSION);
+    put_number(&mut lent[VERSION_PLACE..], 1, version);
     put_number(&mut lent[COUNT_PLACE..], 2, count);
     put_number(&mut lent[REFERENCE_PLACE..], 2, reference);
 }
@@ -92,4 +95,44 @@ pub fn write_links(edge: &[usize], count: usize, lent: &mut [u8])
         let number = link_of(edge, d);
         put_number(&mut lent[at..], 2, number);
     }
+}
+
+// Of how many of so many points a version has notes.
+pub fn noted_in(version: usize, count: usize) -> usize
+    ensures { λ r. ⌜ r ≡ noted-in version count ⌝ }
+{
+    if version == OLD_VERSION { 0 } else { count }
+}
+
+// What is noted of the first points.
+pub fn write_notes<'a>(
+    arrivals: &'a [u8],
+    lefts: &'a [u16],
+    rights: &'a [u16],
+    count: usize,
+    lent: &mut [u8],
+)
+    requires { ⌜ (count ≤ point-limit) × (5 * count ≤ length (now lent)) ⌝ }
+    requires { ⌜ NotesFor (now arrivals) (now lefts) (now rights) count ⌝ }
+    ensures { λ _. ⌜ now (lent .exit) ≡
+        over (block count 5 (note-field (now (arrivals .entry)) (now (lefts .entry)) (now (rights .entry))))
+        (now (lent .entry)) ⌝ }
+{
+    for k in 0..count {
+        let at = 5 * k;
+        let number = note_field(arrivals, lefts, rights, k);
+        put_number(&mut lent[at..], 5, number);
+    }
+}
+
+// What stands for what is noted of point k: its arrival, and two bytes for each freed dart.
+fn note_field<'a>(arrivals: &'a [u8], lefts: &'a [u16], rights: &'a [u16], k: usize) -> usize
+    requires { ⌜ NotesFor (now arrivals) (now lefts) (now rights) (k + 1) ⌝ }
+    ensures { λ r. ⌜ r ≡
+        note-field (now (arrivals .entry)) (now (lefts .entry)) (now (rights .entry)) k ⌝ }
+{
+    let arrival = arrivals[k] as usize;
+    let left = lefts[k] as usize;
+    let right = rights[k] as usize;
+    (arrival * HALF_WORD + left) * HALF_WORD + right
 }

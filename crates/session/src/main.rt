@@ -120,27 +120,32 @@ fn queries(map: Map) {
     calls::place(map, at(0, -1000000001));
 }
 
-// Lists that are lent, long enough and too short, and files: of the version 2, and with a reference that
-// the empty map does not have.
+// Lists that are lent, long enough and too short, for corners and for a file.
 fn lists(map: Map) {
     let mut corners = [0usize; 4];
     calls::list_corners(map, &mut corners);
     let mut short_list = [0usize; 3];
     calls::list_corners(map, &mut short_list);
-    let mut file = [0u8; 87];
+    let mut file = [0u8; 117];
     calls::save(map, &mut file);
     calls::load(&file);
-    let mut short_file = [0u8; 86];
+    let mut short_file = [0u8; 116];
     calls::save(map, &mut short_file);
 }
 
-// The file of the empty map; the same with another version, and with a reference.
+// The file of the empty map; the same in version 1, in no version, and with a reference. The file of one point in
+// version 1 and in version 2, with an arrival above 3, and with a freed dart above 1,024.
 fn files() {
     let mut file = [0u8; 9];
     calls::save(engine::empty_map(), &mut file);
     calls::load(&file);
-    calls::load(b"\0\0\0\x05\x02\0\0\x04\0");
-    calls::load(b"\0\0\0\x05\x01\0\0\0\0");
+    calls::load(b"\0\0\0\x05\x01\0\0\x04\0");
+    calls::load(b"\0\0\0\x05\x03\0\0\x04\0");
+    calls::load(b"\0\0\0\x05\x02\0\0\0\0");
+    calls::load(b"\0\0\0\x12\x01\0\x01\x04\0\0\0\0\0\0\0\0\0\0\0\0\0\x01");
+    calls::load(b"\0\0\0\x17\x02\0\x01\x04\0\0\0\0\0\0\0\0\0\0\0\0\0\x01\0\x04\0\x04\0");
+    calls::load(b"\0\0\0\x17\x02\0\x01\x04\0\0\0\0\0\0\0\0\0\0\0\0\0\x01\x04\x04\0\x04\0");
+    calls::load(b"\0\0\0\x17\x02\0\x01\x04\0\0\0\0\0\0\0\0\0\0\0\0\0\x01\0\x04\x01\x04\0");
 }
 
 // Lines, and the report on the worked survey.
@@ -230,7 +235,7 @@ fn unsound(map: Map) {
     calls::place(map, at(2, 5));
     let mut corners = [0usize; 4];
     calls::list_corners(map, &mut corners);
-    let mut file = [0u8; 87];
+    let mut file = [0u8; 117];
     calls::save(map, &mut file);
     calls::write_outline(map, &mut file);
     calls::area(map, 0);

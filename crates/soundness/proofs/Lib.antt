@@ -1,3 +1,7 @@
--- What the functions of this crate cite. Nothing is assumed.
---     Checked    the three groups of tests are the definition
-pub mod Checked
+-- Laws of sound maps and of their files. Nothing is assumed.
+--     Alike         a loop that compares two lists
+--     Rebuilding    a loop that offers points anew
+--     Saving        saving and loading, version by version: `files-of-version`
+pub mod Alike
+pub mod Rebuilding
+pub mod Saving

@@ -6,6 +6,7 @@ use crate::points;
 use crate::stack::on_stack;
 use crate::tally::{Difference, Outcome, Tally, hex};
 use reach::raw;
+use reference::saved::VERSIONS;
 use reference::{Answer, Arrival, Ending, Kind, Map, POINT_LIMIT, Placed, Point, refusal};
 use std::fmt::Debug;
 
@@ -280,9 +281,8 @@ impl Comparison {
     pub fn whole(&mut self, file: &[u8], map: &Answer<Map>) -> Outcome {
         let input = || format!("map {}", hex(file));
         let refused = map.as_ref().map_err(|number| *number);
-        let number = refused.err().unwrap_or(0);
-        let got = self.called("reach_check", || raw::check(file));
-        self.expect("reach_check", &input, (number, ()), (got, ()))?;
+        self.check(file, map)?;
+        self.load(file, map)?;
         let counts = refused.map(counts_values);
         self.one_list("reach_counts", &input, &counts, |out| raw::counts(file, out))?;
         let corners = refused.map(|m| with_length(m.corners().into_iter().map(word).collect()));
@@ -292,6 +292,27 @@ impl Comparison {
         let call = |out: &mut [u8], length: &mut [u64]| raw::write_outline(file, out, length);
         self.two_lists("reach_write_outline", &input, &outline, call)?;
         self.area(file, map)
+    }
+
+    /// Whether a file loads.
+    pub fn check(&mut self, file: &[u8], map: &Answer<Map>) -> Outcome {
+        let input = || format!("map {}", hex(file));
+        let number = map.as_ref().err().copied().unwrap_or(0);
+        let got = self.called("reach_check", || raw::check(file));
+        self.expect("reach_check", &input, (number, ()), (got, ()))
+    }
+
+    /// The version 2 file of a file's map, whichever version that has.
+    pub fn load(&mut self, file: &[u8], map: &Answer<Map>) -> Outcome {
+        let entry = match file.get(4) {
+            Some(1) => "reach_load, version 1",
+            Some(2) => "reach_load, version 2",
+            _ => "reach_load, no version",
+        };
+        let input = || format!("map {}", hex(file));
+        let expected = map.as_ref().map_err(|number| *number).map(|m| with_length(m.save()));
+        let call = |out: &mut [u8], length: &mut [u64]| raw::load(file, out, length);
+        self.two_lists(entry, &input, &expected, call)
     }
 
     /// Twice the outline's area, from every place of the listing, or from some where a drawn map
@@ -356,11 +377,12 @@ impl Comparison {
         self.expect("lent files stay", &input, (0, &before[..]), (0, file))
     }
 
-    /// Offers a survey point after point, and answers the map.
+    /// Offers a survey point after point, each to the map in a drawn version, and answers the map.
     pub fn survey(&mut self, survey: &[Point]) -> Result<Map, Difference> {
         let mut map = Map::empty();
         for &p in survey {
-            self.offer(&map.save(), &Ok(map.clone()), p)?;
+            let version = self.draw.pick(&VERSIONS);
+            self.offer(&map.save_in(version), &Ok(map.clone()), p)?;
             let _ = map.offer(p);
         }
         Ok(map)

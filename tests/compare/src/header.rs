@@ -4,6 +4,7 @@ use crate::entries::Comparison;
 use crate::tally::{Difference, Outcome};
 use reach::Refusal;
 use reference::refusal;
+use reference::saved::{HEAD, VERSION, VERSIONS, point_bytes};
 
 const HEADER: &str = include_str!("../../../bindings/c/reach.h");
 
@@ -35,6 +36,17 @@ impl Comparison {
             ("REACH_POINTS", reach::POINT_LIMIT as i64, reference::POINT_LIMIT as i64),
             ("REACH_COORDINATE_LIMIT", reach::COORDINATE_LIMIT, reference::LIMIT),
             ("REACH_TEXT_LIMIT", reach::TEXT_LIMIT as i64, reference::TEXT_LIMIT as i64),
+            ("REACH_EMPTY_BYTES", reach::Map::new().as_bytes().len() as i64, HEAD as i64),
+            (
+                "REACH_POINT_BYTES",
+                (reach::MAP_BYTES - HEAD) as i64 / reach::POINT_LIMIT as i64,
+                point_bytes(VERSION) as i64,
+            ),
+        ];
+        let of_the_reference = [
+            ("REACH_FORMER_POINT_BYTES", "the reference", point_bytes(1) as i64),
+            ("REACH_FILE_VERSION", "the reference", i64::from(VERSION)),
+            ("REACH_FORMER_FILE_VERSION", "the reference", i64::from(VERSIONS[0])),
         ];
         let of_the_crate = [
             ("REACH_OUTLINE_BYTES", "the crate", reach::OUTLINE_BYTES as i64),
@@ -43,7 +55,8 @@ impl Comparison {
         ];
         let shared = refusals.into_iter().chain(limits);
         let both = |(name, a, b)| [(name, "the crate", a), (name, "the reference", b)];
-        for (name, whose, number) in shared.flat_map(both).chain(of_the_crate) {
+        let all = shared.flat_map(both).chain(of_the_reference).chain(of_the_crate);
+        for (name, whose, number) in all {
             let of_header = constant(name);
             if of_header != Some(number) {
                 let said = format!("{name}\nreach.h {of_header:?}, {whose} {number}");

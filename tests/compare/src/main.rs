@@ -5,12 +5,12 @@
 //!             [--program PATH | --without-program]
 //!     compare [--seed N] --outlines N
 //!
-//! A text is reported, a line is read, so is an outline's text, and a claim is marked; a file,
-//! damaged or with changed fields, goes through every function that reads a map; a map is built
-//! point after point and then read in every way, as it is and rearranged. One text in fifty, or in a
-//! thousand of a hundred thousand and more, also goes through the program, in reads of drawn sizes.
-//! One call in sixty-one, and each call on a full map, is made on as little stack as `reach.h` says
-//! that it needs.
+//! A text is reported, a line is read, so is an outline's text, and a claim is marked; a file of
+//! either version, damaged or with changed fields, goes through every function that reads a map; a
+//! map is built point after point and then read in every way, in both versions, and rearranged. One
+//! text in fifty, or in a thousand of a hundred thousand and more, also goes through the program, in
+//! reads of drawn sizes. One call in sixty-one, and each call on a full map, is made on as little
+//! stack as `reach.h` says that it needs.
 //!
 //! The seed, the calls of each entry by the number they answer and the number of differences are
 //! printed; the same seed gives the same inputs. The exit status is 1 on a difference, with the
@@ -21,6 +21,7 @@
 
 mod draw;
 mod entries;
+mod files;
 mod header;
 mod lent;
 mod maps;
@@ -36,6 +37,7 @@ mod wrapper;
 
 use entries::Comparison;
 use program::Input;
+use reference::saved::VERSIONS;
 use reference::{LIMIT, Map, POINT_LIMIT, Point, TEXT_LIMIT};
 use std::path::PathBuf;
 use std::process::ExitCode;
@@ -100,8 +102,8 @@ fn arguments() -> Result<Arguments, String> {
 }
 
 /// What is compared whatever the seed: the header's constants, short lines, the ends of the range as
-/// it is and as it was, rails across it, outlines, their areas and claims on them, full maps, long
-/// texts.
+/// it is and as it was, rails across it, files of both versions, outlines, their areas and claims on
+/// them, full maps, long texts.
 fn fixed(c: &mut Comparison) -> Outcome {
     c.header()?;
     c.null_lists()?;
@@ -116,8 +118,11 @@ fn fixed(c: &mut Comparison) -> Outcome {
         }
     }
     for end in points::ends().into_iter().filter(|&end| i32::try_from(end).is_ok()) {
+        let one = maps::built(&[Point::new(0, 0)]);
         for p in [Point::new(end, 0), Point::new(0, end)] {
-            c.file(&Map { points: vec![p], ..Map::empty() }.save(), 1)?;
+            for version in VERSIONS {
+                c.file(&Map { points: vec![p], ..one.clone() }.save_in(version), 1)?;
+            }
         }
     }
     let near = |limit: i64| [-limit - 1, -limit, limit, limit + 1];
@@ -133,8 +138,11 @@ fn fixed(c: &mut Comparison) -> Outcome {
     }
     for rail in rails() {
         let map = c.survey(&rail)?;
-        c.file(&map.save(), 20)?;
+        for version in VERSIONS {
+            c.file(&map.save_in(version), 20)?;
+        }
     }
+    c.fixed_files()?;
     c.fixed_outlines()?;
     c.fixed_marks()?;
     let convex = (0..POINT_LIMIT as i64).map(|i| Point::new(i, i * i));
@@ -145,10 +153,9 @@ fn fixed(c: &mut Comparison) -> Outcome {
     c.is_on_small_stacks = true;
     for full in [convex.collect::<Vec<_>>(), rail.collect()] {
         let map = c.survey(&[&full[..], &refused].concat())?;
-        c.file(&map.save(), 4)?;
-    }
-    for n in [POINT_LIMIT + 1, 65_535] {
-        c.file(&maps::oversized(n), 1)?;
+        for version in VERSIONS {
+            c.file(&map.save_in(version), 4)?;
+        }
     }
     for length in [0, 1, 2, TEXT_LIMIT - 1, TEXT_LIMIT, TEXT_LIMIT + 1, 2 * TEXT_LIMIT] {
         for byte in [b'\n', b'1', b' '] {
@@ -256,7 +263,7 @@ impl Session {
         Ok(())
     }
 
-    /// One map, built by offers and then read in every way, as it is and rearranged.
+    /// One map, built by offers and then read in every way, in both versions, and rearranged.
     fn map(&mut self) -> Outcome {
         let c = &mut self.comparison;
         let most = if c.draw.one_in(300) { 700 } else { 60 };
@@ -266,10 +273,13 @@ impl Session {
         if c.draw.one_in(20) {
             map = c.draw.pick(&self.pool);
         }
-        c.file(&map.save(), 3)?;
-        let file = maps::rearranged(&mut c.draw, map).save();
-        c.file(&file, 3)?;
-        c.wrapper(&file)
+        for version in VERSIONS {
+            c.file(&map.save_in(version), 3)?;
+        }
+        let version = c.draw.pick(&VERSIONS);
+        c.wrapper(&map.save_in(version))?;
+        let file = maps::rearranged(&mut c.draw, map).save_in(version);
+        c.file(&file, 1)
     }
 
     fn compare(&mut self, extent: &Extent, start: Instant) -> Outcome {

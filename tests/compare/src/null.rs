@@ -8,6 +8,14 @@ use std::ptr::{null, null_mut};
 unsafe extern "C" {
     fn reach_empty(out: *mut u8, n: usize) -> u32;
     fn reach_check(map: *const u8, n: usize) -> u32;
+    fn reach_load(
+        file: *const u8,
+        n: usize,
+        out: *mut u8,
+        m: usize,
+        length: *mut u64,
+        k: usize,
+    ) -> u32;
     fn reach_counts(map: *const u8, n: usize, out: *mut u64, m: usize) -> u32;
     fn reach_line(line: *const u8, n: usize, out: *mut i64, m: usize) -> u32;
     fn reach_report(
@@ -48,6 +56,7 @@ unsafe extern "C" {
 impl Comparison {
     pub fn null_lists(&mut self) -> Outcome {
         let file = reference::Map::empty().save();
+        let former = reference::Map::empty().save_in(1);
         let text = [0; reference::TEXT_LIMIT + 1];
         let none = b"POLYGON EMPTY";
         let zeros = [0i64; 4];
@@ -58,6 +67,27 @@ impl Comparison {
             [
                 ("reach_empty", 10, reach_empty(null_mut(), 0)),
                 ("reach_check", 7, reach_check(null(), 0)),
+                (
+                    "reach_load, no version",
+                    7,
+                    reach_load(null(), 0, printed.as_mut_ptr(), 64, length.as_mut_ptr(), 1),
+                ),
+                ("reach_load, no version", 7, reach_load(null(), 0, null_mut(), 0, null_mut(), 0)),
+                (
+                    "reach_load, version 1",
+                    10,
+                    reach_load(former.as_ptr(), former.len(), null_mut(), 0, null_mut(), 0),
+                ),
+                (
+                    "reach_load, version 2",
+                    10,
+                    reach_load(file.as_ptr(), file.len(), printed.as_mut_ptr(), 64, null_mut(), 0),
+                ),
+                (
+                    "reach_load, version 2",
+                    10,
+                    reach_load(file.as_ptr(), file.len(), null_mut(), 0, length.as_mut_ptr(), 1),
+                ),
                 ("reach_counts", 7, reach_counts(null(), 0, null_mut(), 0)),
                 ("reach_counts", 10, reach_counts(file.as_ptr(), file.len(), null_mut(), 0)),
                 ("reach_line", 8, reach_line(null(), 0, null_mut(), 0)),

@@ -8,6 +8,7 @@ use crate::points;
 use crate::tally::Outcome;
 use crate::texts;
 use reference::plane::hull;
+use reference::saved::VERSIONS;
 use reference::{LIMIT, Map, POINT_LIMIT, Point, TEXT_LIMIT, refusal};
 use std::io::{self, BufWriter, Write};
 
@@ -193,12 +194,14 @@ impl Comparison {
         self.is_on_small_stacks = true;
         for survey in surveys() {
             let map = maps::built(&survey);
-            let file = map.save();
-            self.whole(&file, &Ok(map.clone()))?;
-            self.wrapper(&file)?;
-            self.whole(&file[1..], &Err(refusal::BAD_FILE))?;
-            let unsound = Map { reference: 1, ..map };
-            self.whole(&unsound.save(), &Err(refusal::NOT_SOUND))?;
+            let unsound = Map { reference: 1, ..map.clone() };
+            for version in VERSIONS {
+                let file = map.save_in(version);
+                self.whole(&file, &Ok(map.clone()))?;
+                self.wrapper(&file)?;
+                self.whole(&file[1..], &Err(refusal::BAD_FILE))?;
+                self.whole(&unsound.save_in(version), &Err(refusal::NOT_SOUND))?;
+            }
         }
         for text in with_many_corners().into_iter().chain(with_many_bytes()) {
             self.read_outline(&text)?;

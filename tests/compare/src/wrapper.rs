@@ -4,7 +4,7 @@ use crate::entries::Comparison;
 use crate::points;
 use crate::stack::on_stack;
 use crate::tally::{Difference, Outcome, hex};
-use reference::{Answer, Arrival, Ending, Kind, Map, Placed, Point};
+use reference::{Answer, Arrival, Ending, Kind, Map, NO_DART, Placed, Point, Record};
 use std::fmt::Debug;
 
 /// A refusal as its number.
@@ -37,6 +37,17 @@ fn placed(placed: reach::Placed) -> Placed {
     }
 }
 
+fn record(record: reach::Record) -> Record {
+    let arrival = match record.arrival {
+        reach::ArrivalKind::First => 0,
+        reach::ArrivalKind::Second => 1,
+        reach::ArrivalKind::Inside => 2,
+        reach::ArrivalKind::Outside => 3,
+    };
+    let freed = [record.freed_left, record.freed_right].map(|dart| dart.unwrap_or(NO_DART));
+    Record { arrival, freed }
+}
+
 fn counts(map: &reach::Map) -> [usize; 5] {
     let c = map.counts();
     [c.darts, c.vertices, c.edges, c.faces, c.parts]
@@ -58,14 +69,20 @@ impl Comparison {
         Ok(())
     }
 
+    /// The crate's map of a file: it has the bytes of version 2.
+    pub fn wrapper_load(&mut self, file: &[u8], map: &Answer<Map>) -> Outcome {
+        let input = || format!("map {}", hex(file));
+        let expected = map.as_ref().map(|m| m.save()).map_err(|number| *number);
+        let loaded = on_stack("Map::load", reach::CALL_STACK, || reach::Map::load(file));
+        self.same("Map::load", &input, expected, number(loaded).map(reach::Map::into_bytes))
+    }
+
     /// The crate's functions on a file.
     pub fn wrapper(&mut self, file: &[u8]) -> Outcome {
         let input = || format!("map {}", hex(file));
         let expected = Map::load(file);
-        let loaded = number(reach::Map::load(file));
-        let saved = loaded.clone().map(reach::Map::into_bytes);
-        self.same("Map::load", &input, expected.clone().map(|m| m.save()), saved)?;
-        let (Ok(mut expected), Ok(mut map)) = (expected, loaded) else {
+        self.wrapper_load(file, &expected)?;
+        let (Ok(mut expected), Ok(mut map)) = (expected, reach::Map::load(file)) else {
             return Ok(());
         };
         let c = expected.counts();
@@ -74,6 +91,10 @@ impl Comparison {
         self.same("Map::corners", &input, Ok(expected.corners()), Ok(map.corners()))?;
         let points: Vec<_> = (0..map.len()).filter_map(|k| map.point(k)).map(point).collect();
         self.same("Map::point", &input, Ok(expected.points.clone()), Ok(points))?;
+        let records: Vec<_> = (0..map.len()).filter_map(|k| map.record(k)).map(record).collect();
+        self.same("Map::record", &input, Ok(expected.records.clone()), Ok(records))?;
+        let beyond = [map.len(), usize::MAX].map(|k| (map.point(k), map.record(k)));
+        self.same("Map::record, no point", &input, Ok([(None, None); 2]), Ok(beyond))?;
         let outline = on_stack("Map::outline_text", reach::CALL_STACK, || map.outline_text());
         self.same("Map::outline_text", &input, Ok(expected.outline_text()), Ok(outline))?;
         let corners = expected.corners().len();
@@ -113,9 +134,12 @@ impl Comparison {
         let got =
             number(on_stack("Map::place", reach::CALL_STACK, || map.place(point))).map(placed);
         self.same("Map::place", &input, expected.place(p), got)?;
-        let got =
-            number(on_stack("Map::offer", reach::CALL_STACK, || map.offer(point))).map(arrival);
-        self.same("Map::offer", &input, expected.offer(p), got)?;
+        let got = number(on_stack("Map::offer", reach::CALL_STACK, || map.offer(point)));
+        if let Ok(arrival) = got {
+            let kept = map.record(map.len() - 1).map(|record| record.arrival);
+            self.same("Arrival::kind", &input, Ok(Some(arrival.kind())), Ok(kept))?;
+        }
+        self.same("Map::offer", &input, expected.offer(p), got.map(arrival))?;
         self.same("Map::as_bytes", &input, Ok(expected.save()), Ok(map.as_bytes().to_vec()))
     }
 

@@ -1,7 +1,7 @@
 //! Offering a point: "Orientation and arrival".
 
 use crate::plane::{cross, hull, is_beside};
-use crate::{Answer, Map, POINT_LIMIT, Point, refusal};
+use crate::{Answer, Map, NO_DART, POINT_LIMIT, Point, Record, refusal};
 
 /// What an accepted point does.
 #[derive(Clone, Copy, Debug, PartialEq, Eq)]
@@ -10,6 +10,18 @@ pub enum Arrival {
     Second,
     Inside,
     Outside { left: usize, right: usize, visible: usize },
+}
+
+impl Arrival {
+    /// The number that stands for it in a record.
+    pub fn number(self) -> usize {
+        match self {
+            Arrival::First => 0,
+            Arrival::Second => 1,
+            Arrival::Inside => 2,
+            Arrival::Outside { .. } => 3,
+        }
+    }
 }
 
 fn squared_distance(p: Point, q: Point) -> i128 {
@@ -35,12 +47,18 @@ impl Map {
     /// Offers a point to a sound map. A refused point leaves the map as it was.
     pub fn offer(&mut self, p: Point) -> Answer<Arrival> {
         self.admits(p)?;
+        Ok(self.arrive(p))
+    }
+
+    /// What a point does that is let in, whether it may be or not: a wrong map for tests to refuse.
+    pub fn arrive(&mut self, p: Point) -> Arrival {
         let k = self.points.len();
         let arrival = match k {
             0 => Arrival::First,
             1 => Arrival::Second,
             _ => self.later(p),
         };
+        let mut freed = [NO_DART; 2];
         self.points.push(p);
         match arrival {
             Arrival::First | Arrival::Inside => {}
@@ -52,10 +70,13 @@ impl Map {
             }
             Arrival::Outside { left, right, .. } => {
                 let (l, r) = (2 * left, 2 * right + 1);
-                for dart in [l, r] {
-                    let other = self.edge_link(dart);
+                let partners = [l, r].map(|dart| self.edge_link(dart));
+                // "1,024 where there was none or where the partners are l and r"
+                if partners != [r, l] {
+                    freed = partners;
+                }
+                for dart in [l, r].into_iter().chain(partners) {
                     self.edge.remove(&dart);
-                    self.edge.remove(&other);
                 }
                 self.join(l, 2 * k + 1);
                 self.join(2 * k, r);
@@ -63,7 +84,8 @@ impl Map {
                 self.reference = 2 * k;
             }
         }
-        Ok(arrival)
+        self.records.push(Record { arrival: arrival.number(), freed });
+        arrival
     }
 
     /// The arrival of a point after two or more: the outline is the hull of the points, and an edge

@@ -7,7 +7,8 @@
 //! them by the order of the coordinates, the farther of two corners by squared distances, an
 //! outline's text is split at its separators and held to the text of its points' hull, an area is
 //! worked out by the shoelace formula, not by triangles, and a claim is held to the listing of the
-//! map that its points build, begun at each corner.
+//! map that its points build, begun at each corner. A map is held to the one that its points build,
+//! field by field, not byte by byte.
 //!
 //! Every function answers its value or the number of its refusal. A [`Map`] that comes out of
 //! [`Map::load`] or was built by [`Map::offer`] from [`Map::empty`] is sound, and the functions
@@ -28,7 +29,7 @@ pub mod text;
 pub mod walk;
 
 pub use arrival::Arrival;
-pub use map::{DART_LIMIT, Map, NO_DART, POINT_LIMIT};
+pub use map::{DART_LIMIT, Map, NO_DART, POINT_LIMIT, Record};
 pub use mark::mark;
 pub use orbits::{Counts, Kind, Orbit};
 pub use outline::read_outline;
@@ -40,5 +41,7 @@ pub use walk::{Ending, Walk};
 /// A value, or the number of the refusal.
 pub type Answer<T> = Result<T, u32>;
 
+#[cfg(test)]
+mod bullets;
 #[cfg(test)]
 mod questions;

@@ -9,10 +9,20 @@ pub const POINT_LIMIT: usize = 512;
 /// Darts are numbered below this.
 pub const DART_LIMIT: usize = 2 * POINT_LIMIT;
 
-/// The reference of a map that has none.
+/// The reference of a map that has none, and what stands for a dart that was not freed.
 pub const NO_DART: usize = DART_LIMIT;
 
-/// The fields of a map, whatever they hold.
+/// What is written down of a point's arrival.
+#[derive(Clone, Copy, Debug, PartialEq, Eq)]
+pub struct Record {
+    /// "0 first, 1 second, 2 inside, 3 outside".
+    pub arrival: usize,
+    /// The dart that the left corner's own dart let go, and the one that the right corner's helper
+    /// did.
+    pub freed: [usize; 2],
+}
+
+/// The fields of a map, whatever they hold. A place without a point has none.
 #[derive(Clone, Debug, PartialEq, Eq)]
 pub struct Map {
     /// The points, by their numbers.
@@ -22,6 +32,8 @@ pub struct Map {
     /// The edge link of each dart that it does not fix.
     pub edge: HashMap<usize, usize>,
     pub reference: usize,
+    /// The record of each point.
+    pub records: Vec<Record>,
 }
 
 impl Map {
@@ -32,6 +44,7 @@ impl Map {
             helpers: BTreeSet::new(),
             edge: HashMap::new(),
             reference: NO_DART,
+            records: Vec::new(),
         }
     }
 

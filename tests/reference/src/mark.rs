@@ -1,16 +1,13 @@
 //! Marking a claim: the points are offered one after another, and the claim is held to the listing
 //! of the map that they build, begun at each of its corners.
 
-use crate::{Answer, Map, Point};
+use crate::{Answer, Map, Point, sound};
 
 /// The map that these coordinates build, x and y in turn, or the first refusal met. An odd last
 /// number names no point.
 pub fn built(coordinates: &[i64]) -> Answer<Map> {
-    let mut map = Map::empty();
-    for pair in coordinates.chunks_exact(2) {
-        map.offer(Point::new(pair[0], pair[1]))?;
-    }
-    Ok(map)
+    let pairs = coordinates.chunks_exact(2);
+    sound::built(&pairs.map(|pair| Point::new(pair[0], pair[1])).collect::<Vec<_>>())
 }
 
 impl Map {

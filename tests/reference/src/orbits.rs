@@ -63,6 +63,7 @@ impl Partition {
         Self::under(m, &[&|d| m.edge_link(d), &|d| m.point_link(d)])
     }
 
+    #[cfg(test)]
     pub(crate) fn into_classes(self) -> Vec<Vec<usize>> {
         let mut classes: BTreeMap<usize, Vec<usize>> = BTreeMap::new();
         for &dart in self.parent.keys() {

@@ -105,26 +105,198 @@ fn refused_points() {
     }
 }
 
+/// The fields of a record, in the order of the file.
+fn records(m: &Map) -> Vec<[usize; 3]> {
+    m.records.iter().map(|record| [record.arrival, record.freed[0], record.freed[1]]).collect()
+}
+
+#[test]
+fn records_of_arrivals() {
+    let session = [
+        [0, 1024, 1024],
+        [1, 1024, 1024],
+        // one visible edge: the partners are l and r
+        [3, 1024, 1024],
+        [3, 1024, 1024],
+        [2, 1024, 1024],
+        [3, 7, 6],
+    ];
+    for points in 0..=6 {
+        assert_eq!(records(&after(points)), session[..points]);
+    }
+    assert_eq!(records(&built(&RAIL)), [[0, 1024, 1024], [1, 1024, 1024], [3, 3, 2]]);
+    // from beyond the other end, between the ends, beside the rail
+    let rail = built(&[(0, 0), (2, 0), (4, 0), (-2, 0), (1, 0), (1, 1)]);
+    assert_eq!(records(&rail)[3..], [[3, 1, 0], [2, 1024, 1024], [3, 1024, 1024]]);
+    // three edges are visible: the darts of the chain's ends come loose
+    let three = built(&[(0, 0), (4, 0), (3, 1), (1, 1), (2, 9)]);
+    assert_eq!(records(&three)[3..], [[3, 1024, 1024], [3, 5, 6]]);
+    assert_eq!([5, 6].map(|dart| three.edge_link(dart)), [5, 6]);
+    // on the line of an edge, beyond its end
+    let beyond = built(&[(0, 0), (4, 0), (4, 4), (0, 4), (6, 0)]);
+    assert_eq!(records(&beyond)[4], [3, 3, 2]);
+}
+
 #[test]
 fn files() {
-    assert_eq!(Map::empty().save(), [0, 0, 0, 5, 1, 0, 0, 4, 0]);
+    assert_eq!(Map::empty().save(), [0, 0, 0, 5, 2, 0, 0, 4, 0]);
+    assert_eq!(Map::load(&[0, 0, 0, 5, 1, 0, 0, 4, 0]), Ok(Map::empty()));
+    let one = [
+        &[0, 0, 0, 0x17, 2, 0, 1, 4, 0][..],
+        &[0; 8],
+        &[0],
+        &[0, 0, 0, 1],
+        // its record
+        &[0, 4, 0, 4, 0],
+    ];
+    assert_eq!(after(1).save(), one.concat());
     for points in 0..=6 {
-        let file = after(points).save();
-        assert_eq!(Map::load(&file), Ok(after(points)));
-        assert_eq!(Map::load(&file[..file.len() - 1]), Err(7));
+        assert_eq!(after(points).save(), after(points).save_in(2));
+        for (version, bytes) in [(1, 13), (2, 18)] {
+            let file = after(points).save_in(version);
+            assert_eq!(file.len(), 9 + bytes * points);
+            assert_eq!(Map::load(&file), Ok(after(points)));
+            assert_eq!(Map::load(&file[..file.len() - 1]), Err(7));
+            assert_eq!(Map::load(&[&file[..], &[0]].concat()), Err(7));
+        }
     }
-    let file = after(6).save();
-    let changed = |place: usize, byte: u8| {
-        let mut file = file.clone();
-        file[place] = byte;
-        Map::load(&file).err()
+}
+
+/// "one that its points, offered in order, build, records included": no field may differ.
+#[test]
+fn maps_that_are_not_built() {
+    let with = |change: &dyn Fn(&mut Map)| {
+        let mut m = after(6);
+        change(&mut m);
+        is_sound(&m)
     };
-    assert_eq!(changed(4, 2), Some(7));
-    assert_eq!(changed(9 + 8 * 6, 2), Some(7));
-    assert_eq!(changed(9 + 8 * 6, 0), Some(1));
-    assert_eq!(changed(8, 4), None);
-    assert_eq!(changed(8, 6), Some(1));
-    assert_eq!(changed(9 + 9 * 6, 200), Some(1));
+    assert!(with(&|_| ()));
+    // other points that build the same links
+    assert!(with(&|m| m.points[4] = Point::new(2, 2)));
+    assert!(!with(&|m| m.points[4] = m.points[0]));
+    assert!(!with(&|m| m.points[4] = Point::new(LIMIT + 1, 0)));
+    assert!(!with(&|m| m.points.swap(0, 1)));
+    assert!(!with(&|m| m.points.truncate(5)));
+    assert!(!with(&|m| m.reference = 4));
+    assert!(!with(&|m| m.reference = NO_DART));
+    assert!(!with(&|m| m.helpers.extend([4])));
+    assert!(!with(&|m| m.helpers.extend([6])));
+    assert!(!with(&|m| m.helpers.retain(|&k| k != 3)));
+    assert!(!with(&|m| m.join(6, 3)));
+    assert!(!with(&|m| m.set_edge(12, 0)));
+    assert!(!with(&|m| m.records.truncate(5)));
+    assert!(!with(&|m| m.records.push(m.records[0])));
+    assert!(!with(&|m| m.records.swap(2, 5)));
+    assert!(!with(&|m| m.records[4].arrival = 0));
+    assert!(!with(&|m| m.records[5].freed.reverse()));
+    // 513 points: none builds more than 512
+    let mut many = built(&parabola(512));
+    assert!(is_sound(&many));
+    many.arrive(Point::new(1, 2));
+    assert!(!is_sound(&many));
+    // a point that is refused, let in: equal to one inside, or to a corner, or out of range
+    for (x, y) in [(2, 1), (4, 0), (6, 7), (LIMIT + 1, 0), (0, -LIMIT - 1)] {
+        let mut m = after(6);
+        m.arrive(Point::new(x, y));
+        assert!(!is_sound(&m), "{x} {y}");
+    }
+}
+
+/// Why the file of a version of the session is refused, with another byte at a place.
+fn changed(version: u8, place: usize, byte: u8) -> Option<u32> {
+    let mut file = after(6).save_in(version);
+    file[place] = byte;
+    Map::load(&file).err()
+}
+
+#[test]
+fn versions() {
+    for other in [0, 1, 3, 4, 255] {
+        assert_eq!(changed(2, 4, other), Some(7));
+    }
+    for other in [0, 2, 3, 4, 255] {
+        assert_eq!(changed(1, 4, other), Some(7));
+    }
+    // as long as the other version is, by its bytes, its length field or both
+    let [first, second] = [1, 2].map(|version| after(6).save_in(version));
+    let with_length = |file: &[u8], bytes: usize| {
+        let length = (bytes as u32 - 4).to_be_bytes();
+        Map::load(&[&length, &file[4..]].concat()).err()
+    };
+    let longer = [&first[..], &second[first.len()..]].concat();
+    for bytes in [first.len(), second.len()] {
+        assert_eq!(with_length(&longer, bytes), Some(7));
+        assert_eq!(with_length(&second[..first.len()], bytes), Some(7));
+    }
+    assert_eq!(with_length(&first, second.len()), Some(7));
+    assert_eq!(with_length(&second, first.len()), Some(7));
+    assert_eq!(with_length(&second, second.len()), None);
+}
+
+#[test]
+fn changed_files() {
+    let (helpers, links) = (9 + 8 * 6, 9 + 9 * 6);
+    for version in [1, 2] {
+        let changed = |place, byte| changed(version, place, byte);
+        assert_eq!(changed(helpers, 2), Some(7));
+        assert_eq!(changed(helpers, 0), Some(1));
+        assert_eq!(changed(helpers + 4, 1), Some(1));
+        // an own dart on the outline, but not that of the last outside arrival
+        assert_eq!(changed(8, 10), None);
+        assert_eq!(changed(8, 4), Some(1));
+        assert_eq!(changed(8, 6), Some(1));
+        assert_eq!(changed(links, 200), Some(1));
+        // a point that still lies inside, and one that does not
+        assert_eq!(changed(9 + 8 * 4 + 7, 2), None);
+        assert_eq!(changed(9 + 8 * 4 + 7, 0), None);
+        assert_eq!(changed(9 + 8 * 4 + 3, 9), Some(1));
+        // equal to an earlier point
+        assert_eq!(changed(9 + 8 + 3, 0), Some(1));
+        // a chain that no arrival leaves
+        let mut other = after(6);
+        other.join(6, 3);
+        assert_eq!(Map::load(&other.save_in(version)), Err(1));
+        let mut other = after(6);
+        other.helpers.insert(4);
+        assert_eq!(Map::load(&other.save_in(version)), Err(1));
+    }
+}
+
+#[test]
+fn changed_records() {
+    let record = |k: usize| 9 + 13 * 6 + 5 * k;
+    for k in 0..6 {
+        for arrival in 0..=255 {
+            let expected = match arrival {
+                4.. => Some(7),
+                _ if usize::from(arrival) == after(6).records[k].arrival => None,
+                _ => Some(1),
+            };
+            assert_eq!(changed(2, record(k), arrival), expected, "{k} {arrival}");
+        }
+    }
+    let with_freed = |k: usize, freed: [usize; 2]| {
+        let mut m = after(6);
+        m.records[k].freed = freed;
+        assert_eq!(Map::load(&m.save_in(1)), Ok(after(6)));
+        Map::load(&m.save()).err()
+    };
+    assert_eq!(with_freed(5, [7, 6]), None);
+    let others = [[6, 7], [7, 7], [7, 1024], [1024, 6], [1024, 1024], [7, 1025], [65_535, 6]];
+    for freed in others {
+        assert_eq!(with_freed(5, freed), Some(1), "{freed:?}");
+    }
+    for k in 0..5 {
+        for freed in [[1025, 1024], [1024, 1025], [1024, 65_535], [2, 1], [7, 6], [0, 0]] {
+            assert_eq!(with_freed(k, freed), Some(1), "{k} {freed:?}");
+        }
+    }
+    // 7 is looked at before 1
+    let mut file = after(6).save();
+    file[8] = 4;
+    assert_eq!(Map::load(&file), Err(1));
+    file[record(0)] = 4;
+    assert_eq!(Map::load(&file), Err(7));
 }
 
 /// Four bytes hold more than the range: what lies beyond it is not sound.
@@ -229,6 +401,23 @@ fn reports_on_rails() {
     );
 }
 
+/// The two darts whose edge link an arrival made fixed, where it made any: first the one whose
+/// partner was the left corner's own dart.
+fn came_loose(before: &Map, after: &Map, arrival: Arrival) -> [usize; 2] {
+    let is_loose = |d: &usize| before.edge_link(*d) != *d && after.edge_link(*d) == *d;
+    let mut loose: Vec<usize> = before.darts().into_iter().filter(is_loose).collect();
+    match arrival {
+        Arrival::Outside { left, .. } if !loose.is_empty() => {
+            loose.sort_by_key(|&d| before.edge_link(d) != 2 * left);
+            loose.try_into().expect("two darts")
+        }
+        _ => {
+            assert!(loose.is_empty());
+            [NO_DART; 2]
+        }
+    }
+}
+
 /// "left of each outline edge or on it", "three or more corners still turn strictly left", and the
 /// two sums, after every survey of up to five points of a grid.
 #[test]
@@ -238,7 +427,8 @@ fn every_short_survey_of_a_small_grid() {
         let corners = map.corners();
         let h = corners.len();
         let at = |i: usize| map.points[corners[i % h]];
-        assert!(is_sound(map));
+        assert!(is_sound(map) && bullets::hold(map));
+        assert_eq!(map.records.len(), map.points.len());
         for i in 0..h {
             let others = map.points.iter().filter(|&&p| p != at(i) && p != at(i + 1));
             assert!(h < 2 || others.clone().all(|&p| is_beside(at(i), at(i + 1), p)));
@@ -249,8 +439,11 @@ fn every_short_survey_of_a_small_grid() {
         assert_eq!(c.vertices + c.edges + c.faces, c.darts + 2 * c.parts);
         assert!(h < 2 || visible + h == 2 * outside + 2);
         for &p in grid.iter().filter(|p| more > 0 && !map.points.contains(p)) {
+            let before = map;
             let mut map = map.clone();
-            match map.offer(p).expect("a new point is accepted") {
+            let arrival = map.offer(p).expect("a new point is accepted");
+            assert_eq!(came_loose(before, &map, arrival), map.records[before.points.len()].freed);
+            match arrival {
                 Arrival::Outside { visible: edges, .. } => {
                     every(grid, &map, outside + 1, visible + edges, more - 1);
                 }

@@ -1,16 +1,25 @@
-//! The saved form.
+//! The saved form, in both versions: a file of version 2 has the records too.
 
-use crate::sound::is_sound;
-use crate::{Answer, Map, POINT_LIMIT, Point, refusal};
+use crate::sound::built;
+use crate::{Answer, Map, POINT_LIMIT, Point, Record, refusal};
 
-const VERSION: u8 = 1;
+/// The versions that are read.
+pub const VERSIONS: [u8; 2] = [1, 2];
+
+/// "Saving writes version 2".
+pub const VERSION: u8 = 2;
 
 /// The bytes of a file before its first point.
 pub const HEAD: usize = 9;
 
+/// The bytes that each point adds to a file of a version.
+pub fn point_bytes(version: u8) -> usize {
+    if version == 1 { 13 } else { 18 }
+}
+
 /// The number of bytes of a file of n points.
-pub fn saved_length(n: usize) -> usize {
-    HEAD + 13 * n
+pub fn saved_length(version: u8, n: usize) -> usize {
+    HEAD + point_bytes(version) * n
 }
 
 /// Takes big-endian numbers from the front of a file that is long enough for them.
@@ -37,8 +46,9 @@ impl Fields<'_> {
 }
 
 impl Map {
-    /// The fields that stand in a file, sound or not, or number 7.
-    pub fn fields(file: &[u8]) -> Answer<Map> {
+    /// The version of a file and the fields that stand in it, sound or not, or number 7. Version 1
+    /// has no records.
+    fn fields(file: &[u8]) -> Answer<(u8, Map)> {
         const BAD: u32 = refusal::BAD_FILE;
         if file.len() < HEAD {
             return Err(BAD);
@@ -49,9 +59,9 @@ impl Map {
         let n = fields.short();
         let reference = fields.short();
         if n > POINT_LIMIT
-            || file.len() != saved_length(n)
+            || !VERSIONS.contains(&version)
+            || file.len() != saved_length(version, n)
             || u64::from(length) != file.len() as u64 - 4
-            || version != VERSION
         {
             return Err(BAD);
         }
@@ -72,28 +82,53 @@ impl Map {
         for dart in 0..2 * n {
             m.set_edge(dart, fields.short());
         }
-        Ok(m)
+        let records = if version == 1 { 0 } else { n };
+        for _ in 0..records {
+            let arrival = fields.byte();
+            if arrival > 3 {
+                return Err(BAD);
+            }
+            let freed = [fields.short(), fields.short()];
+            m.records.push(Record { arrival: arrival.into(), freed });
+        }
+        Ok((version, m))
     }
 
-    /// The map of a file: number 7 is looked at before number 1.
+    /// The map of a file: number 7 is looked at before number 1. "Version 1 files are still read,
+    /// their records rebuilt".
     pub fn load(file: &[u8]) -> Answer<Map> {
-        let m = Map::fields(file)?;
-        if is_sound(&m) { Ok(m) } else { Err(refusal::NOT_SOUND) }
+        let (version, mut m) = Map::fields(file)?;
+        let built = built(&m.points).map_err(|_| refusal::NOT_SOUND)?;
+        if version == 1 {
+            m.records.clone_from(&built.records);
+        }
+        if m == built { Ok(m) } else { Err(refusal::NOT_SOUND) }
     }
 
     /// The bytes of a map whose fields fit the saved form.
     pub fn save(&self) -> Vec<u8> {
+        self.save_in(VERSION)
+    }
+
+    /// Its bytes in a version.
+    pub fn save_in(&self, version: u8) -> Vec<u8> {
         let n = self.points.len();
         let short = |z: usize| u16::try_from(z).expect("a number of two bytes").to_be_bytes();
         let long = |z: i64| i32::try_from(z).expect("a number of four bytes").to_be_bytes();
         let mut file = Vec::new();
-        file.extend((saved_length(n) as u32 - 4).to_be_bytes());
-        file.push(VERSION);
+        file.extend((saved_length(version, n) as u32 - 4).to_be_bytes());
+        file.push(version);
         file.extend(short(n));
         file.extend(short(self.reference));
         file.extend(self.points.iter().flat_map(|p| [long(p.x), long(p.y)]).flatten());
         file.extend((0..n).map(|k| u8::from(self.helpers.contains(&k))));
         file.extend((0..2 * n).flat_map(|d| short(self.edge_link(d))));
+        if version > 1 {
+            for record in &self.records {
+                file.push(u8::try_from(record.arrival).expect("a number of one byte"));
+                file.extend(record.freed.map(short).concat());
+            }
+        }
         file
     }
 }

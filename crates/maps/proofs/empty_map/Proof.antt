@@ -18,6 +18,9 @@ linked edge =
       ys = replicate point-limit (pos 0);
       helpers = replicate point-limit false;
       edge = edge;
+      arrivals = replicate point-limit 0;
+      lefts = replicate point-limit no-dart;
+      rights = replicate point-limit no-dart;
       count = 0;
       reference = no-dart;
     }

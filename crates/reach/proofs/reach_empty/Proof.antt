@@ -1,12 +1,14 @@
 -- `reach::reach_empty` meets its contract: the empty map is sound, and has 9 bytes.
 use mathlib.Core.Path.{sym, ap, subst, _∙_}
+use Prim.Native.Nat.{_≤_}
 use native.Mathlib.Omega.{arith}
 use denote.Ref.{now}
+use lib.ListN.{length}
 use Rattle.finite.specs.Overwriting.{over}
 use Rattle.model.specs.declared.Map.{Map}
 use Rattle.model.specs.Maps.{empty-map}
-use Rattle.model.specs.Sound.{Shaped}
-use Rattle.model.specs.Saved.{saved}
+use Rattle.model.specs.Shape.{Shaped}
+use Rattle.model.specs.Saved.{version, saved-length, saved}
 use Rattle.maps.proofs.Empty.{empty-sound}
 use Rattle.saved.proofs.Places.{length-saved}
 use Rattle.replies.proofs.Serving.{short-list, with-room}
@@ -26,7 +28,8 @@ write-map-requires c κs =
     let e = c .before .empty-map .ensures in
     let d = c .before .before in (
       subst Shaped (sym e) empty-sound,
-      omega (arith, ap (λ (m : Map). m .count) e, d .before .saved-length .ensures, d .if1 .left),
+      subst (λ (m : Map). saved-length version (m .count) ≤ length (now (d .before .before .before .args .out))) (sym e)
+          (omega (arith, d .before .saved-length .ensures, d .if1 .left)),
     )
 
 returns-2 : tie.Need-returns-2

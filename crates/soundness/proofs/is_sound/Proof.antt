@@ -1,60 +1,46 @@
--- `soundness::is_sound` meets its contract, for every map: the three groups of tests are the
--- definition, and what the earlier ones have shown is what the later ones ask.
+-- `soundness::is_sound` meets its contract, for every map: where a point is refused the map is not sound, and else it
+-- is where it agrees with what its points build.
 use borrow.Author.Needs.{needs}
-use mathlib.Core.Path.{_≡_, sym, _∙_}
-use mathlib.Core.Logic.{⊎-elim}
-use mathlib.Core.Bool.{_&&_}
-use Rattle.finite.specs.Tests.{of-true, and-left, and-right}
-use Rattle.soundness.specs.Checks.{points-sound, links-sound}
-use Rattle.soundness.proofs.Checked.{Whole, sound-grouped, count-within, places-in-range, links-undone}
-use Rattle.finite.specs.Loops.{both-asked, one-asked}
+use borrow.Author.Tests.{not-true, not-false}
+use mathlib.Core.Path.{sym, ap, _∙_}
+use mathlib.Core.Bool.{false}
+use Rattle.finite.specs.Tests.{is-false}
+use Rattle.model.specs.Maps.{point, empty-map, map-points}
+use Rattle.model.specs.Building.{built}
+use Rattle.model.specs.Sound.{agree, sound}
+use Rattle.model.proofs.Sound.{sound-is}
+use Rattle.model.proofs.Answers.{unless-none}
+use Rattle.soundness.proofs.Rebuilding.{empty-arrays}
 use Rattle.soundness.proofs.is_sound.Statement.{statement}
 use Rattle.soundness.proofs.is_sound.Tie as tie
 
-whole : (c : tie.Start) → Whole (c .args .m)
-whole c =
-    record { of-xs = search needs; of-ys = search needs; of-helpers = search needs; of-edge = search needs }
-
-links-sound-requires : tie.Need-links-sound-requires
-links-sound-requires c κs =
-    let first = c .before in
-    count-within (first .before .args .m) (of-true _ (sym (first .points-sound .ensures) ∙ c .if1 .taken))
-
-first-two : (c : tie.Joined1) →
-    let m = c .before .before .args .m in
-    c .if1 .if2 ≡ (points-sound m && links-sound m)
-first-two c =
-    let found = c .before .points-sound .ensures in
-    ⊎-elim
-    (λ w. w .2 ∙ both-asked found (w .0 .taken) (w .1 .ensures))
-    (λ w. w .1 ∙ one-asked _ found (w .0 .left))
-    (c .if1 .came)
-
-outline-sound-requires : tie.Need-outline-sound-requires
-outline-sound-requires c κs =
-    let m = c .before .before .before .args .m in
-    let passed = of-true _ (sym (first-two (c .before)) ∙ c .if2 .taken) in
-    let points = and-left (points-sound m) (links-sound m) passed in
-    let links = and-right (points-sound m) (links-sound m) passed in
-    ((count-within m points, links-undone m links), places-in-range m points)
+rebuild-requires : tie.Need-rebuild-requires
+rebuild-requires c κs = empty-arrays (c .before .before .before .before .before .before .before .before .before .before .before .before .fixed-links .ensures)
 
 returns : tie.Need-returns
+unfolding point
 returns c =
-    let two = c .before .before in
-    both-asked (first-two two) (c .before .if2 .taken) (c .outline-sound .ensures)
-    ∙ sym (sound-grouped (whole (two .before .before)))
+    let anew = c .before .before in
+    let m = anew .before .before .before .before .before .before .before .before .before .before .before .before .before .before .args .t1 in
+    sym (is-false (sound m) (λ t. anew .rebuild .ensures .some-refused (not-true _ (c .if1 .taken)) (sound-is m t .free)))
 
 returns-2 : tie.Need-returns-2
+unfolding sound point
 returns-2 c =
-    one-asked _ (first-two (c .before)) (c .if2 .left)
-    ∙ sym (sound-grouped (whole (c .before .before .before)))
+    let test = c .before in
+    let anew = test .before .before in
+    let m = anew .before .before .before .before .before .before .before .before .before .before .before .before .before .before .args .t1 in
+    let whole = not-false _ (test .if1 .left) in
+    c .agree .ensures
+    ∙ ap (agree m) (anew .rebuild .ensures .is-built whole)
+    ∙ sym (unless-none (λ r. false) (agree m (built empty-map (map-points m))) (anew .rebuild .ensures .all-free whole))
 
 pub is-sound-spec : {M : Type 1} → statement M
 is-sound-spec =
     tie.close
     (tie.spec
     (λ c κs. search needs)
-    links-sound-requires
-    outline-sound-requires
+    rebuild-requires
     returns
+    (λ c κs. search needs)
     returns-2)

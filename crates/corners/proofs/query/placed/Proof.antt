@@ -11,7 +11,7 @@ use Rattle.model.specs.declared.Placed.{Placed}
 use Rattle.model.specs.Maps.{point, edge-link}
 use Rattle.model.specs.Outline.{next-corner}
 use Rattle.model.specs.Placing.{place-among}
-use Rattle.model.proofs.Sound.{place-ranged}
+use Rattle.model.proofs.Shape.{place-ranged}
 use Rattle.corners.proofs.Views.{Scanning, place-seen, edge-seen, inside-seen, outside-seen, at-first, corner-found, corner-looked, at-end}
 use Rattle.corners.proofs.query.placed.Statement.{statement}
 use Rattle.corners.proofs.query.placed.Tie as tie

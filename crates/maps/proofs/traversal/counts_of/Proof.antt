@@ -19,7 +19,7 @@ use Rattle.model.specs.declared.Kind.{Kind}
 use Rattle.model.specs.declared.Map.{Map}
 use Rattle.model.specs.Maps.{point-limit, has-helper, is-present, edge-link, point-link, face-link, dart-bound}
 use Rattle.model.specs.Reading.{links-of, number-of, darts, counts}
-use Rattle.model.specs.Sound.{Shaped}
+use Rattle.model.specs.Shape.{Shaped}
 use Rattle.maps.proofs.Links.{sound-linked, edge-involutes, counts-balance}
 use Rattle.maps.proofs.Tables.{point-table, present-table, tables-permuted}
 use Rattle.maps.proofs.traversal.counts_of.Statement.{statement}

@@ -12,7 +12,7 @@ use Rattle.model.specs.declared.Kind.{Kind}
 use Rattle.model.specs.declared.Map.{Map}
 use Rattle.model.specs.Maps.{point-limit, has-helper, is-present, edge-link, point-link, face-link}
 use Rattle.model.specs.Reading.{links-of, orbit-set}
-use Rattle.model.specs.Sound.{Shaped}
+use Rattle.model.specs.Shape.{Shaped}
 use Rattle.maps.proofs.Tables.{point-table}
 use Rattle.maps.proofs.Orbits.{read-stays, read-orbit}
 use Rattle.maps.proofs.traversal.orbit_of.Statement.{statement}

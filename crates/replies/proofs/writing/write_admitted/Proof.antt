@@ -4,13 +4,14 @@ use mathlib.Core.Path.{_≡_, sym, ap, subst, _∙_}
 use mathlib.Core.List.{[]}
 use Rattle.model.specs.declared.Offered.{Offered}
 use Rattle.model.specs.Answers.{outcome-by, arrival-answer}
-use Rattle.model.specs.Sound.{Shaped}
+use Rattle.model.specs.Shape.{Shaped}
 use Rattle.model.specs.Arrival.{admission-rules, arrive, refusing, admitted}
 use Rattle.model.specs.Saved.{saved}
 use Rattle.model.proofs.Answers.{outcome-serves}
 use Rattle.replies.specs.Replies.{arrival-told}
 use Rattle.replies.proofs.Arrived.{arrival-outcome, accepted}
-use Rattle.replies.proofs.Arrived.{admitted-outcome, admitted-sound}
+use Rattle.hull.proofs.Arrivals.{admitted-sound}
+use Rattle.replies.proofs.Arrived.{admitted-outcome}
 use Rattle.replies.proofs.Serving.{both-refused-before, both-served-after, both-at}
 use borrow.Author.Needs.{needs}
 use Rattle.replies.proofs.writing.write_admitted.Statement.{statement}

@@ -11,11 +11,12 @@ use lib.ListN.{length, set}
 use Rattle.model.specs.declared.Map.{Map}
 use Rattle.model.specs.declared.Offered.{Offered}
 use Rattle.model.specs.Maps.{point, empty-map, map-of}
-use Rattle.model.specs.Sound.{Shaped}
+use Rattle.model.specs.Shape.{Shaped}
 use Rattle.admission.specs.Hashes.{AllHashed}
 use Rattle.admission.proofs.Hashing.{none-hashed, one-hashed}
 use Rattle.hull.specs.Requires.{Accepted}
-use Rattle.hull.proofs.Building.{arrive-sound, arrive-points}
+use Rattle.hull.proofs.Arrivals.{arrive-sound}
+use Rattle.hull.proofs.Building.{arrive-points}
 use Rattle.lines.specs.Packing.{Packable}
 use Rattle.reports.specs.Deciding.{Reports, Stopped}
 use Rattle.reports.proofs.Verdicts.{arrive-packable}
@@ -25,25 +26,26 @@ use Rattle.reports.proofs.deciding.decide_lines.Statement.{statement}
 use Rattle.reports.proofs.deciding.decide_lines.Tie as tie
 
 abbrev Inv-loop : tie.InvT-loop
-Inv-loop text answers₀ xs₀ ys₀ helpers₀ edge₀ count₀ reference₀ hashes₀ stop₀ answers xs ys helpers edge count reference hashes stop =
-    Stopped text (map-of xs ys helpers edge count reference) answers 0 stop × AllHashed xs ys count hashes
+Inv-loop text answers₀ xs₀ ys₀ helpers₀ edge₀ arrivals₀ lefts₀ rights₀ count₀ reference₀ hashes₀ stop₀ answers xs ys helpers edge arrivals lefts rights count reference hashes stop =
+    Stopped text (map-of xs ys helpers edge arrivals lefts rights count reference) answers 0 stop × AllHashed xs ys count hashes
 
 abbrev μ-loop : tie.MeasureT-loop
-μ-loop text answers₀ xs₀ ys₀ helpers₀ edge₀ count₀ reference₀ hashes₀ stop₀ answers xs ys helpers edge count reference hashes stop =
+μ-loop text answers₀ xs₀ ys₀ helpers₀ edge₀ arrivals₀ lefts₀ rights₀ count₀ reference₀ hashes₀ stop₀ answers xs ys helpers edge arrivals lefts rights count reference hashes stop =
     length text - stop .at
 
 -- where the empty map is made, seen from where its coordinates are lent
 abbrev at-empty : tie.After-hashes Inv-loop μ-loop → tie.After-empty-map Inv-loop μ-loop
-at-empty c = c .before .before .before .before .before .before .before .before
+at-empty c = c .before .before .before .before .before .before .before .before .before .before .before
 
 -- the map at the head of the loop
 abbrev at-head : tie.At-loop Inv-loop μ-loop → Map
 at-head l =
-    map-of (l .loop .xs) (l .loop .ys) (l .loop .helpers) (l .loop .edge) (l .loop .count) (l .loop .reference)
+    map-of (l .loop .xs) (l .loop .ys) (l .loop .helpers) (l .loop .edge) (l .loop .arrivals) (l .loop .lefts)
+    (l .loop .rights) (l .loop .count) (l .loop .reference)
 
 -- where an iteration begins, and the point that is accepted there
 abbrev in-loop : tie.After-grow Inv-loop μ-loop → tie.Then1 Inv-loop μ-loop
-in-loop c = c .before .before .before .before .before .before
+in-loop c = c .before .before .before .before .before .before .before .before .before
 
 more : (c : tie.Then1 Inv-loop μ-loop) → c .before .before .loop .stop .ended ≡ false
 more c = not-true _ (c .if1 .taken)
@@ -57,7 +59,8 @@ abbrev grown : tie.After-grow Inv-loop μ-loop → Map
 grown c =
     let last = c .grow .last in
     let l = in-loop c .before .before in
-    map-of (last .0) (last .1 .0) (last .1 .1 .0) (last .1 .1 .1 .0) (l .loop .count + 1) (c .grow .result .reference)
+    map-of (last .0) (last .1 .0) (last .1 .1 .0) (last .1 .1 .1 .0) (last .1 .1 .1 .1 .0) (last .1 .1 .1 .1 .1 .0)
+    (last .1 .1 .1 .1 .1 .1 .0) (l .loop .count + 1) (c .grow .result .reference)
 
 grown-sound : (c : tie.After-grow Inv-loop μ-loop) → Shaped (grown c)
 grown-sound c =
@@ -91,11 +94,11 @@ grown-hashed c =
 
 -- no hash is set at first
 unhashed : (c : tie.After-no-hashes Inv-loop μ-loop) →
-    let m = c .before .before .before .before .before .empty-map .result in
+    let m = c .before .before .before .before .before .before .before .before .empty-map .result in
     AllHashed (m .xs) (m .ys) (m .count) (c .no-hashes .result)
 unfolding empty-map
 unhashed c =
-    rw (c .before .before .before .before .before .empty-map .ensures) (none-hashed _ _ (c .no-hashes .ensures))
+    rw (c .before .before .before .before .before .before .before .before .empty-map .ensures) (none-hashed _ _ (c .no-hashes .ensures))
 
 -- .. and nothing decided
 begun : (c : tie.After-empty-map Inv-loop μ-loop) →
@@ -115,7 +118,7 @@ loop-holds c =
     (c .refuse-lines .ensures .stops (at-empty (c .before .before) .empty-map .result) (begun (at-empty (c .before .before))), unhashed (c .before .before .before .before .before))
 
 grow-requires : tie.Need-grow-requires Inv-loop μ-loop
-grow-requires c κs = accepted (c .before .before .before .before .before)
+grow-requires c κs = accepted (c .before .before .before .before .before .before .before .before)
 
 add-count : tie.Need-add-count Inv-loop μ-loop
 add-count c = omega (arith, accepted (in-loop c) .room)

@@ -12,6 +12,7 @@ use Rattle.model.specs.declared.Map.{Map}
 use Rattle.model.specs.Maps.{with-coordinates}
 use Rattle.survey.specs.declared.lines.Read.{Read}
 use Rattle.survey.specs.Places.{at-end, next-line}
+use Rattle.hull.proofs.Sound.{sound-shaped}
 use Rattle.hull.proofs.Admissions.{whole-places}
 use Rattle.reports.specs.Deciding.{Reports}
 use Rattle.reports.proofs.Verdicts.{refusal-packable}
@@ -51,7 +52,7 @@ there c = sym (c .before .at-end .ensures) ∙ not-true _ (c .if1 .taken)
 
 verdict-on-requires : tie.Need-verdict-on-requires Inv-loop μ-loop
 verdict-on-requires c κs =
-    let l = in-loop c .before .before in (whole-places (report l .is-sound), l .before .before .before .pre .all-hashed)
+    let l = in-loop c .before .before in (whole-places (sound-shaped _ (report l .is-sound)), l .before .before .before .pre .all-hashed)
 
 returns : tie.Need-returns Inv-loop μ-loop
 returns c =

@@ -1,40 +1,40 @@
--- `saved::reading::coordinates_in` meets its contract: the loop fills every place with the
--- coordinate of its point in the direction.
+-- `saved::reading::coordinates_in` meets its contract: the loop fills the place of every point with its
+-- coordinate in the direction.
 use borrow.Author.Needs.{needs}
 use mathlib.Core.Path.{_∙_}
-use Prim.Native.Nat.{_+_, _-_, _*_}
+use Prim.Native.Nat.{_+_, _-_, _*_, _≤_}
 use native.Mathlib.Omega.{arith}
 use mir.Syntax.{w64}
 use mir.Val.{toZ, ofZ}
 use mir.ValLaws.{toZ-ofZ}
-use lib.IntN.{ℤ, pos}
-use lib.ListN.{length-replicate}
+use lib.IntN.{pos}
 use Rattle.model.specs.Maps.{point-limit}
-use Rattle.finite.specs.Loops.{Filled, none-filled, one-filled, all-filled}
-use Rattle.model.specs.Saved.{coordinate-in-file, until}
+use Rattle.model.specs.Saved.{coordinate-in-file}
+use Rattle.saved.proofs.Tables.{Begun, none-begun, one-begun, all-begun}
 use Rattle.saved.proofs.reading.coordinates_in.Statement.{statement}
 use Rattle.saved.proofs.reading.coordinates_in.Tie as tie
 
 abbrev Inv-loop : tie.InvT-loop
 Inv-loop file count direction coordinates₀ k₀ coordinates k =
-    Filled (until count (λ j. coordinate-in-file file (2 * j + direction)) (λ j. pos 0)) (pos 0)
-    point-limit k coordinates
+    Begun (λ j. coordinate-in-file file (2 * j + direction)) (pos 0) point-limit k coordinates × (k ≤ count)
 
 abbrev μ-loop : tie.MeasureT-loop
-μ-loop file count direction coordinates₀ k₀ coordinates k = point-limit - k
+μ-loop file count direction coordinates₀ k₀ coordinates k = count - k
 
 loop-holds : tie.Need-loop-holds Inv-loop μ-loop
-loop-holds c = none-filled (length-replicate {A = ℤ} point-limit (pos 0))
+loop-holds c = (none-begun _ (pos 0) point-limit, omega arith)
 
 loop-again : tie.Need-loop-again Inv-loop μ-loop
 loop-again c =
     let s = c .before .before .loop in
-    let found = c .coordinate-in .result in
-    one-filled (s .k) (s .inv) (omega arith) (toZ w64 (ofZ w64 found))
-    (toZ-ofZ w64 found (record { sfits = c .coordinate-in .ok }) ∙ c .coordinate-in .ensures)
+    let found = c .coordinate-in .result in (
+      one-begun (s .inv .0) (omega arith) (toZ w64 (ofZ w64 found))
+          (toZ-ofZ w64 found (record { sfits = c .coordinate-in .ok }) ∙ c .coordinate-in .ensures),
+      omega arith,
+    )
 
 returns : tie.Need-returns Inv-loop μ-loop
-returns c = all-filled (c .before .loop .k) (c .before .loop .inv) (omega arith)
+returns c = let s = c .before .loop in all-begun (s .inv .0) _ (omega (arith, s .inv .1))
 
 pub coordinates-in-spec : {M : Type 1} → statement M
 coordinates-in-spec =

@@ -3,6 +3,7 @@
 use layout::VERSION;
 use layout::is_in_form;
 use layout::saved_length;
+use loading::map_of;
 use maps::empty_map;
 use model::Loaded;
 use model::Map;
@@ -10,7 +11,6 @@ use model::Outcome;
 use model::Refusal;
 use model::Written;
 use saved::write_map;
-use soundness::files::map_of;
 use soundness::is_sound;
 ghost use mathlib.Core.List.{[], _∷_};
 ghost use Rattle.model.specs.Answers.{Answered};

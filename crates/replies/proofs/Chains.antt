@@ -29,8 +29,8 @@ use Rattle.hull.proofs.Offers.{sound-kept}
 use Rattle.hull.proofs.History.{run-sound}
 use Rattle.layout.proofs.Form.{is-saved}
 use Rattle.saved.proofs.Files.{saved-in-form, map-back}
-use Rattle.soundness.specs.Rebuilding.{served}
-use Rattle.soundness.proofs.Saving.{load-of-save}
+use Rattle.loading.specs.Opening.{served}
+use Rattle.loading.proofs.Saving.{load-of-save}
 use Rattle.model.specs.Lent.{and-short, is-short}
 use Rattle.replies.specs.Opened.{of-file}
 use Rattle.replies.specs.Replies.{Offering, meaning-of, arrival-told}

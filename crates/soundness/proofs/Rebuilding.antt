@@ -1,8 +1,7 @@
--- What a loop tells that offers points anew (hull/proofs/Taking): where all were accepted, and where one was refused;
--- and the answer on the map of a file.
-use mathlib.Core.Path.{_≡_, ap, _∙_}
-use mathlib.Core.Bool.{Bool, true, false, not}
-use mathlib.Core.List.{List, []}
+-- What a loop tells that offers points anew (hull/proofs/Taking): where all were accepted, and where one was refused.
+use mathlib.Core.Path.{_≡_, _∙_}
+use mathlib.Core.Bool.{Bool, true, false}
+use mathlib.Core.List.{List}
 use Prim.Native.Nat.{ℕ, _≤_}
 use native.Mathlib.Omega.{arith}
 use lib.IntN.{pos}
@@ -16,12 +15,9 @@ use Rattle.finite.specs.Bounded.{table}
 use Rattle.orbits.specs.Sets.{dart-limit}
 use Rattle.model.specs.Maps.{point-limit, no-dart, empty-map, map-of}
 use Rattle.model.specs.Building.{building-rules}
-use Rattle.model.specs.Sound.{sound}
-use Rattle.model.specs.Reading.{unsound}
-use Rattle.model.specs.Saved.{map-in}
-use Rattle.model.proofs.Answers.{unless-none, served-none, rule-applies, rule-passes, no-rule}
+use Rattle.model.proofs.Answers.{unless-none, served-none}
 use Rattle.hull.proofs.Taking.{Taking, all-served, all-built}
-use Rattle.soundness.specs.Rebuilding.{served, refused, not-sound, Rebuilds, opened}
+use Rattle.soundness.specs.Rebuilding.{Rebuilds}
 
 pub rebuilt-whole : {ps : List Point} {k : ℕ} {m : Map} {hashes : List Bool} → Taking ps k m hashes → length ps ≤ k →
     Rebuilds ps true m
@@ -49,13 +45,3 @@ pub empty-arrays : {edge : List ℕ} → edge ≡ table dart-limit (λ d. d) →
     (replicate point-limit 0) (replicate point-limit no-dart) (replicate point-limit no-dart) 0 no-dart ≡ empty-map
 unfolding empty-map
 empty-arrays e = rw e
-
--- ---- the map of a file
-
-module _ (s : List ℕ) where
-  pub opened-sound : sound (map-in s) ≡ true → served (map-in s) ≡ opened s
-  opened-sound e =
-      rule-passes refused (unsound (map-in s)) [] (served (map-in s)) (ap not e) (no-rule refused (served (map-in s)))
-
-  pub opened-unsound : sound (map-in s) ≡ false → not-sound ≡ opened s
-  opened-unsound e = rule-applies refused (unsound (map-in s)) [] (served (map-in s)) (ap not e)

@@ -1,8 +1,5 @@
 // Whether a map is sound: its points are offered anew, one after another, and what they build is compared with it.
 
-pub mod comparing;
-pub mod files;
-
 use admission::hashes::admission_hashed;
 use admission::hashes::no_hashes;
 use admission::hashes::put_hash;

@@ -1,4 +1,4 @@
--- `soundness::files::read` meets its contract: where a point is refused the file's map is not sound, and else it is
+-- `loading::read` meets its contract: where a point is refused the file's map is not sound, and else it is
 -- where what the points build writes the file.
 use borrow.Author.Needs.{needs}
 use borrow.Author.Tests.{not-true, not-false}
@@ -20,10 +20,10 @@ use Rattle.model.specs.Building.{building-rules}
 use Rattle.model.specs.Sound.{sound}
 use Rattle.model.specs.Saved.{Bytes, count-in-file, coordinates-in-file, points-in-file, built-in-file, saved-in, saved-length, map-in}
 use Rattle.layout.proofs.Form.{Form, version-in-file, in-form-is}
 use Rattle.soundness.specs.Rebuilding.{Rebuilds}
-use Rattle.soundness.proofs.Saving.{points-free, map-built, anew-shaped, writes-decides}
-use Rattle.soundness.proofs.files.read.Statement.{statement}
-use Rattle.soundness.proofs.files.read.Tie as tie
+use Rattle.loading.proofs.Saving.{points-free, map-built, anew-shaped, writes-decides}
+use Rattle.loading.proofs.read.Statement.{statement}
+use Rattle.loading.proofs.read.Tie as tie
 
 form : (s : tie.Start) → Form (version-in-file (now (s .args .file))) (now (s .args .file))
 form s = in-form-is (now (s .args .file)) (s .pre .0 .0) .1

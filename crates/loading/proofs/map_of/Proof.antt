@@ -1,4 +1,4 @@
--- `soundness::files::map_of` meets its contract: one map is made of the arrays, where it is the file's.
+-- `loading::map_of` meets its contract: one map is made of the arrays, where it is the file's.
 use borrow.Author.Needs.{needs}
 use borrow.Author.Tests.{not-true, not-false}
 use mathlib.Core.Path.{sym, ap, _∙_}
@@ -9,10 +9,11 @@ use Rattle.model.specs.declared.Outcome.{Outcome}
 use Rattle.model.specs.declared.Map.{Map}
 use Rattle.model.specs.declared.Loaded.{Loaded}
 use Rattle.layout.proofs.Form.{in-form-is}
-use Rattle.soundness.specs.Rebuilding.{served}
-use Rattle.soundness.proofs.Rebuilding.{empty-arrays, opened-sound, opened-unsound}
-use Rattle.soundness.proofs.files.map_of.Statement.{statement}
-use Rattle.soundness.proofs.files.map_of.Tie as tie
+use Rattle.loading.specs.Opening.{served}
+use Rattle.soundness.proofs.Rebuilding.{empty-arrays}
+use Rattle.loading.proofs.Opening.{opened-sound, opened-unsound}
+use Rattle.loading.proofs.map_of.Statement.{statement}
+use Rattle.loading.proofs.map_of.Tie as tie
 
 number-at-requires : tie.Need-number-at-requires
 number-at-requires c κs =

@@ -1,4 +1,4 @@
--- `soundness::files::writes` meets its contract: the front of what was written is the map's file.
+-- `loading::writes` meets its contract: the front of what was written is the map's file.
 use borrow.Author.Needs.{needs}
 use mathlib.Core.Path.{_≡_, sym, ap, _∙_}
 use mathlib.Core.List.{List}
@@ -14,8 +14,8 @@ use Rattle.model.specs.Maps.{map-lent}
 use Rattle.model.specs.Saved.{saved-in, saved-length}
 use Rattle.layout.proofs.Form.{notes-short}
 use Rattle.saved.proofs.Places.{length-saved-in}
-use Rattle.soundness.proofs.files.writes.Statement.{statement}
-use Rattle.soundness.proofs.files.writes.Tie as tie
+use Rattle.loading.proofs.writes.Statement.{statement}
+use Rattle.loading.proofs.writes.Tie as tie
 
 -- a file fits
 fits : (s : tie.Start) → saved-length (s .args .version) (s .args .count) ≤ 9225

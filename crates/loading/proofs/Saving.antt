@@ -31,7 +31,7 @@ use Rattle.maps.proofs.Empty.{empty-sound}
 use Rattle.layout.proofs.Form.{IsVersion, version-small, version-in-file, in-form-is}
 use Rattle.saved.proofs.Places.{version-read}
 use Rattle.saved.proofs.Files.{saved-in-form, map-back, file-back, points-in}
-use Rattle.soundness.specs.Rebuilding.{served}
+use Rattle.loading.specs.Opening.{served}
 use Rattle.hull.proofs.Building.{built-shaped}
 use Rattle.hull.proofs.Sound.{built-sound, sound-shaped}
 

@@ -1,11 +1,11 @@
--- `soundness::comparing::same_tests` meets its contract: the loop compares every place.
+-- `comparing::same_tests` meets its contract: the loop compares every place.
 use borrow.Author.Needs.{needs}
 use Prim.Native.Nat.{_-_}
 use native.Mathlib.Omega.{arith}
 use mathlib.Core.Bool.{false, Bool·beq}
-use Rattle.soundness.proofs.Alike.{Comparing, different-lengths, none-compared, one-differs, one-alike, all-alike}
-use Rattle.soundness.proofs.comparing.same_tests.Statement.{statement}
-use Rattle.soundness.proofs.comparing.same_tests.Tie as tie
+use Rattle.comparing.proofs.Alike.{Comparing, different-lengths, none-compared, one-differs, one-alike, all-alike}
+use Rattle.comparing.proofs.same_tests.Statement.{statement}
+use Rattle.comparing.proofs.same_tests.Tie as tie
 
 abbrev Inv-loop : tie.InvT-loop
 Inv-loop a b k₀ k-end k = Comparing Bool·beq false a b k

@@ -1,4 +1,4 @@
--- `soundness::comparing::same_words` meets its contract: the loop compares every place.
+-- `comparing::same_numbers` meets its contract: the loop compares every place.
 use borrow.Author.Needs.{needs}
 use mathlib.Core.Path.{ap}
 use mathlib.Core.Bool.{not}
@@ -6,9 +6,9 @@ use Prim.Native.Nat.{_-_}
 use native.Mathlib.Omega.{arith}
 use borrow.Author.Tests.{eq-eqb, ne-eqb}
 use lib.Dec.{eqb}
-use Rattle.soundness.proofs.Alike.{Comparing, different-lengths, none-compared, one-differs, one-alike, all-alike}
-use Rattle.soundness.proofs.comparing.same_words.Statement.{statement}
-use Rattle.soundness.proofs.comparing.same_words.Tie as tie
+use Rattle.comparing.proofs.Alike.{Comparing, different-lengths, none-compared, one-differs, one-alike, all-alike}
+use Rattle.comparing.proofs.same_numbers.Statement.{statement}
+use Rattle.comparing.proofs.same_numbers.Tie as tie
 
 abbrev Inv-loop : tie.InvT-loop
 Inv-loop a b k₀ k-end k = Comparing eqb 0 a b k
@@ -32,8 +32,8 @@ loop-again c = one-alike (c .before .before .before .before .loop .inv) (ap not 
 returns-3 : tie.Need-returns-3 Inv-loop μ-loop
 returns-3 c = all-alike (c .before .loop .inv) (omega arith)
 
-pub same-words-spec : {M : Type 1} → statement M
-same-words-spec =
+pub same-numbers-spec : {M : Type 1} → statement M
+same-numbers-spec =
     tie.close
     (tie.spec
     Inv-loop

@@ -1,9 +1,7 @@
 // The map of a file: its points are offered anew, once, and what they build is written in the file's version and
 // compared with the file, byte by byte.
 
-use super::Anew;
-use super::comparing::same_bytes;
-use super::rebuild;
+use comparing::same_bytes;
 use layout::COUNT_PLACE;
 use layout::VERSION_PLACE;
 use layout::numbers::number_at;
@@ -18,6 +16,8 @@ use model::Refusal;
 use orbits::DART_LIMIT;
 use saved::reading::coordinates_in;
 use saved::write_arrays;
+use soundness::Anew;
+use soundness::rebuild;
 ghost use mathlib.Core.Path.{_≡_};
 ghost use lib.Dec.{T};
 ghost use lib.ListN.{length};
@@ -25,7 +25,7 @@ ghost use Rattle.finite.specs.Lists.{same-list};
 ghost use Rattle.model.specs.Maps.{empty-map, map-lent, no-dart};
 ghost use Rattle.model.specs.Shape.{Shaped};
 ghost use Rattle.model.specs.Saved.{count-in-file, file-in-form, saved-in, saved-length};
-ghost use Rattle.soundness.specs.Rebuilding.{Opens, opened};
+ghost use Rattle.loading.specs.Opening.{Opens, opened};
 
 // How many bytes a file has at most.
 const FILE_LIMIT: usize = 9225;

@@ -1,4 +1,4 @@
--- `soundness::comparing::same_coordinates` meets its contract: the loop compares every place, and equal bits are
+-- `comparing::same_coordinates` meets its contract: the loop compares every place, and equal bits are
 -- equal coordinates.
 use borrow.Author.Needs.{needs}
 use borrow.Author.Tests.{eq-eqb, ne-eqb}
@@ -13,9 +13,9 @@ use lib.IntN.{pos}
 use lib.ListN.{getD}
 use Rattle.integers.specs.Order.{eqZ}
 use Rattle.integers.specs.Range.{eqb-read}
-use Rattle.soundness.proofs.Alike.{Comparing, different-lengths, none-compared, one-differs, one-alike, all-alike}
-use Rattle.soundness.proofs.comparing.same_coordinates.Statement.{statement}
-use Rattle.soundness.proofs.comparing.same_coordinates.Tie as tie
+use Rattle.comparing.proofs.Alike.{Comparing, different-lengths, none-compared, one-differs, one-alike, all-alike}
+use Rattle.comparing.proofs.same_coordinates.Statement.{statement}
+use Rattle.comparing.proofs.same_coordinates.Tie as tie
 
 abbrev Inv-loop : tie.InvT-loop
 Inv-loop a b k₀ k-end k = Comparing eqZ (pos 0) a b k

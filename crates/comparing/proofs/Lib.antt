@@ -1,0 +1,3 @@
+-- Laws of lists that are compared. Nothing is assumed.
+--     Alike    a loop that compares two lists
+pub mod Alike

@@ -17,7 +17,7 @@ use lib.Dec.{T, eqb}
 use lib.ListN.{length, getD, set, drop, length-drop, length-set}
 use lib.Seq.{getD-drop, getD-set-same, getD-set-other, ext-getD}
 use Rattle.finite.specs.Tests.{of-true, same-test}
-use Rattle.finite.specs.Bounded.{all, table, all-at, all-by, below-suc, length-table, getD-table}
+use Rattle.finite.specs.Bounded.{all, table, all-at, all-by, below-suc, lt-or-ge, length-table, getD-table}
 use Rattle.finite.specs.Lists.{same-by, all-in, all-places, ring}
 use Rattle.finite.specs.ListLaws.{getD-any, all-in-at, all-in-by, all-places-at}
 use Rattle.finite.specs.ListLaws.{all-places-by, same-by-at, same-by-by}
@@ -162,6 +162,30 @@ module _ {A : Type 0} {f : ℕ → A} {d : A} {n : ℕ} {s : List A} where
   all-filled k p l =
       ext-getD d s (table n f) (p .whole ∙ sym (length-table n f))
       (λ j b. p .so-far j (omega (arith, p .whole)) ∙ sym (getD-table n f j d (omega (arith, p .whole))))
+
+-- the same, where the places from m on hold what f says before the loop begins
+pub record FilledFront {A : Type 0} (f : ℕ → A) (d : A) (n m k : ℕ) (s : List A) : Type 0 where
+  pub front : Filled f d n k s
+  pub rest : (j : ℕ) → m ≤ j → j < n → getD s j d ≡ f j
+
+module _ {A : Type 0} {f : ℕ → A} {d : A} {n m : ℕ} {s : List A} where
+  pub none-in-front : length s ≡ n → ((j : ℕ) → m ≤ j → j < n → getD s j d ≡ f j) → FilledFront f d n m 0 s
+  none-in-front e held = record { front = none-filled e; rest = held }
+
+  pub one-in-front : (k : ℕ) → FilledFront f d n m k s → k < m → m ≤ n → (v : A) → v ≡ f k →
+      FilledFront f d n m (k + 1) (set s k v)
+  one-in-front k p l h v e =
+      record {
+        front = one-filled k (p .front) (omega arith) v e;
+        rest = λ j b i. getD-set-other s k j v d (λ (q : j ≡ k). omega arith) ∙ p .rest j b i;
+      }
+
+  pub all-in-front : (k : ℕ) → FilledFront f d n m k s → m ≤ k → Filled f d n n s
+  all-in-front k p l =
+      record {
+        whole = p .front .whole;
+        so-far = λ j b. ⊎-elim (p .front .so-far j) (λ (h : k ≤ j). p .rest j (omega arith) b) (lt-or-ge j k);
+      }
 
 -- ---- loops round the corners of a ring
 

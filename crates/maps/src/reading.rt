@@ -8,7 +8,7 @@ ghost use lib.IntN.{pos};
 ghost use lib.ListN.{getD};
 ghost use Rattle.orbits.specs.Links.{link-of, test-of};
 ghost use Rattle.model.specs.Outline.{next-by, previous-by};
-ghost use Rattle.model.specs.Maps.{point-at, point-link-by, present-by};
+ghost use Rattle.model.specs.Maps.{point-at, present-by};
 
 // Whether point k has a helper dart.
 pub fn has_helper(helpers: &[bool], k: usize) -> bool
@@ -25,17 +25,6 @@ pub fn is_present(helpers: &[bool], count: usize, d: usize) -> bool
         d % 2 == 0 || has_helper(helpers, d / 2)
     } else {
         false
-    }
-}
-
-// The point link of dart d.
-pub fn point_link(helpers: &[bool], d: usize) -> usize
-    ensures { λ r. ⌜ r ≡ point-link-by (test-of (now (helpers .entry))) d ⌝ }
-{
-    if has_helper(helpers, d / 2) {
-        if d % 2 == 0 { d + 1 } else { d - 1 }
-    } else {
-        d
     }
 }
 

@@ -1,17 +1,18 @@
 // What is read from a sound map dart by dart: the orbit of a dart, the counts, the walk from a dart,
 // and a walker moved by a link of the map. The loops are lent arrays and copy no map.
 
-use super::arrays::point_links;
 use super::arrays::present_darts;
+use super::arrays::put_point_links;
 use super::reading::is_present;
 use model::Counts;
 use model::Kind;
 use model::Link;
 use model::Map;
+use orbits::DART_LIMIT;
 use orbits::DartSet;
 use orbits::Walk;
 use orbits::Walker;
-use orbits::composed;
+use orbits::compose;
 use orbits::orbit;
 use orbits::orbit_count;
 use orbits::part;
@@ -32,16 +33,18 @@ pub fn orbit_of(m: Map, kind: Kind, d: usize) -> DartSet
     requires { ⌜ Shaped m × T (is-present m d) ⌝ }
     ensures { λ r. ⌜ r ≡ orbit-set m kind d ⌝ }
 {
-    let edge = m.edge;
-    let point = point_links(&m.helpers);
+    let n = m.count;
+    let mut point = [0usize; DART_LIMIT];
+    put_point_links(&m.helpers, &mut point);
     match kind {
-        Kind::Edge => orbit(&edge, d),
+        Kind::Edge => orbit(&m.edge, d),
         Kind::Vertex => orbit(&point, d),
         Kind::Face => {
-            let face = composed(&edge, &point);
+            let mut face = point;
+            compose(&m.edge, &point, 2 * n, &mut face);
             orbit(&face, d)
         }
-        Kind::Part => part(&edge, &point, d),
+        Kind::Part => part(&m.edge, &point, d),
     }
 }
 
@@ -52,13 +55,14 @@ pub fn counts_of(m: Map) -> Counts
     ensures { λ r. ⌜ r ≡ counts m ⌝ }
 {
     let n = m.count;
-    let edge = m.edge;
-    let point = point_links(&m.helpers);
-    let face = composed(&edge, &point);
+    let mut point = [0usize; DART_LIMIT];
+    put_point_links(&m.helpers, &mut point);
+    let mut face = point;
+    compose(&m.edge, &point, 2 * n, &mut face);
     let present = present_darts(&m.helpers, n);
     let darts = dart_count(&m.helpers, n);
     let vertices = orbit_count(&point, 2 * n, &present);
-    let edges = orbit_count(&edge, 2 * n, &present);
+    let edges = orbit_count(&m.edge, 2 * n, &present);
     let faces = orbit_count(&face, 2 * n, &present);
     Counts {
         darts,
@@ -87,9 +91,10 @@ pub fn walk_of(m: Map, d: usize) -> Walk
     ensures { λ r. ⌜ r ≡ walk (edge-link m) (point-link m) (darts m) d ⌝ }
 {
     let n = m.count;
-    let edge = m.edge;
-    let point = point_links(&m.helpers);
-    walk(&edge, &point, dart_count(&m.helpers, n), d)
+    let mut point = [0usize; DART_LIMIT];
+    put_point_links(&m.helpers, &mut point);
+    let darts = dart_count(&m.helpers, n);
+    walk(&m.edge, &point, darts, d)
 }
 
 // A walker moved by a link of the map, or by none.
@@ -114,6 +119,7 @@ fn moved_by_edge(m: Map, walker: Walker) -> Walker
 fn moved_by_point(m: Map, walker: Walker) -> Walker
     ensures { λ r. ⌜ r ≡ walker-at (point-link m (walker .dart)) ⌝ }
 {
-    let point = point_links(&m.helpers);
+    let mut point = [0usize; DART_LIMIT];
+    put_point_links(&m.helpers, &mut point);
     walker.moved(&point)
 }

@@ -11,7 +11,7 @@ use Rattle.finite.specs.Bounded.{lt-or-ge}
 use Rattle.finite.specs.ListLaws.{getD-any}
 use Rattle.finite.specs.Loops.{Filled}
 use Rattle.orbits.specs.Sets.{dart-limit}
-use Rattle.orbits.specs.Links.{link-of, _then_, Composed, Permutes, Permutation, Permuted}
+use Rattle.orbits.specs.Links.{link-of, _then_, Composable, Composed, Permutes, Permutation, Permuted}
 use Rattle.orbits.proofs.Permutations.{compose-permutes}
 
 module _ (s : List ℕ) (whole : length s ≡ dart-limit) where
@@ -21,6 +21,14 @@ module _ (s : List ℕ) (whole : length s ≡ dart-limit) where
 
   pub link-past : (d : ℕ) → dart-limit ≤ d → d ≡ link-of s d
   link-past d h = sym (List·getD-eq-default s d {n = d} (omega arith))
+
+-- from where f moves nothing on, a list that holds g holds the links of f and then g
+pub composable-rest : {f g both : List ℕ} {n : ℕ} → Composable f g n both → (j : ℕ) → n ≤ j → j < dart-limit →
+    getD both j 0 ≡ (link-of f then link-of g) j
+composable-rest {f} {g} c j h l =
+    ap (λ (s : List ℕ). getD s j 0) (c .begun)
+    ∙ link-read g (c .second-whole) j l
+    ∙ ap (link-of g) (sym (c .fixed j h))
 
 -- a list filled with the links of f and then g is their composition
 pub filled-composed : {f g h : List ℕ} {k : ℕ} → length f ≡ dart-limit → length g ≡ dart-limit →

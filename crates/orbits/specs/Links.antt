@@ -29,6 +29,14 @@ pub record Composed (f g h : List ℕ) : Type 0 where
   pub whole : length h ≡ dart-limit
   pub leads : link-of h ≡ link-of f then link-of g
 
+-- the links of f and g, of which f moves nothing from n on, beside a list that holds g
+pub record Composable (f g : List ℕ) (n : ℕ) (both : List ℕ) : Type 0 where
+  pub first-whole : length f ≡ dart-limit
+  pub second-whole : length g ≡ dart-limit
+  pub within : n ≤ dart-limit
+  pub fixed : (d : ℕ) → n ≤ d → link-of f d ≡ d
+  pub begun : both ≡ g
+
 -- lists for all darts, whose links lead from d to darts alone
 pub record Followable (f g : List ℕ) (d : ℕ) : Type 0 where
   pub first-whole : length f ≡ dart-limit

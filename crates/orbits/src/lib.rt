@@ -9,7 +9,7 @@ ghost use Rattle.orbits.specs.Reach.{by-one, by-two, reaches, StaysBelow
 ghost use Rattle.orbits.specs.Classes.{classes};
 ghost use Rattle.orbits.specs.Sets.{dart-limit, set-of, no-darts, has, with-dart};
 ghost use Rattle.orbits.specs.Walks.{walker-at};
-ghost use Rattle.orbits.specs.Links.{link-of, test-of, Composed, Followable, Permuted};
+ghost use Rattle.orbits.specs.Links.{link-of, test-of, Composable, Composed, Followable, Permuted};
 
 // Darts are numbered 0 to 1,023.
 pub const DART_LIMIT: usize = 1024;
@@ -119,18 +119,19 @@ pub fn link_of(links: &[usize], d: usize) -> usize
     if d < links.len() { links[d] } else { d }
 }
 
-// The link "f, then g".
-pub fn composed(f: &[usize; DART_LIMIT], g: &[usize; DART_LIMIT]) -> [usize; DART_LIMIT]
-    requires { ⌜ (length (now f) ≡ dart-limit) × (length (now g) ≡ dart-limit) ⌝ }
-    ensures { λ r. ⌜ Composed (now (f .entry)) (now (g .entry)) r ⌝ }
+// Makes the link g, which `both` holds, the link "f, then g". From n on f moves nothing, and g is both.
+pub fn compose(
+    f: &[usize; DART_LIMIT],
+    g: &[usize; DART_LIMIT],
+    n: usize,
+    both: &mut [usize; DART_LIMIT],
+)
+    requires { ⌜ Composable (now f) (now g) n (now both) ⌝ }
+    ensures { λ _. ⌜ Composed (now (f .entry)) (now (g .entry)) (now (both .exit)) ⌝ }
 {
-    let mut both = [0usize; DART_LIMIT];
-    let mut d = 0;
-    while d < DART_LIMIT {
+    for d in 0..n {
         both[d] = link_of(g, link_of(f, d));
-        d += 1;
     }
-    both
 }
 
 // The connected part of dart d: all that is reached from it by the links f and g.

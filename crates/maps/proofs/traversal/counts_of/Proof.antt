@@ -8,7 +8,7 @@ use mathlib.Core.List.{List}
 use Prim.Native.Nat.{ℕ, _+_, _-_, _*_, _/_, _≤_}
 use native.Mathlib.Omega.{arith}
 use lib.ListN.{length}
-use Rattle.finite.specs.Bounded.{table}
+use Rattle.finite.specs.Bounded.{table, length-table}
 use Rattle.finite.specs.Counting.{count-small}
 use Rattle.orbits.specs.Reach.{by-one}
 use Rattle.orbits.specs.Sets.{dart-limit}
@@ -17,24 +17,18 @@ use Rattle.orbits.specs.Links.{Permuted, link-of, test-of}
 use Rattle.orbits.proofs.Links.{permuted-first, permuted-second, permuted-composed}
 use Rattle.model.specs.declared.Kind.{Kind}
 use Rattle.model.specs.declared.Map.{Map}
-use Rattle.model.specs.Maps.{point-limit, has-helper, is-present, edge-link, point-link, face-link, dart-bound}
+use Rattle.model.specs.Maps.{has-helper, is-present, edge-link, point-link, face-link, dart-bound}
 use Rattle.model.specs.Reading.{links-of, number-of, darts, counts}
 use Rattle.model.specs.Shape.{Shaped}
 use Rattle.maps.proofs.Links.{sound-linked, edge-involutes, counts-balance}
-use Rattle.maps.proofs.Tables.{point-table, present-table, tables-permuted}
+use Rattle.maps.proofs.Tables.{point-table, present-table, composable, tables-permuted}
 use Rattle.maps.proofs.traversal.counts_of.Statement.{statement}
 use Rattle.maps.proofs.traversal.counts_of.Tie as tie
 
--- where the lists are filled
-module _ (c : tie.After-present-darts) where
-  abbrev composed : tie.After-composed
-  composed = c .before .before .before .before
-
-  abbrev filled : tie.After-point-links
-  filled = composed .before .before .before
-
+-- where the point links are written
+module _ (c : tie.After-put-point-links) where
   abbrev start : tie.Start
-  start = filled .before .before .before .before .before
+  start = c .before .before .before .before
 
   abbrev map : Map
   map = start .args .t1
@@ -42,44 +36,69 @@ module _ (c : tie.After-present-darts) where
   abbrev sound : Shaped map
   sound = start .pre
 
-  helpers-whole : length (map .helpers) ≡ point-limit
-  helpers-whole = search needs
+  abbrev point : List ℕ
+  point = c .put-point-links .last .1 .0
 
-  edge-whole : length (map .edge) ≡ dart-limit
-  edge-whole = search needs
-
-  points-are : filled .point-links .result ≡ table dart-limit (point-link map)
+  points-are : point ≡ table dart-limit (point-link map)
   unfolding point-link has-helper
-  points-are = filled .point-links .ensures
+  points-are = c .put-point-links .ensures
 
-  presence-is : c .present-darts .result ≡ table dart-limit (is-present map)
+  points-whole : length point ≡ dart-limit
+  points-whole = ap length points-are ∙ length-table dart-limit (point-link map)
+
+  points : link-of point ≡ point-link map
+  points = ap link-of points-are ∙ point-table map (sound .links .helpers-whole)
+
+-- where the links of the faces are made of them
+abbrev at-points : tie.After-face → tie.After-put-point-links
+at-points c = c .before .before .before .before
+
+mul-compose : tie.Need-mul-compose
+mul-compose c = omega (arith, sound (c .before .before .before) .links .fits)
+
+compose-requires : tie.Need-compose-requires
+compose-requires c κs = let a = at-points c in composable (map a) (sound a) (points-whole a)
+
+-- where all lists are filled
+module _ (c : tie.After-present-darts) where
+  abbrev composed : tie.After-compose
+  composed = c .before .before .before .before
+
+  abbrev filled : tie.After-put-point-links
+  filled = at-points (composed .before)
+
+  abbrev m : Map
+  m = map filled
+
+  abbrev face : List ℕ
+  face = composed .compose .last .1 .1 .1 .0
+
+  presence-is : c .present-darts .result ≡ table dart-limit (is-present m)
   unfolding is-present has-helper
   presence-is = c .present-darts .ensures
 
-  points : link-of (filled .point-links .result) ≡ point-link map
-  points = ap link-of points-are ∙ point-table map helpers-whole
-
-  faces : link-of (composed .composed .result) ≡ face-link map
+  faces : link-of face ≡ face-link m
   unfolding face-link edge-link
-  faces = composed .composed .ensures .leads ∙ (λ i d. points i (edge-link map d))
+  faces = composed .compose .ensures .leads ∙ (λ i d. points filled i (edge-link m d))
 
-  presence : test-of (c .present-darts .result) ≡ is-present map
-  presence = ap test-of presence-is ∙ present-table map (sound .links .fits)
+  presence : test-of (c .present-darts .result) ≡ is-present m
+  presence = ap test-of presence-is ∙ present-table m (sound filled .links .fits)
 
-  permuted : Permuted (dart-bound map) (test-of (c .present-darts .result)) (map .edge) (filled .point-links .result)
+  permuted : Permuted (dart-bound m) (test-of (c .present-darts .result)) (m .edge) (point filled)
   permuted =
-      subst (λ (p : List Bool). Permuted (dart-bound map) (test-of p) (map .edge) (filled .point-links .result))
+      subst (λ (p : List Bool). Permuted (dart-bound m) (test-of p) (m .edge) (point filled))
       (sym presence-is)
-      (subst (λ (g : List ℕ). Permuted (dart-bound map) (test-of (table dart-limit (is-present map))) (map .edge) g)
-      (sym points-are)
-      (tables-permuted map helpers-whole edge-whole (sound .links .fits) (edge-involutes (sound-linked sound))))
+      (subst (λ (g : List ℕ). Permuted (dart-bound m) (test-of (table dart-limit (is-present m))) (m .edge) g)
+      (sym (points-are filled))
+      (tables-permuted m (sound filled .links .helpers-whole) (sound filled .links .edge-whole) (sound filled .links .fits)
+      (edge-involutes (sound-linked (sound filled)))))
 
 -- the same from where the orbits of each link are counted: points, edges, faces
 abbrev from-points : tie.After-present → tie.After-present-darts
 from-points c = c .before .before .before .before .before .before
 
 abbrev from-edges : tie.After-present2 → tie.After-present-darts
-from-edges c = from-points (c .before .before .before)
+from-edges c = from-points (c .before .before .before .before)
 
 abbrev from-faces : tie.After-present3 → tie.After-present-darts
 from-faces c = from-edges (c .before .before .before)
@@ -91,11 +110,11 @@ orbit-count-requires-2 : tie.Need-orbit-count-requires-2
 orbit-count-requires-2 c κs = permuted-first (permuted (from-edges c))
 
 mul-orbit-count-3 : tie.Need-mul-orbit-count-3
-mul-orbit-count-3 c = record { fits = omega (arith, sound (from-edges (c .before .before)) .links .fits) }
+mul-orbit-count-3 c = omega (arith, sound (filled (from-edges (c .before .before))) .links .fits)
 
 orbit-count-requires-3 : tie.Need-orbit-count-requires-3
 orbit-count-requires-3 c κs =
-    let a = from-faces c in permuted-composed (permuted a) (composed a .composed .ensures)
+    let a = from-faces c in permuted-composed (permuted a) (composed a .compose .ensures)
 
 -- the numbers that are counted
 module _ (c : tie.After-orbit-count3) where
@@ -106,48 +125,48 @@ module _ (c : tie.After-orbit-count3) where
   second = c .before .before .before
 
   abbrev first : tie.After-orbit-count
-  first = second .before .before .before
+  first = second .before .before .before .before
 
-  abbrev m : Map
-  m = map lists
+  abbrev counted : Map
+  counted = m lists
 
-  darts-are : first .before .before .before .dart-count .result ≡ darts m
+  darts-are : first .before .before .before .dart-count .result ≡ darts counted
   unfolding darts is-present has-helper
   darts-are = first .before .before .before .dart-count .ensures
 
-  vertices-are : first .orbit-count .result ≡ number-of m Kind.Vertex
+  vertices-are : first .orbit-count .result ≡ number-of counted Kind.Vertex
   unfolding number-of links-of
   vertices-are =
-      first .orbit-count .ensures ∙ (λ i. classes (by-one (points lists i)) (dart-bound m) (presence lists i))
+      first .orbit-count .ensures ∙ (λ i. classes (by-one (points (filled lists) i)) (dart-bound counted) (presence lists i))
 
-  edges-are : second .orbit-count2 .result ≡ number-of m Kind.Edge
+  edges-are : second .orbit-count2 .result ≡ number-of counted Kind.Edge
   unfolding number-of links-of edge-link
   edges-are =
-      second .orbit-count2 .ensures ∙ (λ i. classes (by-one (edge-link m)) (dart-bound m) (presence lists i))
+      second .orbit-count2 .ensures ∙ (λ i. classes (by-one (edge-link counted)) (dart-bound counted) (presence lists i))
 
-  faces-are : c .orbit-count3 .result ≡ number-of m Kind.Face
+  faces-are : c .orbit-count3 .result ≡ number-of counted Kind.Face
   unfolding number-of links-of
   faces-are =
-      c .orbit-count3 .ensures ∙ (λ i. classes (by-one (faces lists i)) (dart-bound m) (presence lists i))
+      c .orbit-count3 .ensures ∙ (λ i. classes (by-one (faces lists i)) (dart-bound counted) (presence lists i))
 
   -- of each kind there are at most as many as places
-  few : (kind : Kind) → number-of m kind ≤ dart-limit
+  few : (kind : Kind) → number-of counted kind ≤ dart-limit
   unfolding number-of classes
   few kind =
       omega (
         arith,
-        count-small (dart-bound m) (λ a. is-present m a && is-least (links-of m kind) (dart-bound m) a),
-        sound lists .links .fits,
+        count-small (dart-bound counted) (λ a. is-present counted a && is-least (links-of counted kind) (dart-bound counted) a),
+        sound (filled lists) .links .fits,
       )
 
-  balanced : number-of m Kind.Vertex + number-of m Kind.Edge + number-of m Kind.Face ≡ darts m + 2 * number-of m Kind.Part
-  balanced = counts-balance (sound lists)
+  balanced : number-of counted Kind.Vertex + number-of counted Kind.Edge + number-of counted Kind.Face ≡ darts counted + 2 * number-of counted Kind.Part
+  balanced = counts-balance (sound (filled lists))
 
-add-t23 : tie.Need-add-t23
-add-t23 c = record { fits = omega (arith, vertices-are c, edges-are c, few c Kind.Vertex, few c Kind.Edge) }
+add-t17 : tie.Need-add-t17
+add-t17 c = record { fits = omega (arith, vertices-are c, edges-are c, few c Kind.Vertex, few c Kind.Edge) }
 
-add-t29 : tie.Need-add-t29
-add-t29 c =
+add-t30 : tie.Need-add-t30
+add-t30 c =
     record {
       fits =
           omega (
@@ -161,8 +180,8 @@ add-t29 c =
           );
     }
 
-sub-t30 : tie.Need-sub-t30
-sub-t30 c = omega (arith, darts-are c, vertices-are c, edges-are c, faces-are c, balanced c)
+sub-t31 : tie.Need-sub-t31
+sub-t31 c = omega (arith, darts-are c, vertices-are c, edges-are c, faces-are c, balanced c)
 
 returns : tie.Need-returns
 unfolding counts
@@ -173,7 +192,7 @@ returns c =
     let present = darts-are c in
     let parts :
     (first c .orbit-count .result + second c .orbit-count2 .result + c .orbit-count3 .result
-    - first c .before .before .before .dart-count .result) / 2 ≡ number-of (m c) Kind.Part =
+    - first c .before .before .before .dart-count .result) / 2 ≡ number-of (counted c) Kind.Part =
     omega (arith, balanced c) in
     λ i. record { darts = present i; vertices = vertices i; edges = edges i; faces = around i; parts = parts i }
 
@@ -182,7 +201,8 @@ counts-of-spec =
     tie.close
     (tie.spec
     (λ c κs. search needs)
-    (λ c κs. search needs)
+    mul-compose
+    compose-requires
     (λ c κs. search needs)
     (λ c κs. search needs)
     (λ c. search needs)
@@ -191,7 +211,7 @@ counts-of-spec =
     orbit-count-requires-2
     mul-orbit-count-3
     orbit-count-requires-3
-    add-t23
-    add-t29
-    sub-t30
+    add-t17
+    add-t30
+    sub-t31
     returns)

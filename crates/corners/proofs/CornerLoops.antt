@@ -7,57 +7,66 @@ use mathlib.Core.List.{List, [], _∷_, _++_, append-assoc, append-nil}
 use Prim.Native.Nat.{ℕ, zero, suc, _+_, _-_, _≤_, _<_}
 use native.Mathlib.Numerals.{add-one}
 use native.Mathlib.Omega.{arith}
+use lib.IntN.{ℤ}
 use lib.ListN.{length, take, set, replicate, length-replicate, length-set}
 use lib.Seq.{take-suc-set, length-take-le}
 use borrow.Author.Tests.{le-ltb}
 use Rattle.finite.specs.Bounded.{table}
 use Rattle.finite.specs.Lists.{ring}
 use Rattle.finite.specs.Rings.{ring-last, ring-more}
+use Rattle.orbits.specs.Links.{link-of}
 use Rattle.model.specs.declared.Map.{Map}
-use Rattle.model.specs.Maps.{point-limit, owner, point}
-use Rattle.model.specs.Outline.{next-corner, corners-from, outline, lowest-corner, corners}
+use Rattle.model.specs.Maps.{point-limit, owner, point, point-at, edge-link}
+use Rattle.model.specs.Outline.{next-by, next-corner, corners-from, outline, lowest-corner, corners}
 use Rattle.model.specs.Shape.{Shaped}
-use Rattle.corners.specs.Listing.{ListsCorners, lower-at}
-use Rattle.corners.proofs.Corners.{lowest-of, lowest-found, corners-lowest, few-listed}
+use Rattle.corners.specs.Listing.{ListsCorners, lower-at, lowest-of, lowest-round}
+use Rattle.corners.proofs.Corners.{lowest-found, corners-lowest, few-listed}
 
 -- ---- the lowest corner
 
-module _ (m : Map) where
+module _ (xs ys : List ℤ) (edge : List ℕ) (count start : ℕ) where
+  -- where an edge leads
+  abbrev next : ℕ → ℕ
+  next = next-by (link-of edge)
+
   -- the lower of `lowest` and of what is ahead, at most so many from corner a, is the lowest of all
   pub record Seeking (lowest a ahead : ℕ) : Type 0 where
-    pub so-far :
-        lowest-of (point m) lowest (ring (next-corner m) (owner (m .reference)) ahead a) ≡
-        lowest-of (point m) (owner (m .reference)) (outline m)
+    pub so-far : lowest-of (point-at xs ys) lowest (ring next start ahead a) ≡ lowest-round xs ys edge count start
 
-  pub seeking-first : {ahead : ℕ} → ahead ≡ m .count → 2 ≤ m .count →
-      Seeking (owner (m .reference)) (owner (m .reference)) ahead
-  unfolding outline corners-from
-  seeking-first all two = rw all (record { so-far = rw (le-ltb (m .count) 2 two) })
+  pub seeking-first : {ahead : ℕ} → ahead ≡ count → Seeking start start ahead
+  unfolding lowest-round
+  seeking-first all = rw all (record { so-far = refl })
 
   module _ {lowest lowest′ a b ahead : ℕ} (u : Seeking lowest a ahead) (more : 0 < ahead)
-      (l : lowest′ ≡ lower-at (m .xs) (m .ys) lowest a) (to : b ≡ next-corner m a) where
-    step : (on : ℕ) →
-        ring (next-corner m) (owner (m .reference)) ahead a ≡ a ∷ ring (next-corner m) (owner (m .reference)) on b →
-        Seeking lowest′ b on
-    unfolding lowest-of point
-    step on is = record { so-far = rw l (ap (lowest-of (point m) lowest) (sym is) ∙ u .so-far) }
+      (l : lowest′ ≡ lower-at xs ys lowest a) (to : b ≡ next a) where
+    step : (on : ℕ) → ring next start ahead a ≡ a ∷ ring next start on b → Seeking lowest′ b on
+    unfolding lowest-of
+    step on is = record { so-far = rw l (ap (lowest-of (point-at xs ys) lowest) (sym is) ∙ u .so-far) }
 
     -- the next corner is the first ..
-    pub seeking-last : b ≡ owner (m .reference) → Seeking lowest′ b 0
-    seeking-last e = step 0 (rw to (ring-last (next-corner m) (owner (m .reference)) ahead a more (sym to ∙ e)))
+    pub seeking-last : b ≡ start → Seeking lowest′ b 0
+    seeking-last e = step 0 (rw to (ring-last next start ahead a more (sym to ∙ e)))
 
     -- .. or another one
-    pub seeking-more : {on : ℕ} → on ≡ ahead - 1 → b ≢ owner (m .reference) → Seeking lowest′ b on
+    pub seeking-more : {on : ℕ} → on ≡ ahead - 1 → b ≢ start → Seeking lowest′ b on
     seeking-more one-less n =
-        rw one-less
-        (step (ahead - 1)
-        (rw to (ring-more (next-corner m) (owner (m .reference)) ahead a more (λ e. n (to ∙ e)))))
+        rw one-less (step (ahead - 1) (rw to (ring-more next start ahead a more (λ e. n (to ∙ e)))))
 
-  pub seeking-end : Shaped m → 2 ≤ m .count → {lowest a ahead : ℕ} → Seeking lowest a ahead → ahead ≤ 0 →
-      lowest ≡ lowest-corner m
+  pub seeking-end : {lowest a ahead : ℕ} → Seeking lowest a ahead → ahead ≤ 0 → lowest ≡ lowest-round xs ys edge count start
   unfolding ring lowest-of
-  seeking-end s two {lowest} {a} {ahead} u h =
-      let none : ahead ≡ 0 = omega arith in subst (Seeking lowest a) none u .so-far ∙ lowest-found s two
+  seeking-end {lowest} {a} {ahead} u h =
+      let none : ahead ≡ 0 = omega arith in subst (Seeking lowest a) none u .so-far
+
+-- from two points on the outline is what lies round from the reference's point ..
+outline-from : (m : Map) → 2 ≤ m .count → outline m ≡ corners-from m (owner (m .reference))
+unfolding outline
+outline-from m two = rw (le-ltb (m .count) 2 two)
+
+-- .. and the lowest there is the lowest corner of a sound map
+pub lowest-is : {m : Map} → Shaped m → 2 ≤ m .count →
+    lowest-round (m .xs) (m .ys) (m .edge) (m .count) (owner (m .reference)) ≡ lowest-corner m
+unfolding lowest-round point corners-from next-corner edge-link
+lowest-is {m} s two = ap (lowest-of (point m) (owner (m .reference))) (sym (outline-from m two)) ∙ lowest-found s two
 
 -- ---- the list
 

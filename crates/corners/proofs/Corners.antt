@@ -29,13 +29,9 @@ use Rattle.model.specs.Shape.{Shaped}
 use Rattle.plane.proofs.Heights.{lower-asym, lower-trans, lower-or-same, not-lower-trans}
 use Rattle.maps.proofs.Circuits.{Circuit, Edge, edge-next, circuit-rotate, circuit-corners}
 use Rattle.maps.proofs.Outline.{outline-circuit, outline-first}
+use Rattle.corners.specs.Listing.{lowest-of}
 
 -- ---- the lowest of a list of points
-
--- x, or a member that is lower than all before it
-unfoldable pub lowest-of : (ℕ → Point) → ℕ → List ℕ → ℕ
-lowest-of P x [] = x
-lowest-of P x (a ∷ s) = lowest-of P (cond (lower (P a) (P x)) a x) s
 
 -- c is x or a member, and neither x nor a member is lower
 record LowestOf (P : ℕ → Point) (x : ℕ) (s : List ℕ) (c : ℕ) : Type 0 where

@@ -8,9 +8,9 @@ use plane::lower::is_lower;
 ghost use mathlib.Core.Path.{_≡_};
 ghost use Prim.Native.Nat.{_≤_};
 ghost use Rattle.finite.specs.Overwriting.{over};
-ghost use Rattle.model.specs.Outline.{lowest-corner};
+ghost use Rattle.model.specs.Maps.{point-limit};
 ghost use Rattle.model.specs.Shape.{Shaped};
-ghost use Rattle.corners.specs.Listing.{HasRoom, ListsCorners, listed, lower-at};
+ghost use Rattle.corners.specs.Listing.{HasRoom, ListsCorners, listed, lower-at, lowest-round};
 
 // The corners of a map are the first `count` of `points`, in listing order.
 pub struct CornerList {
@@ -28,7 +28,8 @@ pub fn corners_of(map: Map) -> CornerList
     if count < 2 {
         return CornerList { points, count };
     }
-    let first = lowest_corner(map);
+    let start = map.reference / 2;
+    let first = lowest_corner(&map.xs, &map.ys, &map.edge, count, start);
     let mut listed = 0;
     let mut a = first;
     for _ in 0..count {
@@ -45,19 +46,22 @@ pub fn corners_of(map: Map) -> CornerList
     }
 }
 
-// The lowest corner: the smallest y, then the smallest x.
-fn lowest_corner(map: Map) -> usize
-    requires { ⌜ Shaped map ⌝ }
-    requires { ⌜ 2 ≤ map .count ⌝ }
-    ensures { λ r. ⌜ r ≡ lowest-corner map ⌝ }
+// The lowest corner round from corner `start`, of at most so many: the smallest y, then the smallest x.
+fn lowest_corner<'a>(
+    xs: &'a [i64],
+    ys: &'a [i64],
+    edge: &'a [usize],
+    count: usize,
+    start: usize,
+) -> usize
+    requires { ⌜ count ≤ point-limit ⌝ }
+    ensures { λ r. ⌜ r ≡ lowest-round (now (xs .entry)) (now (ys .entry)) (now (edge .entry)) count start ⌝ }
 {
-    let start = map.reference / 2;
     let mut lowest = start;
     let mut a = start;
-    let count = map.count;
     for _ in 0..count {
-        lowest = lower_of(&map.xs, &map.ys, lowest, a);
-        a = next_corner(&map.edge, a);
+        lowest = lower_of(xs, ys, lowest, a);
+        a = next_corner(edge, a);
         if a == start {
             break;
         }

@@ -22,11 +22,11 @@ pub fn load_at(file: &[u8], dart: usize) -> Loaded
     match outcome {
         Outcome::Refused(refusal) => loaded,
         Outcome::Served => {
-            let map = loaded.map;
-            let count = map.count;
-            if is_present(&map.helpers, count, dart) {
+            let count = loaded.map.count;
+            if is_present(&loaded.map.helpers, count, dart) {
                 return loaded;
             }
+            let map = loaded.map;
             Loaded {
                 outcome: Outcome::Refused(Refusal::NoDart),
                 map,

@@ -25,7 +25,7 @@ present-tested o e d is t =
 returns : tie.Need-returns
 unfolding is-present has-helper
 returns c =
-    let m = c .before .before .before .before .before .before in
+    let m = c .before .before .before .before .before in
     let l = m .before .before in
     let s = l .before .before .args in
     let o = loads (l .load .ensures) in
@@ -47,7 +47,7 @@ returns-3 c =
     let o = loads (l .load .ensures) in
     let e = m .enum-told .given .1 in
     refused-further o _ e _
-    (present-tested o e (s .dart) (c .before .is-present .ensures) (c .if1 .left))
+    (present-tested o e (s .dart) (c .before .before .is-present .ensures) (c .before .if1 .left))
 
 pub load-at-spec : {M : Type 1} → statement M
 load-at-spec =

@@ -14,7 +14,7 @@ use model::Outcome;
 use model::POINT_LIMIT;
 use model::Refusal;
 use orbits::DART_LIMIT;
-use saved::reading::coordinates_in;
+use saved::reading::put_coordinates;
 use saved::write_arrays;
 use soundness::Anew;
 use soundness::rebuild;
@@ -95,8 +95,10 @@ fn read(
         (map-lent (xs .exit) (ys .exit) (helpers .exit) (edge .exit) (arrivals .exit) (lefts .exit) (rights .exit)
         count (r .reference)) ⌝ }
 {
-    let across = coordinates_in(file, count, 0);
-    let upward = coordinates_in(file, count, 1);
+    let mut across = [0i64; POINT_LIMIT];
+    put_coordinates(file, count, 0, &mut across);
+    let mut upward = [0i64; POINT_LIMIT];
+    put_coordinates(file, count, 1, &mut upward);
     let anew = rebuild(
         &across,
         &upward,

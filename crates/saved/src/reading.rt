@@ -6,21 +6,26 @@ use layout::numbers::signed;
 use model::POINT_LIMIT;
 ghost use mathlib.Core.Path.{_≡_};
 ghost use Prim.Native.Nat.{_+_, _*_, _≤_, _<_};
-ghost use lib.ListN.{length};
+ghost use lib.IntN.{pos};
+ghost use lib.ListN.{length, replicate};
 ghost use Rattle.model.specs.Maps.{point-limit};
 ghost use Rattle.model.specs.Saved.{coordinate-in-file, coordinates-in-file, notes-place};
 
-// The coordinates of all places in one direction: 0 for x, 1 for y.
-pub fn coordinates_in(file: &[u8], count: usize, direction: usize) -> [i64; POINT_LIMIT]
+// Writes the coordinates of all places in one direction, 0 for x and 1 for y, into an array that holds 0 everywhere.
+pub fn put_coordinates(
+    file: &[u8],
+    count: usize,
+    direction: usize,
+    coordinates: &mut [i64; POINT_LIMIT],
+)
     requires { ⌜
         (count ≤ point-limit) × (notes-place count ≤ length (now file)) × (direction ≤ 1) ⌝ }
-    ensures { λ r. ⌜ r ≡ coordinates-in-file (now (file .entry)) count direction ⌝ }
+    requires { ⌜ now coordinates ≡ replicate point-limit (pos 0) ⌝ }
+    ensures { λ _. ⌜ now (coordinates .exit) ≡ coordinates-in-file (now (file .entry)) count direction ⌝ }
 {
-    let mut coordinates = [0i64; POINT_LIMIT];
     for k in 0..count {
         coordinates[k] = coordinate_in(file, direction, k);
     }
-    coordinates
 }
 
 // The coordinate of point k.

@@ -2,7 +2,7 @@
 -- where what the points build writes the file.
 use borrow.Author.Needs.{needs}
 use borrow.Author.Tests.{not-true, not-false}
-use mathlib.Core.Path.{_≡_, sym, ap, subst, _∙_}
+use mathlib.Core.Path.{_≡_, refl, sym, ap, subst, _∙_}
 use mathlib.Core.Bool.{true}
 use mathlib.Core.List.{List}
 use Prim.Native.Nat.{ℕ}
@@ -10,7 +10,8 @@ use native.Mathlib.Omega.{arith}
 use denote.Ref.{now}
 use Rattle.finite.specs.Tests.{of-true, is-false}
 use Rattle.finite.specs.Lists.{same-list}
-use Rattle.finite.specs.Bounded.{table}
+use lib.ListN.{length}
+use Rattle.finite.specs.Bounded.{table, length-table}
 use Rattle.model.specs.declared.Point.{Point}
 use Rattle.model.specs.declared.Map.{Map}
 use Rattle.model.specs.Refusals.{NoneApplies}
@@ -28,28 +29,34 @@ use Rattle.loading.proofs.read.Tie as tie
 form : (s : tie.Start) → Form (version-in-file (now (s .args .file))) (now (s .args .file))
 form s = in-form-is (now (s .args .file)) (s .pre .0 .0) .1
 
-coordinates-in-requires : tie.Need-coordinates-in-requires
-coordinates-in-requires c κs =
-    let s = c .before in
-    let f = form s in
-    (omega (arith, s .pre .0 .1, f .few), omega (arith, s .pre .0 .1, f .whole), omega arith)
-
-coordinates-in-requires-2 : tie.Need-coordinates-in-requires-2
-coordinates-in-requires-2 c κs =
+put-coordinates-requires : tie.Need-put-coordinates-requires
+put-coordinates-requires c κs =
     let s = c .before .before in
     let f = form s in
-    (omega (arith, s .pre .0 .1, f .few), omega (arith, s .pre .0 .1, f .whole), omega arith)
+    ((omega (arith, s .pre .0 .1, f .few), omega (arith, s .pre .0 .1, f .whole), omega arith), refl)
+
+put-coordinates-requires-2 : tie.Need-put-coordinates-requires-2
+put-coordinates-requires-2 c κs =
+    let s = c .before .before .before .before in
+    let f = form s in
+    ((omega (arith, s .pre .0 .1, f .few), omega (arith, s .pre .0 .1, f .whole), omega arith), refl)
+
+slice-aggregate-rebuild : tie.Need-slice-aggregate-rebuild
+slice-aggregate-rebuild c = sym (ap length (c .before .before .before .put-coordinates .ensures) ∙ length-table _ _)
+
+slice-aggregate-rebuild-2 : tie.Need-slice-aggregate-rebuild-2
+slice-aggregate-rebuild-2 c = sym (ap length (c .before .before .put-coordinates2 .ensures) ∙ length-table _ _)
 
 -- the points of the file were offered anew
 module _ (c : tie.After-rebuild) where
   abbrev start : tie.Start
-  start = c .before .before .before .before .before .before .before .before .before .before .before .before .before
+  start = c .before .before .before .before .before .before .before .before .before .before .before .before .before .before .before
 
   abbrev file : List ℕ
   file = now (start .args .file)
 
   bytes : Bytes file
-  bytes = record { small = λ i. c .before .before .before .before .before .before .before .before .before .before .before .before .shared-slice-known .given i .fits }
+  bytes = record { small = λ i. c .before .before .before .before .before .before .before .before .before .before .before .before .before .before .shared-slice-known .given i .fits }
 
   counted : start .args .count ≡ count-in-file file
   counted = start .pre .0 .1
@@ -63,8 +70,8 @@ module _ (c : tie.After-rebuild) where
 
   anew : Rebuilds (points-in-file file) (c .rebuild .result .complete) made
   anew =
-      let across = c .before .before .before .before .before .before .before .before .before .before .before .coordinates-in .ensures in
-      let upward = c .before .before .before .before .before .before .before .before .before .before .coordinates-in2 .ensures in
+      let across = c .before .before .before .before .before .before .before .before .before .before .before .before .put-coordinates .ensures in
+      let upward = c .before .before .before .before .before .before .before .before .before .before .put-coordinates2 .ensures in
       subst (λ (ps : List Point). Rebuilds ps (c .rebuild .result .complete) made)
       (λ i.
       table (counted i)
@@ -128,10 +135,10 @@ pub read-spec : {M : Type 1} → statement M
 read-spec =
     tie.close
     (tie.spec
-    coordinates-in-requires
-    coordinates-in-requires-2
-    (λ c. search needs)
-    (λ c. search needs)
+    put-coordinates-requires
+    put-coordinates-requires-2
+    slice-aggregate-rebuild
+    slice-aggregate-rebuild-2
     (λ c κs. search needs)
     returns
     number-at-requires

@@ -1,18 +1,19 @@
--- `saved::reading::coordinates_in` meets its contract: the loop fills the place of every point with its
+-- `saved::reading::put_coordinates` meets its contract: the loop fills the place of every point with its
 -- coordinate in the direction.
 use borrow.Author.Needs.{needs}
-use mathlib.Core.Path.{_∙_}
-use Prim.Native.Nat.{_+_, _-_, _*_, _≤_}
+use mathlib.Core.Path.{sym, subst, _∙_}
+use mathlib.Core.List.{List}
+use Prim.Native.Nat.{ℕ, _+_, _-_, _*_, _≤_}
 use native.Mathlib.Omega.{arith}
 use mir.Syntax.{w64}
 use mir.Val.{toZ, ofZ}
 use mir.ValLaws.{toZ-ofZ}
-use lib.IntN.{pos}
+use lib.IntN.{ℤ, pos}
 use Rattle.model.specs.Maps.{point-limit}
 use Rattle.model.specs.Saved.{coordinate-in-file}
 use Rattle.saved.proofs.Tables.{Begun, none-begun, one-begun, all-begun}
-use Rattle.saved.proofs.reading.coordinates_in.Statement.{statement}
-use Rattle.saved.proofs.reading.coordinates_in.Tie as tie
+use Rattle.saved.proofs.reading.put_coordinates.Statement.{statement}
+use Rattle.saved.proofs.reading.put_coordinates.Tie as tie
 
 abbrev Inv-loop : tie.InvT-loop
 Inv-loop file count direction coordinates₀ k₀ coordinates k =
@@ -22,7 +23,12 @@ abbrev μ-loop : tie.MeasureT-loop
 μ-loop file count direction coordinates₀ k₀ coordinates k = count - k
 
 loop-holds : tie.Need-loop-holds Inv-loop μ-loop
-loop-holds c = (none-begun _ (pos 0) point-limit, omega arith)
+loop-holds c =
+    let s = c .before in
+    let f : ℕ → ℤ = λ j. coordinate-in-file (s .args .file .now) (2 * j + s .args .direction) in (
+      subst (λ (t : List ℤ). Begun f (pos 0) point-limit 0 t) (sym (s .pre .1)) (none-begun f (pos 0) point-limit),
+      omega arith,
+    )
 
 loop-again : tie.Need-loop-again Inv-loop μ-loop
 loop-again c =
@@ -36,8 +42,8 @@ loop-again c =
 returns : tie.Need-returns Inv-loop μ-loop
 returns c = let s = c .before .loop in all-begun (s .inv .0) _ (omega (arith, s .inv .1))
 
-pub coordinates-in-spec : {M : Type 1} → statement M
-coordinates-in-spec =
+pub put-coordinates-spec : {M : Type 1} → statement M
+put-coordinates-spec =
     tie.close
     (tie.spec
     Inv-loop

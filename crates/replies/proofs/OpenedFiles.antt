@@ -1,5 +1,6 @@
 -- The laws of the map of a file after its checks, in the order of this page: what loading
--- answers; a check more; what a served file gives; what the exported functions promise from it.
+-- answers; a check more; what a served file gives; what the exported functions promise from it, of
+-- one list, or of a result and its length.
 use mathlib.Core.Path.{_≡_, refl, sym, ap, subst, _∙_}
 use mathlib.Core.Bool.{Bool, true, false, not}
 use mathlib.Core.List.{List, [], _∷_, _++_}
@@ -24,9 +25,10 @@ use Rattle.hull.proofs.Sound.{sound-shaped}
 use Rattle.model.proofs.Answers.{rule-applies, rule-passes, no-rule, unless-made, served-none, unless-append}
 use Rattle.model.proofs.Answers.{outcome-refuses, outcome-serves}
 use Rattle.finite.specs.Tests.{not-not}
-use Rattle.replies.specs.Served.{Reply, only, Served}
+use Rattle.replies.specs.Served.{Reply, only, Served, ServedBoth}
 use Rattle.replies.specs.Opened.{Opened, of-file}
-use Rattle.replies.proofs.Serving.{refused-before, served-after, served-as}
+use Rattle.replies.specs.Replies.{length-told}
+use Rattle.replies.proofs.Serving.{refused-before, served-after, served-as, both-refused-before, both-served-after, both-at}
 
 -- what loading answers
 pub loads : {s : List ℕ} {l : Loaded} → Answered (load-call s) l → Opened s (load-call s .rules) l
@@ -139,3 +141,21 @@ module _ {A : Type 0} {s : List ℕ} {before : List A} where
       served-after (of-file s (λ m. f m .rules)) (only (f (map-in s) .values)) before
       (sym e ∙ o .outcome)
       (served-as (same ∙ ap (λ (m : Map). f m .values) (o .map e)) w)
+
+-- ---- a result of a file's map, and beside it how long it is
+
+module _ {A : Type 0} (result : Map → List A) {s : List ℕ} {l : Loaded}
+    (o : Opened s (of-file s (λ m. unsound m ∷ [])) l) {before : List A} {before′ : List ℕ} {k : ℕ} where
+  pub not-told : {r : Refusal} → l .outcome ≡ Outcome.Refused r → k ≡ number r →
+      ServedBoth (of-file s (λ m. unsound m ∷ [])) (result (map-in s)) (length-told (result (map-in s)))
+      before before before′ before′ k
+  not-told {r} e n =
+      both-refused-before (of-file s (λ m. unsound m ∷ [])) [] _ _ _ _ r (sym e ∙ o .outcome) n
+
+  pub told : {after : List A} {after′ : List ℕ} → l .outcome ≡ Outcome.Served →
+      ServedBoth [] (result (l .map)) (length-told (result (l .map))) before after before′ after′ k →
+      ServedBoth (of-file s (λ m. unsound m ∷ [])) (result (map-in s)) (length-told (result (map-in s)))
+      before after before′ after′ k
+  told e w =
+      both-served-after (of-file s (λ m. unsound m ∷ [])) [] _ _ _ _ (sym e ∙ o .outcome)
+      (both-at (λ (m : Map). []) result (λ m. length-told (result m)) (o .map e) w)

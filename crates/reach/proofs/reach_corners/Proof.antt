@@ -1,12 +1,7 @@
 -- `reach::reach_corners` meets its contract: the file is loaded, and then its corners are listed.
-use mathlib.Core.Path.{sym, _∙_}
-use mathlib.Core.List.{[], _∷_}
-use lib.ListN.{length}
-use Rattle.model.specs.declared.Map.{Map}
 use Rattle.model.specs.Answers.{written-answer}
 use Rattle.model.specs.Outline.{corners}
-use Rattle.replies.proofs.OpenedFiles.{loads, opened-sound}
-use Rattle.replies.proofs.Serving.{both-refused-before, both-served-after, both-at}
+use Rattle.replies.proofs.OpenedFiles.{loads, opened-sound, not-told, told}
 use borrow.Author.Needs.{needs}
 use Rattle.reach.proofs.reach_corners.Statement.{statement}
 use Rattle.reach.proofs.reach_corners.Tie as tie
@@ -19,22 +14,14 @@ write-corner-list-requires c κs =
 returns : tie.Need-returns
 returns c =
     let d = c .before .before in
-    let l = d .before .before in
-    both-refused-before _ [] _ _ _ _ _
-    (sym (d .outcome .given .1) ∙ loads (l .load .ensures) .outcome)
-    (c .code .ensures)
+    not-told corners (loads (d .before .before .load .ensures)) (d .outcome .given .1) (c .code .ensures)
 
 returns-2 : tie.Need-returns-2
 unfolding written-answer
 returns-2 c =
     let w = c .before .before .before .before in
     let t = w .before .before .before in
-    let l = t .before .before in
-    let o = loads (l .load .ensures) in
-    let e = t .enum-told .given .1 in
-    both-served-after _ [] _ _ _ _ (sym e ∙ o .outcome)
-    (both-at (λ m. []) corners (λ (m : Map). length (corners m) ∷ []) (o .map e)
-    (w .write-corner-list .ensures))
+    told corners (loads (t .before .before .load .ensures)) (t .enum-told .given .1) (w .write-corner-list .ensures)
 
 pub reach-corners-spec : {M : Type 1} → statement M
 reach-corners-spec =

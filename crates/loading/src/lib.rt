@@ -1,6 +1,9 @@
 // The map of a file: its points are offered anew, once, and what they build is written in the file's version and
 // compared with the file, byte by byte.
 
+mod reading;
+
+use crate::reading::put_coordinates;
 use comparing::same_bytes;
 use layout::COUNT_PLACE;
 use layout::VERSION_PLACE;
@@ -14,7 +17,6 @@ use model::Outcome;
 use model::POINT_LIMIT;
 use model::Refusal;
 use orbits::DART_LIMIT;
-use saved::reading::put_coordinates;
 use saved::write_arrays;
 use soundness::Anew;
 use soundness::rebuild;

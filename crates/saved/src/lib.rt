@@ -1,4 +1,4 @@
-// The saved form of a map: writing it in a version, and reading the coordinates of a file.
+// The saved form of a map: writing it in a version.
 
 use layout::HEADER_LENGTH;
 use layout::helpers_place;
@@ -16,7 +16,6 @@ ghost use Rattle.model.specs.Shape.{Shaped};
 ghost use Rattle.model.specs.Saved.{notes-place, saved-in, saved-length};
 ghost use Rattle.saved.specs.Fields.{unnoted-by};
 
-pub mod reading;
 mod writing;
 
 // Writes a map in a version over the front of the lent list, which keeps its tail.

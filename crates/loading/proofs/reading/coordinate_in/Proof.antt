@@ -1,11 +1,11 @@
--- `saved::reading::coordinate_in` meets its contract: what its calls answer makes it up.
+-- `loading::reading::coordinate_in` meets its contract: what its calls answer makes it up.
 use borrow.Author.Needs.{needs}
 use mathlib.Core.Path.{ap, _∙_}
 use mir.Syntax.{w64}
 use mir.ValLaws.{toZ-ofZ}
 use Rattle.model.specs.Saved.{signed}
-use Rattle.saved.proofs.reading.coordinate_in.Statement.{statement}
-use Rattle.saved.proofs.reading.coordinate_in.Tie as tie
+use Rattle.loading.proofs.reading.coordinate_in.Statement.{statement}
+use Rattle.loading.proofs.reading.coordinate_in.Tie as tie
 
 returns : tie.Need-returns
 returns c =

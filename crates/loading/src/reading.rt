@@ -12,7 +12,7 @@ ghost use Rattle.model.specs.Maps.{point-limit};
 ghost use Rattle.model.specs.Saved.{coordinate-in-file, coordinates-in-file, notes-place};
 
 // Writes the coordinates of all places in one direction, 0 for x and 1 for y, into an array that holds 0 everywhere.
-pub fn put_coordinates(
+pub(crate) fn put_coordinates(
     file: &[u8],
     count: usize,
     direction: usize,

@@ -1,4 +1,4 @@
--- `saved::reading::put_coordinates` meets its contract: the loop fills the place of every point with its
+-- `loading::reading::put_coordinates` meets its contract: the loop fills the place of every point with its
 -- coordinate in the direction, and the others hold 0.
 use borrow.Author.Needs.{needs}
 use mathlib.Core.Path.{sym, ap, _∙_}
@@ -14,9 +14,9 @@ use Rattle.finite.specs.ListLaws.{replicate-at}
 use Rattle.finite.specs.Loops.{FilledFront, none-in-front, one-in-front, all-in-front, all-filled}
 use Rattle.model.specs.Maps.{point-limit}
 use Rattle.model.specs.Saved.{coordinate-in-file, until}
 use Rattle.saved.proofs.Tables.{until-before, until-from}
-use Rattle.saved.proofs.reading.put_coordinates.Statement.{statement}
-use Rattle.saved.proofs.reading.put_coordinates.Tie as tie
+use Rattle.loading.proofs.reading.put_coordinates.Statement.{statement}
+use Rattle.loading.proofs.reading.put_coordinates.Tie as tie
 
 -- the coordinates of the points, and 0
 abbrev coordinate : List ℕ → ℕ → ℕ → ℤ

@@ -37,7 +37,7 @@ use Rattle.plane.proofs.Orientation.{orientation-cyclic, orientation-swap, orie
 use Rattle.plane.proofs.Aligned.{left-of-all}
 use Rattle.maps.proofs.Circuits.{Circuit, Edge, edge-next}
 use Rattle.maps.proofs.Outline.{outline-circuit, outline-long}
-use Rattle.hull.proofs.Beyond.{sound-convex}
+use Rattle.sight.proofs.Beyond.{sound-convex}
 use Rattle.corners.proofs.Corners.{corners-rotated, corners-members}
 
 -- ---- the tests of a corner as statements

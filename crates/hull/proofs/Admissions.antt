@@ -25,8 +25,8 @@ use Rattle.model.specs.Offers.{offer}
 use Rattle.model.proofs.Answers.{rule-passes, outcome-refuses, outcome-serves, served-none}
 use Rattle.maps.specs.Places.{PlacesFor}
 use Rattle.admission.specs.Admission.{admission-by}
-use Rattle.hull.specs.Requires.{Accepted}
-use Rattle.hull.proofs.Indices.{spliceable}
+use Rattle.sight.specs.Requires.{Accepted}
+use Rattle.sight.proofs.Indices.{spliceable}
 use Rattle.hull.proofs.Outcomes.{accepted-by}
 
 not-sound : (m : Map) → T (sound m) → not (sound m) ≡ false

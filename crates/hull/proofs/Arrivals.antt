@@ -34,9 +34,9 @@ use Rattle.maps.proofs.Alone.{alone-sound}
 use Rattle.maps.proofs.Pair.{pair-sound}
 use Rattle.maps.proofs.Splice.{Kept}
 use Rattle.maps.proofs.Spliced.{spliced-arc, spliced-single, spliced-sound, spliced-beside, spliced-outline}
-use Rattle.hull.specs.Requires.{Accepted}
+use Rattle.sight.specs.Requires.{Accepted}
 use Rattle.hull.proofs.Outcomes.{accepted-by, Arrives, first, second, inside, outside, arrive-arrives}
-use Rattle.hull.proofs.Beyond.{sound-convex, other-point, two-long, few, farther-on, farther-ahead, beyond-visible, left-is, right-is, by-beyond}
+use Rattle.sight.proofs.Beyond.{sound-convex, other-point, two-long, few, farther-on, farther-ahead, beyond-visible, left-is, right-is, by-beyond}
 
 module _ {m : Map} {p : Point} (a : Accepted m p) (two : 2 ≤ m .count) where
   abbrev shape : Convex (m .count) (point m) (next-corner m) (previous-corner m) (outline m)

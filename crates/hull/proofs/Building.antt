@@ -20,7 +20,7 @@ use Rattle.model.specs.Arrival.{with-point, alone, pair, spliced, arrive, admis
 use Rattle.model.specs.Building.{building-rules, built}
 use Rattle.model.proofs.Answers.{none-both}
 use Rattle.maps.proofs.Points.{point-new, point-old}
-use Rattle.hull.specs.Requires.{Accepted}
+use Rattle.sight.specs.Requires.{Accepted}
 use Rattle.hull.proofs.Outcomes.{accepted-by, Arrives, first, second, inside, outside, arrive-arrives}
 use Rattle.hull.proofs.Arrivals.{arrive-sound}
 

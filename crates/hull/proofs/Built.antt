@@ -22,7 +22,7 @@ use Rattle.model.specs.Sound.{sound}
 use Rattle.model.specs.Arrival.{arrive}
 use Rattle.model.specs.Offers.{offer}
 use Rattle.model.specs.History.{Run, extended, run-from, run}
-use Rattle.hull.specs.Requires.{Accepted}
+use Rattle.sight.specs.Requires.{Accepted}
 use Rattle.hull.proofs.Building.{arrive-count, points-more}
 use Rattle.hull.proofs.Sound.{sound-shaped, empty-is-sound}
 use Rattle.hull.proofs.Offers.{not-refused, sound-kept}

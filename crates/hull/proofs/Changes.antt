@@ -28,7 +28,7 @@ use Rattle.maps.proofs.Alone.{alone-new-fixed}
 use Rattle.maps.proofs.Splice.{Splices}
 use Rattle.maps.proofs.Spliced.{spliced-splices, spliced-helper-new, spliced-helper-old}
 use Rattle.maps.proofs.Pair.{all-fixed, pair-helper, pair-owned, pair-splices}
-use Rattle.hull.specs.Requires.{Accepted}
+use Rattle.sight.specs.Requires.{Accepted}
 use Rattle.hull.proofs.Outcomes.{Arrives, arrive-arrives}
 use Rattle.hull.proofs.Outcomes as outcomes
 use Rattle.hull.proofs.Offers.{Decided, accepted, offer-decided}

@@ -33,7 +33,7 @@ use Rattle.maps.proofs.Outline.{outline-two, outline-circuit, outline-next, cor
 use Rattle.maps.proofs.Empty.{empty-sound}
 use Rattle.maps.proofs.Alone.{alone-outline}
 use Rattle.maps.proofs.Pair.{pair-outline}
-use Rattle.hull.specs.Requires.{Accepted}
+use Rattle.sight.specs.Requires.{Accepted}
 use Rattle.hull.proofs.Outcomes.{Arrives, first, second, inside, outside, arrive-arrives, arrival-accepted}
 use Rattle.hull.proofs.Sound.{empty-is-sound}
 use Rattle.hull.proofs.Offers.{Decided, accepted, refused, offer-decided, refused-keeps, sound-kept}

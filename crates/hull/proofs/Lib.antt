@@ -1,6 +1,5 @@
 -- Offers, and what is proved about every list of them. Nothing is assumed.
 --     Outcomes       a point is accepted or not, and by which condition; the four arrivals
---     Beyond         a point in line beyond one of two corners, and any other that sees an edge
 --     Arrivals       an arrival leaves a shaped map
 --     Building       points that are offered one after another build a shaped map
 --     Sound          sound maps are those that points build: `sound-shaped`
@@ -11,12 +10,9 @@
 --     History        demand 3: `always-balanced`
 --     Built          points that all differ are not refused, and are the map's points
 --     Runs           the rules and the map of model/Building are those of offers to the empty map
---     Indices        what the code takes for an index lies within its array
---     Seeing         the way round an outline on which a point looks for the corners where what it sees turns
 --     Admissions     from a sound map's coordinates to the offer of a point
 --     Taking         a loop that offers points one after another
 pub mod Outcomes
-pub mod Beyond
 pub mod Arrivals
 pub mod Building
 pub mod Sound
@@ -27,7 +23,5 @@ pub mod Theorems
 pub mod History
 pub mod Built
 pub mod Runs
-pub mod Indices
-pub mod Seeing
 pub mod Admissions
 pub mod Taking

@@ -18,7 +18,7 @@ use Rattle.model.specs.Arrival.{arrive, refusing, admission-rules}
 use Rattle.model.specs.Offers.{offer-rules, offer}
 use Rattle.model.specs.History.{is-accepted}
 use Rattle.model.proofs.Answers.{RulesDecide, refuses, serves, unless-decides, unless-made, unless-none}
-use Rattle.hull.specs.Requires.{Accepted}
+use Rattle.sight.specs.Requires.{Accepted}
 use Rattle.hull.proofs.Outcomes.{accepted-by, none-applies, arrive-arrives, arrival-accepted, arrival-served}
 use Rattle.hull.proofs.Sound.{sound-shaped, sound-grows}
 

@@ -22,7 +22,7 @@ use Rattle.model.specs.Outline.{visible-edges}
 use Rattle.model.specs.Arrival.{left-corner, right-corner, first-kind, inside-kind, alone, pair, spliced, arrived, later-point, arrive, is-repeated, admission-rules}
 use Rattle.model.specs.History.{is-accepted}
 use Rattle.model.proofs.Shape.{same-point-eq, same-point-by}
-use Rattle.hull.specs.Requires.{Accepted}
+use Rattle.sight.specs.Requires.{Accepted}
 
 -- ---- where no rule applies
 

@@ -24,7 +24,7 @@ use Rattle.model.specs.Offers.{offer}
 use Rattle.model.specs.History.{Run, run-from, run}
 use Rattle.model.proofs.Answers.{refuses-some, none-append, none-both, refuses-front, refuses-later}
 use Rattle.model.proofs.Sound.{sound-is}
-use Rattle.hull.specs.Requires.{Accepted}
+use Rattle.sight.specs.Requires.{Accepted}
 use Rattle.hull.proofs.Outcomes.{none-applies}
 use Rattle.hull.proofs.Building.{building-append}
 use Rattle.hull.proofs.Sound.{sound-grows, empty-is-sound}

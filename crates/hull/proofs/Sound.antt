@@ -18,7 +18,7 @@ use Rattle.model.specs.Sound.{sound}
 use Rattle.model.proofs.Answers.{none-append}
 use Rattle.model.proofs.Sound.{sound-is, sound-by}
 use Rattle.maps.proofs.Empty.{empty-sound}
-use Rattle.hull.specs.Requires.{Accepted}
+use Rattle.sight.specs.Requires.{Accepted}
 use Rattle.hull.proofs.Outcomes.{none-applies}
 use Rattle.hull.proofs.Building.{building-append, built-append, built-shaped, built-keeps}
 

@@ -25,7 +25,7 @@ use Rattle.maps.proofs.Empty.{empty-sound}
 use Rattle.admission.specs.Admission.{admission-by}
 use Rattle.admission.specs.Hashes.{hash-count, hash, AllHashed}
 use Rattle.admission.proofs.Hashing.{none-hashed, one-hashed}
-use Rattle.hull.specs.Requires.{Accepted}
+use Rattle.sight.specs.Requires.{Accepted}
 use Rattle.hull.proofs.Arrivals.{arrive-sound}
 use Rattle.hull.proofs.Building.{arrive-count, arrive-points}
 use Rattle.hull.proofs.Admissions.{admission-accepted}

@@ -29,8 +29,8 @@ use Rattle.plane.proofs.Corners.{LeftCorner, RightCorner, left-corner-unique, r
 use Rattle.plane.proofs.Aligned.{on-edge-beside}
 use Rattle.plane.proofs.Hull.{Supports}
 use Rattle.plane.proofs.Hull as plane-hull
-use Rattle.hull.specs.Requires.{Accepted}
-use Rattle.hull.proofs.Beyond.{sound-convex, AllSeen, other-point, all-seen, beyond-visible, all-seen-beyond, left-is, right-is}
+use Rattle.sight.specs.Requires.{Accepted}
+use Rattle.sight.proofs.Beyond.{sound-convex, AllSeen, other-point, all-seen, beyond-visible, all-seen-beyond, left-is, right-is}
 use Rattle.hull.proofs.Cases.{later, inside, outside}
 
 -- ---- every edge is visible just from a point in line beyond one of two corners; from any other that sees

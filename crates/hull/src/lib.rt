@@ -1,8 +1,5 @@
 // The arrival of a point in a map: why an offered point is refused, or how it arrives.
 
-mod sight;
-
-use crate::sight::seen_from;
 use admission::admission;
 use linking::freeing;
 use linking::freeing_none;
@@ -18,12 +15,13 @@ use model::POINT_LIMIT;
 use model::Point;
 use model::Refusal;
 use orbits::DART_LIMIT;
+use sight::seen_from;
 ghost use mathlib.Core.Path.{_≡_};
 ghost use Prim.Native.Nat.{_+_, _≤_};
 ghost use Rattle.model.specs.Maps.{map-lent};
 ghost use Rattle.model.specs.Shape.{Shaped};
 ghost use Rattle.model.specs.Arrival.{admitted, arrive, arrived, later-point, refusing};
-ghost use Rattle.hull.specs.Requires.{Accepted};
+ghost use Rattle.sight.specs.Requires.{Accepted};
 
 // How a point that frees no dart arrives, as it is noted.
 const FIRST: usize = 0;

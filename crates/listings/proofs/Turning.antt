@@ -32,7 +32,7 @@ use Rattle.plane.proofs.Knuth.{cyclic-symmetry, cyclic-back}
 use Rattle.plane.proofs.Heights.{lower-is}
 use Rattle.plane.proofs.Betweenness.{beside-left}
 use Rattle.plane.proofs.Convex.{corners-strict}
-use Rattle.hull.proofs.Beyond.{sound-convex}
+use Rattle.sight.proofs.Beyond.{sound-convex}
 use Rattle.hull.proofs.History.{run-shaped}
 use Rattle.corners.proofs.Listings.{Listable, listable-holds, listable-by, point-is, two-points, edge-to-next}
 

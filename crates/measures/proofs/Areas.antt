@@ -33,7 +33,7 @@ use Rattle.plane.proofs.Heights.{lower-by}
 use Rattle.plane.proofs.Fan.{fan-fixed, fan-flat}
 use Rattle.plane.proofs.Convex.{Convex, convex-swap, next-member, prev-member, turns-left, fan-positive}
 use Rattle.plane.proofs.Extents.{fan-nonneg, fan-limit}
-use Rattle.hull.proofs.Beyond.{sound-convex}
+use Rattle.sight.proofs.Beyond.{sound-convex}
 use Rattle.hull.proofs.Admissions.{outline-most}
 use Rattle.corners.proofs.Corners.{corners-rotated, corners-members, corners-length, lowest-first, lowest-none, few-listed}
 

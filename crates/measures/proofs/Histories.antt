@@ -44,9 +44,9 @@ use Rattle.plane.proofs.Split.{Split, remaining, split-member}
 use Rattle.maps.proofs.Outline.{outline-circuit}
 use Rattle.maps.proofs.Points.{point-new, point-old}
 use Rattle.maps.proofs.Alone.{alone-outline}
-use Rattle.hull.specs.Requires.{Accepted}
+use Rattle.sight.specs.Requires.{Accepted}
 use Rattle.hull.proofs.Outcomes.{Arrives, first, second, inside, outside}
-use Rattle.hull.proofs.Beyond.{sound-convex, all-seen, by-beyond}
+use Rattle.sight.proofs.Beyond.{sound-convex, all-seen, by-beyond}
 use Rattle.hull.proofs.Arrivals.{beyond-outline, split-is, turning-outline}
 use Rattle.hull.proofs.History.{with-entry, run-keeps, few-outline, run-shaped}
 use Rattle.hull.proofs.Admissions.{outline-most}

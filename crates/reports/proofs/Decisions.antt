@@ -27,7 +27,7 @@ use Rattle.survey.specs.Places.{at-end, line-at, next-line, read-at}
 use Rattle.printing.specs.Printing.{arrival-line}
 use Rattle.survey.proofs.Texts.{next-further}
 use Rattle.printing.proofs.Reports.{report-ended, report-goes-on}
-use Rattle.hull.specs.Requires.{Accepted}
+use Rattle.sight.specs.Requires.{Accepted}
 use Rattle.hull.proofs.Sound.{sound-shaped, sound-grows, empty-is-sound}
 use Rattle.reports.specs.declared.deciding.Verdict.{Verdict}
 use Rattle.reports.specs.declared.deciding.Stop.{Stop}

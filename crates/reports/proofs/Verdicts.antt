@@ -28,7 +28,7 @@ use Rattle.survey.proofs.Texts.{line-at-refused}
 use Rattle.admission.specs.Admission.{rules-by, admission-by}
 use Rattle.hull.proofs.Sound.{sound-shaped}
 use Rattle.hull.proofs.Admissions.{admission-refused, admission-served, admission-accepted, visible-most, corners-below}
-use Rattle.hull.specs.Requires.{Accepted}
+use Rattle.sight.specs.Requires.{Accepted}
 use Rattle.hull.proofs.Outcomes.{Arrives, first, second, inside, outside, arrive-arrives}
 use Rattle.reports.specs.declared.deciding.Verdict.{Verdict}
 use Rattle.reports.specs.Verdicts.{verdict-on, verdict-by}

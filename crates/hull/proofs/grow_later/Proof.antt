@@ -11,11 +11,11 @@ use Rattle.model.specs.Maps.{own, edge-link, map-lent}
 use Rattle.model.specs.Arrival.{inside-kind, arrived, alone, spliced}
 use Rattle.model.specs.Shape.{Fitting}
 use Rattle.maps.proofs.Points.{freeing-none-fits, freeing-fits}
-use Rattle.hull.specs.declared.sight.Seen.{Seen}
+use Rattle.sight.specs.declared.Seen.{Seen}
 use Rattle.linking.specs.Requires.{Spliceable}
-use Rattle.hull.specs.Sight.{seen}
-use Rattle.hull.proofs.Indices.{spliceable}
-use Rattle.hull.proofs.Seeing.{seen-by-arrays}
+use Rattle.sight.specs.Sight.{seen}
+use Rattle.sight.proofs.Indices.{spliceable}
+use Rattle.sight.proofs.Seeing.{seen-by-arrays}
 use Rattle.hull.proofs.Cases.{inside, outside, grown}
 use Rattle.hull.proofs.grow_later.Statement.{statement}
 use Rattle.hull.proofs.grow_later.Tie as tie

@@ -14,7 +14,7 @@ use Rattle.model.specs.Maps.{point, empty-map, map-of}
 use Rattle.model.specs.Shape.{Shaped}
 use Rattle.admission.specs.Hashes.{AllHashed}
 use Rattle.admission.proofs.Hashing.{none-hashed, one-hashed}
-use Rattle.hull.specs.Requires.{Accepted}
+use Rattle.sight.specs.Requires.{Accepted}
 use Rattle.hull.proofs.Arrivals.{arrive-sound}
 use Rattle.hull.proofs.Building.{arrive-points}
 use Rattle.lines.specs.Packing.{Packable}

@@ -15,8 +15,8 @@ ghost use Rattle.finite.specs.Bounded.{one-if};
 ghost use Rattle.model.specs.Maps.{point-limit};
 ghost use Rattle.maps.specs.Places.{RangedQuery};
 ghost use Rattle.model.specs.Arrival.{farther};
-ghost use Rattle.hull.specs.Requires.{BeyondIn, OutlineIn, visible-at};
-ghost use Rattle.hull.specs.Sight.{outlined, sought-at, seen, turning};
+ghost use Rattle.sight.specs.Requires.{BeyondIn, OutlineIn, visible-at};
+ghost use Rattle.sight.specs.Sight.{outlined, sought-at, seen, turning};
 
 // The corners between which the visible edges lie, and their number.
 pub struct Seen {

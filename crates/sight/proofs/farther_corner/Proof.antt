@@ -1,4 +1,4 @@
--- `hull::sight::farther_corner` meets its contract: the outline has two corners, and the test tells which
+-- `sight::farther_corner` meets its contract: the outline has two corners, and the test tells which
 -- of them is the farther.
 use borrow.Author.Needs.{needs}
 use mathlib.Core.Path.{_≡_, sym, ap, subst, _∙_}
@@ -14,11 +14,11 @@ use Rattle.model.specs.Maps.{owner, point, edge-link, with-outline}
 use Rattle.model.specs.Outline.{next-corner, outline}
 use Rattle.plane.specs.Between.{opposite}
 use Rattle.maps.proofs.Outline.{outline-first}
-use Rattle.hull.proofs.Indices.{ranged}
-use Rattle.hull.proofs.Beyond.{farther-this, farther-next}
-use Rattle.hull.proofs.Seeing.{farther-by-arrays}
-use Rattle.hull.proofs.sight.farther_corner.Statement.{statement}
-use Rattle.hull.proofs.sight.farther_corner.Tie as tie
+use Rattle.sight.proofs.Indices.{ranged}
+use Rattle.sight.proofs.Beyond.{farther-this, farther-next}
+use Rattle.sight.proofs.Seeing.{farther-by-arrays}
+use Rattle.sight.proofs.farther_corner.Statement.{statement}
+use Rattle.sight.proofs.farther_corner.Tie as tie
 
 -- the map whose arrays are lent, and its first corner
 abbrev lent : tie.Start → Map

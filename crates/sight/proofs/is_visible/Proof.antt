@@ -1,11 +1,11 @@
--- `hull::sight::is_visible` meets its contract: the edge's ends are the points that are read from the
+-- `sight::is_visible` meets its contract: the edge's ends are the points that are read from the
 -- arrays.
 use borrow.Author.Needs.{needs}
 use mathlib.Core.Path.{_∙_, ap₂}
 use Rattle.model.specs.Plane.{sees-edge}
 use Rattle.maps.proofs.Ranges.{three-ranged}
-use Rattle.hull.proofs.sight.is_visible.Statement.{statement}
-use Rattle.hull.proofs.sight.is_visible.Tie as tie
+use Rattle.sight.proofs.is_visible.Statement.{statement}
+use Rattle.sight.proofs.is_visible.Tie as tie
 
 sees-edge-requires : tie.Need-sees-edge-requires
 sees-edge-requires c κs =

@@ -23,8 +23,8 @@ use Rattle.model.proofs.Shape.{place-ranged, present-below}
 use Rattle.maps.proofs.Outline.{outline-circuit}
 use Rattle.maps.specs.Places.{PlacesFor, RangedQuery}
 use Rattle.linking.specs.Requires.{Spliceable}
-use Rattle.hull.specs.Requires.{Accepted, OutlineFor}
-use Rattle.hull.proofs.Beyond.{by-beyond}
+use Rattle.sight.specs.Requires.{Accepted, OutlineFor}
+use Rattle.sight.proofs.Beyond.{by-beyond}
 
 -- ---- edge links
 

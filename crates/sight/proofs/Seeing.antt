@@ -25,9 +25,9 @@ use Rattle.model.specs.Arrival.{turning-left, turning-right, is-farther, is-bey
 use Rattle.maps.proofs.Links.{sound-linked}
 use Rattle.maps.proofs.Circuits.{edge-next, edge-previous}
 use Rattle.maps.proofs.Outline.{outline-first, outline-next, outline-previous}
-use Rattle.hull.specs.declared.sight.Sought.{Sought}
-use Rattle.hull.specs.Requires.{OutlineFor, visible-at}
-use Rattle.hull.specs.Sight.{sought-at, outlined, turning, seen}
+use Rattle.sight.specs.declared.Sought.{Sought}
+use Rattle.sight.specs.Requires.{OutlineFor, visible-at}
+use Rattle.sight.specs.Sight.{sought-at, outlined, turning, seen}
 
 -- what else the map holds does not matter
 module _ (m : Map) (p : Point) where

@@ -1,4 +1,4 @@
--- `hull::sight::turning_from` meets its contract: an iteration passes one corner of the outline.
+-- `sight::turning_from` meets its contract: an iteration passes one corner of the outline.
 use borrow.Author.Needs.{needs}
 use mathlib.Core.Path.{_≡_, refl, sym, ap, subst, _∙_}
 use mathlib.Core.Logic.{⊎-elim}
@@ -15,12 +15,12 @@ use Rattle.model.specs.Plane.{in-range, sees-edge}
 use Rattle.model.specs.Maps.{own, helper, owner, point-at, edge-link, with-outline}
 use Rattle.model.specs.Outline.{next-corner, previous-corner, outline}
 use Rattle.maps.proofs.Outline.{outline-next}
-use Rattle.hull.specs.Requires.{OutlineIn, visible-at}
-use Rattle.hull.specs.Sight.{sought-at}
-use Rattle.hull.proofs.Indices.{ranged, corner-linked, corner-held}
-use Rattle.hull.proofs.Seeing.{tests-agree, unsought, SightAhead, at-first, passed-last, passed-one, at-end}
-use Rattle.hull.proofs.sight.turning_from.Statement.{statement}
-use Rattle.hull.proofs.sight.turning_from.Tie as tie
+use Rattle.sight.specs.Requires.{OutlineIn, visible-at}
+use Rattle.sight.specs.Sight.{sought-at}
+use Rattle.sight.proofs.Indices.{ranged, corner-linked, corner-held}
+use Rattle.sight.proofs.Seeing.{tests-agree, unsought, SightAhead, at-first, passed-last, passed-one, at-end}
+use Rattle.sight.proofs.turning_from.Statement.{statement}
+use Rattle.sight.proofs.turning_from.Tie as tie
 
 abbrev Inv-loop : tie.InvT-loop
 Inv-loop xs ys edge count reference p start last entering₀ left₀ right₀ visible₀ a₀ dart₀ from₀ counter₀ entering left right visible a dart from counter =

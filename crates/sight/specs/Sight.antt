@@ -9,8 +9,8 @@ use Rattle.model.specs.declared.Map.{Map}
 use Rattle.model.specs.Maps.{empty-map, with-outline}
 use Rattle.model.specs.Outline.{visible-edges}
 use Rattle.model.specs.Arrival.{turning-left, turning-right, left-corner, right-corner}
-use Rattle.hull.specs.declared.sight.Seen.{Seen}
-use Rattle.hull.specs.declared.sight.Sought.{Sought}
+use Rattle.sight.specs.declared.Seen.{Seen}
+use Rattle.sight.specs.declared.Sought.{Sought}
 
 -- the corner sought if it is found; else corner a, where a test that failed before it passes after it
 abbrev pub sought-at : Sought → Bool → Bool → ℕ → Sought

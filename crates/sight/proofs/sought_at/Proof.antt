@@ -1,7 +1,7 @@
--- `hull::sight::sought_at` meets its contract, one return for each way through its tests.
+-- `sight::sought_at` meets its contract, one return for each way through its tests.
 use borrow.Author.Needs.{needs}
-use Rattle.hull.proofs.sight.sought_at.Statement.{statement}
-use Rattle.hull.proofs.sight.sought_at.Tie as tie
+use Rattle.sight.proofs.sought_at.Statement.{statement}
+use Rattle.sight.proofs.sought_at.Tie as tie
 
 returns-3 : tie.Need-returns-3
 returns-3 c = rw (c .before .before .if1 .left, c .before .if2 .left, c .if3 .taken)

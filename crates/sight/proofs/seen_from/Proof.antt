@@ -1,4 +1,4 @@
--- `hull::sight::seen_from` meets its contract: where what is visible turns at two corners, and where
+-- `sight::seen_from` meets its contract: where what is visible turns at two corners, and where
 -- nothing is visible, p is not beyond; else it is.
 use borrow.Author.Needs.{needs}
 use mathlib.Core.Path.{_≡_, sym, ap, _∙_}
@@ -7,12 +7,12 @@ use lib.Dec.{T}
 use Rattle.model.specs.declared.Map.{Map}
 use Rattle.model.specs.Maps.{with-outline}
 use Rattle.model.specs.Arrival.{is-beyond, farther}
-use Rattle.hull.specs.declared.sight.Seen.{Seen}
-use Rattle.hull.specs.Sight.{turning, seen}
-use Rattle.hull.proofs.Beyond.{beyond-by-turning, not-beyond-by-turning, not-beyond-unseen, seen-turning, seen-beyond}
-use Rattle.hull.proofs.Seeing.{by-arrays, turning-by-arrays, farther-by-arrays, seen-by-arrays}
-use Rattle.hull.proofs.sight.seen_from.Statement.{statement}
-use Rattle.hull.proofs.sight.seen_from.Tie as tie
+use Rattle.sight.specs.declared.Seen.{Seen}
+use Rattle.sight.specs.Sight.{turning, seen}
+use Rattle.sight.proofs.Beyond.{beyond-by-turning, not-beyond-by-turning, not-beyond-unseen, seen-turning, seen-beyond}
+use Rattle.sight.proofs.Seeing.{by-arrays, turning-by-arrays, farther-by-arrays, seen-by-arrays}
+use Rattle.sight.proofs.seen_from.Statement.{statement}
+use Rattle.sight.proofs.seen_from.Tie as tie
 
 -- the map whose arrays are lent
 abbrev lent : tie.Start → Map

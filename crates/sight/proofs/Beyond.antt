@@ -31,8 +31,8 @@ use Rattle.plane.proofs.Convex.{Convex, next-below, next-differs, prev-member}
 use Rattle.plane.proofs.Beyond.{two-corners, all-visible, all-visible-two, farther-corner, farther-only}
 use Rattle.plane.proofs.Corners.{LeftCorner, RightCorner, left-not-right, left-corner-seen, right-corner-seen, left-corner-first, right-corner-first}
 use Rattle.maps.proofs.Outline.{outline-circuit, outline-both-ways, outline-long, outline-first}
-use Rattle.hull.specs.Requires.{Accepted}
-use Rattle.hull.specs.Sight.{turning, seen}
+use Rattle.sight.specs.Requires.{Accepted}
+use Rattle.sight.specs.Sight.{turning, seen}
 
 -- the outline of a sound map is a convex outline of its points
 pub sound-convex : {m : Map} → Shaped m → 2 ≤ m .count →

@@ -1,9 +1,9 @@
--- `hull::sight::plus_one_if` meets its contract.
+-- `sight::plus_one_if` meets its contract.
 use borrow.Author.Needs.{needs}
 use native.Mathlib.Omega.{arith}
 use Rattle.finite.specs.Bounded.{one-if}
-use Rattle.hull.proofs.sight.plus_one_if.Statement.{statement}
-use Rattle.hull.proofs.sight.plus_one_if.Tie as tie
+use Rattle.sight.proofs.plus_one_if.Statement.{statement}
+use Rattle.sight.proofs.plus_one_if.Tie as tie
 
 returns : tie.Need-returns
 unfolding one-if

@@ -1,13 +1,16 @@
 -- A loop that compares two lists place by place, in the order of this page: lists of different lengths; how far it
--- has come (`Comparing`); its start, a place where the lists differ, one where they do not, and its end.
-use mathlib.Core.Path.{_≡_, sym}
+-- has come (`Comparing`); its start, a place where the lists differ, one where they do not, and its end;
+-- the same of numbers, of whatever width.
+use mathlib.Core.Path.{_≡_, sym, ap}
 use mathlib.Core.Logic.{_≢_}
 use mathlib.Core.Bool.{Bool, true, false, not}
 use mathlib.Core.List.{List}
 use Prim.Native.Nat.{ℕ, _+_, _≤_, _<_}
+use borrow.Author.Tests.{eq-eqb, ne-eqb}
+use lib.Dec.{eqb}
 use lib.ListN.{length, getD}
 use Rattle.finite.specs.Tests.{is-false}
-use Rattle.finite.specs.Lists.{same-by}
+use Rattle.finite.specs.Lists.{same-by, same-list}
 use Rattle.finite.specs.ListLaws.{same-by-length}
 use Rattle.finite.specs.Loops.{Passed, none-passed, Iteration, one-passed, one-failed, all-passed, side-by-side}
 
@@ -36,3 +39,12 @@ module _ {A : Type 0} {same : A → A → Bool} {d : A} {s t : List A} where
 
     pub all-alike : length s ≤ k → true ≡ same-by same s t
     all-alike l = all-passed (side-by-side same s t d (c .lengths)) (c .passed) l
+
+-- ---- numbers, of whatever width, which the code finds different or equal
+
+module _ {a b : List ℕ} {k : ℕ} (c : Comparing eqb 0 a b k) where
+  pub number-differs : k < length a → getD a k 0 ≢ getD b k 0 → false ≡ same-list a b
+  number-differs l n = one-differs c l (ap not (ne-eqb _ _ n))
+
+  pub number-alike : getD a k 0 ≡ getD b k 0 → Comparing eqb 0 a b (k + 1)
+  number-alike e = one-alike c (ap not (eq-eqb _ _ e))

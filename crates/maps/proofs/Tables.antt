@@ -11,8 +11,8 @@ use native.Mathlib.Omega.{arith}
 use borrow.Author.Tests.{le-ltb}
 use mir.Val.{boolByte}
 use lib.ListN.{length, getD, set, replicate, List·getD-eq-default}
-use Rattle.finite.specs.ListLaws.{replicate-at}
 use Rattle.finite.specs.Bounded.{table, lt-or-ge, length-table, getD-table}
+use Rattle.finite.specs.ListLaws.{replicate-at}
 use Rattle.finite.specs.Loops.{Filled, one-filled}
 use Rattle.orbits.specs.Sets.{dart-limit}
 use Rattle.orbits.specs.Links.{Composable, Permutes, Involutes, Permuted, link-of, test-of}

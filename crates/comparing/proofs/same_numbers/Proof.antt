@@ -1,12 +1,9 @@
 -- `comparing::same_numbers` meets its contract: the loop compares every place.
 use borrow.Author.Needs.{needs}
-use mathlib.Core.Path.{ap}
-use mathlib.Core.Bool.{not}
 use Prim.Native.Nat.{_-_}
 use native.Mathlib.Omega.{arith}
-use borrow.Author.Tests.{eq-eqb, ne-eqb}
 use lib.Dec.{eqb}
-use Rattle.comparing.proofs.Alike.{Comparing, different-lengths, none-compared, one-differs, one-alike, all-alike}
+use Rattle.comparing.proofs.Alike.{Comparing, different-lengths, none-compared, number-differs, number-alike, all-alike}
 use Rattle.comparing.proofs.same_numbers.Statement.{statement}
 use Rattle.comparing.proofs.same_numbers.Tie as tie
 
@@ -23,11 +20,10 @@ loop-holds : tie.Need-loop-holds Inv-loop μ-loop
 loop-holds c = none-compared (c .if1 .left)
 
 returns-2 : tie.Need-returns-2 Inv-loop μ-loop
-returns-2 c =
-    one-differs (c .before .before .before .before .loop .inv) (omega arith) (ap not (ne-eqb _ _ (c .if2 .taken)))
+returns-2 c = number-differs (c .before .before .before .before .loop .inv) (omega arith) (c .if2 .taken)
 
 loop-again : tie.Need-loop-again Inv-loop μ-loop
-loop-again c = one-alike (c .before .before .before .before .loop .inv) (ap not (eq-eqb _ _ (c .if2 .left)))
+loop-again c = number-alike (c .before .before .before .before .loop .inv) (c .if2 .left)
 
 returns-3 : tie.Need-returns-3 Inv-loop μ-loop
 returns-3 c = all-alike (c .before .loop .inv) (omega arith)

@@ -8,9 +8,9 @@ use mathlib.Core.List.{List}
 use Prim.Native.Nat.{ℕ}
 use native.Mathlib.Omega.{arith}
 use denote.Ref.{now}
+use lib.ListN.{length}
 use Rattle.finite.specs.Tests.{of-true, is-false}
 use Rattle.finite.specs.Lists.{same-list}
-use lib.ListN.{length}
 use Rattle.finite.specs.Bounded.{table, length-table}
 use Rattle.model.specs.declared.Point.{Point}
 use Rattle.model.specs.declared.Map.{Map}

@@ -12,7 +12,7 @@
 --     CycleLaws    what holds along a chain and round a cycle; the ring that a cycle is
 --     Rings        a ring from its first member on; the member after a place of a cycle
 --     Reversal     chains and cycles read backwards
---     Loops        invariants of loops that test, search, fill an array, or go round a ring
+--     Loops        invariants of loops that test, search or fill an array
 pub mod Tests
 pub mod Bounded
 pub mod Counting

@@ -2,23 +2,22 @@
 --     for k in first..stop { if !here(k) { return false; } } true
 -- In this order: what such a loop tests; its invariant, `Passed`, with the laws of its start, of one
 -- iteration, of an early return and of its end; what tests every number below a bound, every element
--- from a place on, and every place of a list. Then the same laws for loops that fill an array, and for
--- loops round the corners of a ring.
+-- from a place on, and every place of a list. Then the same laws for loops that fill an array.
 use mathlib.Core.Path.{_≡_, sym, ap, subst, _∙_}
-use mathlib.Core.Logic.{_≢_, ⊎-elim}
-use mathlib.Core.Bool.{Bool, true, false, not, cond, _&&_}
-use mathlib.Core.List.{List, []}
+use mathlib.Core.Logic.{⊎-elim}
+use mathlib.Core.Bool.{Bool, true, false, not, _&&_}
+use mathlib.Core.List.{List}
 use Prim.Native.Nat.{ℕ, suc, _+_, _-_, _≤_, _<_}
-use native.Mathlib.Nat.{zero-add, sub-zero}
+use native.Mathlib.Nat.{zero-add}
 use native.Mathlib.Numerals.{add-one}
 use native.Mathlib.Omega.{arith}
-use borrow.Author.Tests.{not-true, not-false, eq-eqb, ne-eqb}
-use lib.Dec.{T, eqb}
+use borrow.Author.Tests.{not-true, not-false}
+use lib.Dec.{T}
 use lib.ListN.{length, getD, set, drop, length-drop, length-set}
 use lib.Seq.{getD-drop, getD-set-same, getD-set-other, ext-getD}
 use Rattle.finite.specs.Tests.{of-true, same-test}
 use Rattle.finite.specs.Bounded.{all, table, all-at, all-by, below-suc, lt-or-ge, length-table, getD-table}
-use Rattle.finite.specs.Lists.{same-by, all-in, all-places, ring}
+use Rattle.finite.specs.Lists.{same-by, all-in, all-places}
 use Rattle.finite.specs.ListLaws.{getD-any, all-in-at, all-in-by, all-places-at}
 use Rattle.finite.specs.ListLaws.{all-places-by, same-by-at, same-by-by}
 
@@ -186,42 +185,3 @@ module _ {A : Type 0} {f : ℕ → A} {d : A} {n m : ℕ} {s : List A} where
         whole = p .front .whole;
         so-far = λ j b. ⊎-elim (p .front .so-far j) (λ (h : k ≤ j). p .rest j (omega arith) b) (lt-or-ge j k);
       }
-
--- ---- loops round the corners of a ring
-
--- k of at most n corners have passed, and what is still to be tested, from corner a on, decides the answer
-pub record Round (p : ℕ → Bool) (f : ℕ → ℕ) (start n k a : ℕ) (answer : Bool) : Type 0 where
-  pub rest : all-in p (ring f start (n - k) a) ≡ answer
-
-pub round-begun : {p : ℕ → Bool} {f : ℕ → ℕ} {start n a : ℕ} {answer : Bool} →
-    all-in p (ring f start n a) ≡ answer → Round p f start n 0 a answer
-round-begun e = record { rest = rw sub-zero e }
-
--- an iteration at corner a, in which the code found r for the test there, and b for the next corner
-pub record Corner (p : ℕ → Bool) (f : ℕ → ℕ) (start n k a : ℕ) (answer r : Bool) (b : ℕ) : Type 0 where
-  pub round : Round p f start n k a answer
-  pub within : k < n
-  pub found : r ≡ p a
-  pub led : b ≡ f a
-
-module _ {p : ℕ → Bool} {f : ℕ → ℕ} {start n k a b : ℕ} {answer r : Bool} (c : Corner p f start n k a answer r b) where
-  decides : (r && all-in p (cond (eqb b start) [] (ring f start (n - (k + 1)) b))) ≡ answer
-  unfolding all-in ring
-  decides =
-      let e : n - k ≡ suc (n - (k + 1)) = omega (arith, c .within) in
-      rw (c .found, c .led) (rw e at (c .round .rest))
-
-  pub corner-failed : not r ≡ true → false ≡ answer
-  corner-failed t = rw (not-true r t) at decides
-
-  pub came-round : not r ≡ false → b ≡ start → true ≡ answer
-  unfolding all-in
-  came-round t e = rw (not-false r t, eq-eqb b start e) at decides
-
-  pub corner-passed : not r ≡ false → b ≢ start → Round p f start n (k + 1) b answer
-  corner-passed t e = record { rest = rw (not-false r t, ne-eqb b start e) at decides }
-
-pub all-round : {p : ℕ → Bool} {f : ℕ → ℕ} {start n k a : ℕ} {answer : Bool} →
-    Round p f start n k a answer → n ≤ k → true ≡ answer
-unfolding all-in ring
-all-round {n} {k} w l = let e : n - k ≡ 0 = omega arith in rw e at (w .rest)

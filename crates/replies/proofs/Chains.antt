@@ -1,40 +1,42 @@
 -- Demand 3 at the boundary, in the order of this page: what a call of `reach_offer` leaves, by the
 -- number that it returns; the file that an offer leaves of a sound map's file is that of the map
--- after the offer; so a chain of calls from the empty map's file holds the map of the run
--- (`file-run`), of which demand 3 is proved.
-use mathlib.Core.Path.{_≡_, refl, sym, ap, _∙_}
+-- after the offer. So after calls from the empty map's file on, whatever each returned, the caller has
+-- the file of the map of the run of the served offers (`calls-run`), of which demand 3 is proved, and
+-- the run's history has just these (`calls-history`).
+use mathlib.Core.Path.{_≡_, refl, sym, ap, subst, _∙_}
 use mathlib.Core.Logic.{_≢_}
-use mathlib.Core.Bool.{Bool, true, false, not, cond, _||_}
-use mathlib.Core.List.{List, [], _∷_, _++_, append-nil}
+use mathlib.Core.Bool.{not, _||_}
+use mathlib.Core.List.{List, [], _∷_, _++_, map, map-append}
 use Prim.Native.Nat.{ℕ}
 use native.Mathlib.Omega.{arith}
 use lib.Dec.{T}
-use lib.ListN.{length, drop}
+use lib.ListN.{length, drop, take}
+use lib.Seq.{take-append-seam}
 use Rattle.finite.specs.Tests.{is-true}
 use Rattle.model.specs.declared.Refusal.{Refusal}
 use Rattle.model.specs.declared.Point.{Point}
 use Rattle.model.specs.declared.Map.{Map}
 use Rattle.model.specs.declared.Offered.{Offered}
-use Rattle.model.specs.Refusals.{number, Rule, _when_, unless}
+use Rattle.model.specs.Refusals.{number, Rule, _when_, unless, NoneApplies, nor}
 use Rattle.model.specs.Maps.{empty-map}
 use Rattle.model.specs.Sound.{sound}
 use Rattle.model.specs.Arrival.{arrive, refusing}
 use Rattle.model.specs.Offers.{offer-rules, offer-call, offer}
-use Rattle.model.specs.History.{Run, extended, run-from, run}
+use Rattle.model.specs.History.{Run, extended, run-from, run, offered-point}
 use Rattle.model.specs.Saved.{map-in, saved, file-in-form, loaded}
 use Rattle.model.proofs.Sound.{sound-is}
-use Rattle.model.proofs.Answers.{rule-passes, unless-made}
-use Rattle.hull.proofs.Sound.{sound-shaped, empty-is-sound}
-use Rattle.hull.proofs.Offers.{sound-kept}
-use Rattle.hull.proofs.History.{run-sound}
+use Rattle.model.proofs.Answers.{RulesDecide, refuses, serves, unless-decides, unless-none}
+use Rattle.model.proofs.Answers.{unless-refuses, none-both, refuses-some, rule-passes, unless-made}
+use Rattle.hull.proofs.Sound.{sound-shaped}
+use Rattle.hull.proofs.History.{offer-either, run-sound}
 use Rattle.layout.proofs.Form.{is-saved}
 use Rattle.saved.proofs.Files.{saved-in-form, map-back}
-use Rattle.loading.specs.Opening.{served}
+use Rattle.loading.specs.Opening as opening
 use Rattle.loading.proofs.Saving.{load-of-save}
 use Rattle.model.specs.Lent.{and-short, is-short}
 use Rattle.replies.specs.Opened.{of-file}
 use Rattle.replies.specs.Replies.{Offering, meaning-of, arrival-told}
-use Rattle.replies.specs.Chains.{file-after, files-after}
+use Rattle.replies.specs.Chains.{file-after, Calls, begun, served, refused}
 
 -- ---- what a call leaves
 
@@ -53,50 +55,22 @@ number-some Refusal.ShortList e = omega arith
 number-some Refusal.BadOutline e = omega arith
 number-some Refusal.NoSurvey e = omega arith
 
--- rules that come to the number 0: none applies, in the front of the list either
-none-applies : {A : Type 0} (f : Refusal → A) (rules more : List Rule) (x : A) →
-    unless number (rules ++ more) 0 ≡ 0 → unless f rules x ≡ x
-unfolding unless
-none-applies f [] more x e = refl
-none-applies f (rule ∷ rules) more x e = go (rule .applies) e (none-applies f rules more x)
-  where
-    go : (t : Bool) → cond t (number (rule .refusal)) (unless number (rules ++ more) 0) ≡ 0 →
-        (unless number (rules ++ more) 0 ≡ 0 → unless f rules x ≡ x) →
-        cond t (f (rule .refusal)) (unless f rules x) ≡ x
-    go true e rest = absurd (number-some (rule .refusal) e)
-    go false e rest = rest e
+module _ (rules : List Rule) where
+  -- rules that come to the number 0: none applies
+  none-numbered : unless number rules 0 ≡ 0 → NoneApplies rules
+  none-numbered = go (unless-decides number rules 0)
+    where
+      go : {n : ℕ} → RulesDecide number rules 0 n → n ≡ 0 → NoneApplies rules
+      go (refuses r f) e = absurd (number-some r e)
+      go (serves f) e = f
 
--- another number: some rule applies ..
-some-applies : {A : Type 0} (a x : A) (rules : List Rule) →
-    unless number rules 0 ≢ 0 → unless (λ r. a) rules x ≡ a
-unfolding unless
-some-applies a x [] n = absurd (n refl)
-some-applies a x (rule ∷ rules) n = go (rule .applies) n (some-applies a x rules)
-  where
-    go : (t : Bool) → cond t (number (rule .refusal)) (unless number rules 0) ≢ 0 →
-        (unless number rules 0 ≢ 0 → unless (λ r. a) rules x ≡ a) →
-        cond t a (unless (λ r. a) rules x) ≡ a
-    go true n rest = refl
-    go false n rest = rest n
-
--- .. and one that comes before number 10, unless that is the number
-before-10 : {A : Type 0} (a x : A) (short : Bool) (rules : List Rule) →
-    unless number (and-short rules short) 0 ≢ 0 → unless number (and-short rules short) 0 ≢ 10 →
-    unless (λ r. a) rules x ≡ a
-unfolding unless number
-before-10 a x true [] n ten = absurd (ten refl)
-before-10 a x false [] n ten = absurd (n refl)
-before-10 a x short (rule ∷ rules) n ten = go (rule .applies) n ten (before-10 a x short rules)
-  where
-    later : ℕ
-    later = unless number (and-short rules short) 0
-
-    go : (t : Bool) → cond t (number (rule .refusal)) later ≢ 0 →
-        cond t (number (rule .refusal)) later ≢ 10 →
-        (later ≢ 0 → later ≢ 10 → unless (λ r. a) rules x ≡ a) →
-        cond t a (unless (λ r. a) rules x) ≡ a
-    go true n ten rest = refl
-    go false n ten rest = rest n ten
+  -- another number: one applies
+  some-numbered : {A : Type 0} (a x : A) → unless number rules 0 ≢ 0 → unless (λ r. a) rules x ≡ a
+  some-numbered a x = go (unless-decides number rules 0)
+    where
+      go : {n : ℕ} → RulesDecide number rules 0 n → n ≢ 0 → unless (λ r. a) rules x ≡ a
+      go (refuses r f) n = unless-refuses (λ r. a) x f
+      go (serves f) n = absurd (n refl)
 
 -- a call that was lent the file s, and returned k
 module _ (s : List ℕ) (p : Point) {before after before′ after′ : List ℕ} {k : ℕ}
@@ -110,60 +84,94 @@ module _ (s : List ℕ) (p : Point) {before after before′ after′ : List ℕ}
   abbrev told : List ℕ
   told = arrival-told (meaning-of (offer-call (map-in s) p))
 
-  abbrev short : Bool
-  short = is-short file before || is-short told before′
+  abbrev all-rules : List Rule
+  all-rules = and-short rules (is-short file before || is-short told before′)
 
-  -- served: the lent list starts with the file after the offer, and keeps its tail
+  none-applies : k ≡ 0 → NoneApplies all-rules
+  none-applies e = none-numbered all-rules (sym (o .code) ∙ e)
+
+  -- served: no rule of an offer to the file's map applies,
+  pub served-free : k ≡ 0 → NoneApplies rules
+  served-free e = none-both rules (none-applies e) .0
+
+  -- and the lent list starts with the file after the offer, and keeps its tail
   pub served-leaves : k ≡ 0 → after ≡ file-after s p ++ drop (length (file-after s p)) before
   unfolding file-after
   served-leaves e =
-      let none : unless number (and-short rules short) 0 ≡ 0 = sym (o .code) ∙ e in
       o .list
-      ∙ none-applies (λ r. before) (and-short rules short) [] (file ++ drop (length file) before)
-      (rw append-nil none)
-      ∙ ap (λ (t : List ℕ). t ++ drop (length t) before)
-      (sym (none-applies (λ r. s) rules _ file none))
+      ∙ unless-none (λ r. before) (file ++ drop (length file) before) (none-applies e)
+      ∙ ap (λ (t : List ℕ). t ++ drop (length t) before) (sym (unless-none (λ r. s) file (served-free e)))
 
-  -- refused: the lent list is as it was ..
+  -- refused, with any number: the lent list is as it was
   pub refused-leaves : k ≢ 0 → after ≡ before
-  refused-leaves n = o .list ∙ some-applies before _ (and-short rules short) (λ e. n (o .code ∙ e))
-
-  -- .. and the file that the caller goes on with is the one that it had. Number 10 alone says
-  -- nothing of the offer: a lent list is too short.
-  pub refused-stays : k ≢ 0 → k ≢ 10 → file-after s p ≡ s
-  unfolding file-after
-  refused-stays n ten = before-10 s file short rules (λ e. n (o .code ∙ e)) (λ e. ten (o .code ∙ e))
+  refused-leaves n = o .list ∙ some-numbered all-rules before _ (λ e. n (o .code ∙ e))
 
 -- ---- the file of a sound map
 
-file-of-offer : (m : Map) (p : Point) → T (sound m) → file-after (saved m) p ≡ saved (offer m p .map)
-unfolding file-after offer
-file-of-offer m p t =
-    let s = sound-shaped m t in
-    rw (map-back is-saved s (λ e. sound-is m t .is-built))
-    (sym
-    (rule-passes (λ r. saved m) (Refusal.BadFile when not (file-in-form (saved m)))
-    (offer-rules m p) (saved (arrive m p .map))
-    (ap not (is-true (file-in-form (saved m)) (saved-in-form is-saved s)))
-    (unless-made (λ (o : Offered). saved (o .map)) (refusing m) (λ r. saved m) (λ r. refl)
-    (offer-rules m p) (arrive m p))))
+module _ (m : Map) (t : T (sound m)) where
+  map-kept : map-in (saved m) ≡ m
+  map-kept = map-back is-saved (sound-shaped m t) (λ e. sound-is m t .is-built)
 
--- ---- a chain of calls
+  file-of-offer : (p : Point) → file-after (saved m) p ≡ saved (offer m p .map)
+  unfolding file-after offer
+  file-of-offer p =
+      rw map-kept
+      (sym
+      (rule-passes (λ r. saved m) (Refusal.BadFile when not (file-in-form (saved m)))
+      (offer-rules m p) (saved (arrive m p .map))
+      (ap not (is-true (file-in-form (saved m)) (saved-in-form is-saved (sound-shaped m t))))
+      (unless-made (λ (o : Offered). saved (o .map)) (refusing m) (λ r. saved m) (λ r. refl)
+      (offer-rules m p) (arrive m p))))
 
-file-run-from : (r : Run) → T (sound (r .map)) → (ps : List Point) →
-    files-after (saved (r .map)) ps ≡ saved (run-from r ps .map)
-unfolding files-after run-from extended
-file-run-from r t [] = refl
-file-run-from r t (p ∷ ps) =
-    ap (λ (u : List ℕ). files-after u ps) (file-of-offer (r .map) p t)
-    ∙ file-run-from (extended r p) (sound-kept (r .map) p t) ps
+  -- where no rule of an offer to the file applies, none of an offer to the map does
+  free-of-map : (p : Point) {s : List ℕ} → s ≡ saved m →
+      NoneApplies (of-file s (λ n. offer-call n p .rules)) → NoneApplies (offer-rules m p)
+  free-of-map p e free = go (subst (λ (u : List ℕ). NoneApplies (of-file u (λ n. offer-call n p .rules))) e free)
+    where
+      go : NoneApplies (of-file (saved m) (λ n. offer-call n p .rules)) → NoneApplies (offer-rules m p)
+      go (nor n rest) = subst (λ (n : Map). NoneApplies (offer-rules n p)) map-kept rest
 
--- from the empty map's file the chain holds the map of the run, of which `always-balanced` speaks,
-pub file-run : (ps : List Point) → files-after (saved empty-map) ps ≡ saved (run ps .map)
+-- ---- calls, whatever each returned
+
+run-more : (r : Run) (ps : List Point) (p : Point) → run-from r (ps ++ p ∷ []) ≡ extended (run-from r ps) p
+unfolding run-from
+run-more r [] p = refl
+run-more r (q ∷ ps) p = run-more (extended r q) ps p
+
+one-more : (ps : List Point) (p : Point) → run (ps ++ p ∷ []) ≡ extended (run ps) p
 unfolding run
-file-run ps = file-run-from (record { map = empty-map; history = [] }) empty-is-sound ps
+one-more = run-more (record { map = empty-map; history = [] })
 
--- and that map is what is loaded from it
-pub chain-loads : (ps : List Point) →
-    loaded (files-after (saved empty-map) ps) ≡ served (run ps .map)
-chain-loads ps = ap loaded (file-run ps) ∙ load-of-save is-saved (run ps .map) (run-sound ps)
+-- the file that the caller has is that of the map of the served offers, of which `always-balanced`
+-- speaks,
+pub calls-run : {s : List ℕ} {ps : List Point} → Calls s ps → s ≡ saved (run ps .map)
+unfolding run run-from extended
+calls-run begun = refl
+calls-run (served {s} {ps} p c o) =
+    ap (take (length (file-after s p))) (served-leaves s p o refl)
+    ∙ take-append-seam (file-after s p) _
+    ∙ ap (λ (u : List ℕ). file-after u p) (calls-run c)
+    ∙ file-of-offer (run ps .map) (run-sound ps) p
+    ∙ ap (λ (r : Run). saved (r .map)) (sym (one-more ps p))
+calls-run (refused p c o n) = calls-run c
+
+-- that map is what is loaded from it,
+pub calls-load : {s : List ℕ} {ps : List Point} → Calls s ps → loaded s ≡ opening.served (run ps .map)
+calls-load {ps} c = ap loaded (calls-run c) ∙ load-of-save is-saved (run ps .map) (run-sound ps)
+
+-- and the accepted offers of the run are the served ones
+pub calls-history : {s : List ℕ} {ps : List Point} → Calls s ps → map offered-point (run ps .history) ≡ ps
+unfolding run run-from offered-point
+calls-history begun = refl
+calls-history (served {s} {ps} p c o) =
+    subst Lists (sym (one-more ps p))
+    (offer-either Lists (run ps) p
+    (λ t a. map-append offered-point (run ps .history) _ ∙ ap (λ (qs : List Point). qs ++ p ∷ []) (calls-history c))
+    (λ refusal f. absurd (refuses-some f free)))
+  where
+    free : NoneApplies (offer-rules (run ps .map) p)
+    free = free-of-map (run ps .map) (run-sound ps) p (calls-run c) (served-free s p o refl)
+
+    Lists : Run → Type 0
+    Lists r = map offered-point (r .history) ≡ ps ++ p ∷ []
+calls-history (refused p c o n) = calls-history c

@@ -3,7 +3,7 @@
 --     Opened     the map of a file after its checks
 --     Replies    the rules and the values of each function
 --     Orders     the order of the rules of each function, as numbers
---     Chains     one offer after another, each lent what the one before it left
+--     Chains     calls one after another, whatever number each returned
 pub mod Served
 pub mod Opened
 pub mod Replies

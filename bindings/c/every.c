@@ -7,6 +7,7 @@
  */
 #include "reach.h"
 
+#include <assert.h>
 #include <inttypes.h>
 #include <pthread.h>
 #include <stdio.h>
@@ -43,15 +44,9 @@ static uint8_t outline[REACH_OUTLINE_BYTES];
 /* Points that claims are made on: the session's at first, with room for more than are accepted. */
 static int64_t points[2 * REACH_POINTS + 3] = {0, 0, 4, 0, 1, 3, 5, 4, 2, 1, 6, 7};
 
-/* Offers a point; the map is then the one after it. Its arrival is in out. */
-static uint32_t offer(int64_t x, int64_t y) {
-    uint32_t refusal = reach_offer(map, bytes, x, y, next, sizeof next, out, 4);
-    if (refusal == 0) {
-        bytes += REACH_POINT_BYTES;
-        memcpy(map, next, bytes);
-    }
-    return refusal;
-}
+/* The words of the numbers, and of those that are not there. */
+static const char *const words[] = REACH_REFUSAL_WORDS;
+static_assert(sizeof words / sizeof words[0] == REACH_UNKNOWN + 1, "each number has words");
 
 /* The number in so many bytes from a place of the map on. */
 static uint32_t at(size_t place, size_t width) {
@@ -68,6 +63,17 @@ static int64_t coordinate(size_t place) {
     return value < INT64_C(1) << 31 ? value : value - (INT64_C(1) << 32);
 }
 
+/* Offers a point; the map is then the one after it. Its arrival is in out. */
+static uint32_t offer(int64_t x, int64_t y) {
+    const size_t n = at(REACH_COUNT_PLACE, 2);
+    uint32_t refusal = reach_offer(map, bytes, x, y, next, sizeof next, out, 4);
+    if (refusal == 0) {
+        bytes = REACH_BYTES(n + 1);
+        memcpy(map, next, bytes);
+    }
+    return refusal;
+}
+
 /* Puts the map into version 1, and answers how many bytes it then has. */
 static size_t in_version_1(void) {
     const size_t length_of_all = REACH_FORMER_BYTES(at(REACH_COUNT_PLACE, 2));
@@ -80,15 +86,15 @@ static size_t in_version_1(void) {
 }
 
 /* Loads a file: it is the map, and the tail of the list stays. */
-static void loads(const uint8_t *file, size_t n) {
+static void loads(const uint8_t *file, size_t file_bytes) {
     next[bytes - 1] = next[bytes] = 99;
     length[0] = 0;
-    IS(reach_check(file, n), 0);
-    IS(reach_load(file, n, next, bytes - 1, length, 1), REACH_SHORT_LIST);
-    IS(reach_load(file, n, next, bytes + 1, NULL, 0), REACH_SHORT_LIST);
+    IS(reach_check(file, file_bytes), 0);
+    IS(reach_load(file, file_bytes, next, bytes - 1, length, 1), REACH_SHORT_LIST);
+    IS(reach_load(file, file_bytes, next, bytes + 1, NULL, 0), REACH_SHORT_LIST);
     IS(next[bytes - 1], 99);
     IS(length[0], 0);
-    IS(reach_load(file, n, next, bytes + 1, length, 1), 0);
+    IS(reach_load(file, file_bytes, next, bytes + 1, length, 1), 0);
     IS(length[0], bytes);
     IS(memcmp(next, map, bytes), 0);
     IS(next[bytes], 99);
@@ -138,41 +144,77 @@ static void measures(uint64_t place, int64_t expected) {
 }
 
 /* A place from which no area is given, of the map in so many bytes: the list stays. */
-static void measures_not(size_t n, uint64_t place, uint32_t refusal) {
+static void measures_not(size_t map_bytes, uint64_t place, uint32_t refusal) {
     number[0] = number[1] = -1;
-    for (size_t m = 0; m <= 2; m++) {
-        IS(reach_area(map, n, place, number, m), refusal);
+    for (size_t out_length = 0; out_length <= 2; out_length++) {
+        IS(reach_area(map, map_bytes, place, number, out_length), refusal);
     }
     IS(number[0], -1);
     IS(number[1], -1);
 }
 
-/* A claim on the first n numbers of the points: it is marked so, and the tail of the list stays. */
-static void marks(size_t n, const uint64_t *claim, size_t m, uint64_t expected) {
+/* A claim on the points of the first so many numbers: it is marked so, and the tail of the list
+   stays. */
+static void marks(size_t numbers, const uint64_t *claim, size_t claim_length, uint64_t expected) {
     out[0] = out[1] = 9;
-    IS(reach_mark(points, n, claim, m, out, 1), 0);
+    IS(reach_mark(points, numbers, claim, claim_length, out, 1), 0);
     IS(out[0], expected);
     out[0] = 9;
-    IS(reach_mark(points, n, claim, m, out, 2), 0);
+    IS(reach_mark(points, numbers, claim, claim_length, out, 2), 0);
     IS(out[0], expected);
     IS(out[1], 9);
     out[0] = 9;
-    IS(reach_mark(points, n, claim, m, out, 0), REACH_SHORT_LIST);
-    IS(reach_mark(points, n, claim, m, NULL, 0), REACH_SHORT_LIST);
+    IS(reach_mark(points, numbers, claim, claim_length, out, 0), REACH_SHORT_LIST);
+    IS(reach_mark(points, numbers, claim, claim_length, NULL, 0), REACH_SHORT_LIST);
     IS(out[0], 9);
 }
 
-/* The first n numbers of the points are refused, whatever is claimed: the list stays. */
-static void marks_not(size_t n, uint32_t refusal) {
+/* The points of the first so many numbers are refused, whatever is claimed: the list stays. */
+static void marks_not(size_t numbers, uint32_t refusal) {
     static const uint64_t claim[] = {0, UINT64_MAX};
     out[0] = out[1] = 9;
-    for (size_t m = 0; m <= 2; m++) {
-        for (size_t k = 0; k <= 2; k++) {
-            IS(reach_mark(points, n, claim, m, out, k), refusal);
+    for (size_t claim_length = 0; claim_length <= 2; claim_length++) {
+        for (size_t out_length = 0; out_length <= 2; out_length++) {
+            IS(reach_mark(points, numbers, claim, claim_length, out, out_length), refusal);
         }
     }
     IS(out[0], 9);
     IS(out[1], 9);
+}
+
+/* A number has these words. */
+static void says(uint32_t number, const char *expected) {
+    const char *got = words[number < REACH_UNKNOWN ? number : REACH_UNKNOWN];
+    values++;
+    if (strcmp(got, expected) != 0) {
+        differences++;
+        printf("every.c: number %" PRIu32 " says \"%s\", not \"%s\"\n", number, got, expected);
+    }
+}
+
+/* Each number has words, and no other number has the same. */
+static void refusals(void) {
+    for (size_t i = 0; i <= REACH_UNKNOWN; i++) {
+        IS(strlen(words[i]) > 0, 1);
+        for (size_t j = 0; j < i; j++) {
+            IS(strcmp(words[i], words[j]) == 0, 0);
+        }
+    }
+    says(0, "served");
+    says(REACH_NOT_SOUND, "the map is not sound");
+    says(REACH_FULL, "the map is full");
+    says(REACH_OUT_OF_RANGE, "a coordinate is out of range");
+    says(REACH_REPEATED, "the point is equal to an accepted point");
+    says(5, "withdrawn");
+    says(REACH_NO_DART, "there is no such dart, or no such place of the listing");
+    says(REACH_BAD_FILE, "the file is not in form");
+    says(REACH_BAD_LINE, "the line is not in form");
+    says(REACH_LONG_TEXT, "the text is too long");
+    says(REACH_SHORT_LIST, "the lent list is too short");
+    says(REACH_BAD_OUTLINE, "the outline's text is not in form");
+    says(REACH_NO_SURVEY, "no survey lists these corners in this order");
+    says(REACH_NO_SURVEY + 1, "a number that this header does not have");
+    says(UINT32_MAX, "a number that this header does not have");
 }
 
 static void without_points(void) {
@@ -289,6 +331,25 @@ static void versions(void) {
     refuses(REACH_FREED_LEFT_PLACE(n, 5) + 1, 6, REACH_NOT_SOUND);
     refuses(REACH_FREED_RIGHT_PLACE(n, 5), 4, REACH_NOT_SOUND);
     loads(map, bytes);
+}
+
+/* The session, each point offered to the map in version 1: the map after it is of version 2, and
+   has not the bytes of that one and of a point more. */
+static void offers_to_version_1(void) {
+    bytes = REACH_EMPTY_BYTES;
+    IS(reach_empty(map, sizeof map), 0);
+    for (size_t n = 0; n < 6; n++) {
+        const size_t few = in_version_1();
+        memcpy(map, former, few);
+        bytes = few;
+        IS(offer(points[2 * n], points[2 * n + 1]), 0);
+        IS(bytes, REACH_BYTES(n + 1));
+        IS(at(REACH_VERSION_PLACE, 1), REACH_FILE_VERSION);
+        IS(reach_check(map, bytes), 0);
+        if (n > 0) {
+            IS(reach_check(map, few + REACH_POINT_BYTES), REACH_BAD_FILE);
+        }
+    }
 }
 
 static void orbits(void) {
@@ -457,6 +518,7 @@ static void claims(void) {
         marks(13, listing + i, 4, REACH_RIGHT);
         marks(12, listing + i, 3, REACH_WRONG);
     }
+    marks(6, listing, 4, REACH_WRONG);
     marks(12, listing, 8, REACH_WRONG);
     marks(12, clockwise, 4, REACH_WRONG);
     marks(12, beyond, 4, REACH_WRONG);
@@ -579,13 +641,14 @@ static void *run(void *part) {
 
 int main(void) {
     static struct part parts[] = {
-        {REACH_CALL_STACK, without_points}, {REACH_CALL_STACK, arrivals},
-        {REACH_CALL_STACK, saved_form},     {REACH_CALL_STACK, versions},
-        {REACH_CALL_STACK, orbits},         {REACH_CALL_STACK, walks},
-        {REACH_CALL_STACK, places},         {REACH_CALL_STACK, numbers},
-        {REACH_REPORT_STACK, reports},      {REACH_CALL_STACK, outlines},
-        {REACH_CALL_STACK, areas},          {REACH_CALL_STACK, claims},
-        {REACH_CALL_STACK, rail},           {REACH_CALL_STACK, full},
+        {REACH_CALL_STACK, refusals},   {REACH_CALL_STACK, without_points},
+        {REACH_CALL_STACK, arrivals},   {REACH_CALL_STACK, saved_form},
+        {REACH_CALL_STACK, versions},   {REACH_CALL_STACK, offers_to_version_1},
+        {REACH_CALL_STACK, orbits},     {REACH_CALL_STACK, walks},
+        {REACH_CALL_STACK, places},     {REACH_CALL_STACK, numbers},
+        {REACH_REPORT_STACK, reports},  {REACH_CALL_STACK, outlines},
+        {REACH_CALL_STACK, areas},      {REACH_CALL_STACK, claims},
+        {REACH_CALL_STACK, rail},       {REACH_CALL_STACK, full},
     };
     for (size_t i = 0; i < sizeof parts / sizeof parts[0]; i++) {
         pthread_attr_t attributes;

@@ -12,9 +12,14 @@
 //! reads of drawn sizes. One call in sixty-one, and each call on a full map, is made on as little
 //! stack as `reach.h` says that it needs.
 //!
-//! The seed, the calls of each entry by the number they answer and the number of differences are
-//! printed; the same seed gives the same inputs. The exit status is 1 on a difference, with the
-//! input that shows it, and 2 where the arguments are wrong or the program is not there.
+//! First come inputs that are the same whatever the seed. The clock of `--seconds` starts after
+//! them, and at least `LEAST` inputs of each kind are drawn, whatever it says.
+//!
+//! The seed, the calls of each entry by the number they answer, how many inputs of each kind were
+//! drawn and the number of differences are printed; the same seed gives the same inputs, and a
+//! longer run begins with those of a shorter one. The exit status is 1 on a difference, with the
+//! input that shows it, or where other numbers of inputs were drawn than asked for, and 2 where the
+//! arguments are wrong or the program is not there.
 //!
 //! The second form compares nothing: it prints a line for each of so many surveys, its points and
 //! after a tab the text of their outline, as the archive writes it, for others to read.
@@ -39,15 +44,55 @@ use entries::Comparison;
 use program::Input;
 use reference::saved::VERSIONS;
 use reference::{LIMIT, Map, POINT_LIMIT, Point, TEXT_LIMIT};
+use std::fmt;
 use std::path::PathBuf;
 use std::process::ExitCode;
 use std::time::{Duration, Instant, SystemTime, UNIX_EPOCH};
 use tally::{Difference, Outcome};
 
-/// How much is compared: for so long in all, or so many inputs of each kind.
+/// At least so many inputs of each kind are drawn in a run by the clock.
+const LEAST: u64 = 300;
+
+/// So many inputs are drawn in turn in a run by the clock, maps the fewest.
+const ROUND: Numbers = Numbers { texts: 20, files: 10, maps: 2 };
+
+/// How many inputs there are of each kind.
+#[derive(Clone, Copy, Default, PartialEq)]
+struct Numbers {
+    texts: u64,
+    files: u64,
+    maps: u64,
+}
+
+impl fmt::Display for Numbers {
+    fn fmt(&self, f: &mut fmt::Formatter<'_>) -> fmt::Result {
+        write!(f, "{} texts, {} files, {} maps", self.texts, self.files, self.maps)
+    }
+}
+
+/// How much is drawn: for so long and at least `LEAST` of each kind, or so many of each kind.
 enum Extent {
     For(Duration),
-    Numbers { texts: u64, files: u64, maps: u64 },
+    Numbers(Numbers),
+}
+
+impl Extent {
+    /// Whether these are as many as are asked for.
+    fn is_met(&self, drawn: Numbers) -> bool {
+        match *self {
+            Extent::For(_) => [drawn.texts, drawn.files, drawn.maps].iter().all(|&n| n >= LEAST),
+            Extent::Numbers(asked) => drawn == asked,
+        }
+    }
+}
+
+impl fmt::Display for Extent {
+    fn fmt(&self, f: &mut fmt::Formatter<'_>) -> fmt::Result {
+        match self {
+            Extent::For(_) => write!(f, "at least {LEAST} of each kind"),
+            Extent::Numbers(asked) => asked.fmt(f),
+        }
+    }
 }
 
 struct Arguments {
@@ -86,13 +131,16 @@ fn arguments() -> Result<Arguments, String> {
     let extent = match (seconds, numbers) {
         (None, [None, None, None]) => Extent::For(Duration::from_secs(10)),
         (Some(seconds), [None, None, None]) => Extent::For(Duration::from_secs(seconds)),
-        (None, [texts, files, maps]) => Extent::Numbers {
+        (None, [texts, files, maps]) => Extent::Numbers(Numbers {
             texts: texts.unwrap_or(0),
             files: files.unwrap_or(0),
             maps: maps.unwrap_or(0),
-        },
+        }),
         (Some(_), _) => return Err("--seconds stands alone".into()),
     };
+    if outlines.is_some() && (seconds.is_some() || numbers != [None; 3]) {
+        return Err("--outlines compares nothing, and stands alone".into());
+    }
     match &program {
         Some(path) if outlines.is_none() && !path.is_file() => {
             Err(format!("there is no {}: build it, or --without-program", path.display()))
@@ -199,6 +247,8 @@ struct Session {
     /// Maps that are dear to build.
     pool: Vec<Map>,
     program: Option<PathBuf>,
+    /// The drawn inputs on which calls were compared.
+    drawn: Numbers,
 }
 
 impl Session {
@@ -214,7 +264,8 @@ impl Session {
             .map(|offers| maps::built(&points::survey(draw, offers)))
             .collect();
         pool.push(maps::built(&points::rail(draw, 700)));
-        Ok(Session { comparison, pool, program: arguments.program.clone() })
+        let program = arguments.program.clone();
+        Ok(Session { comparison, pool, program, drawn: Numbers::default() })
     }
 
     /// One text; one in `sample` goes through the program.
@@ -282,28 +333,47 @@ impl Session {
         c.file(&file, 1)
     }
 
-    fn compare(&mut self, extent: &Extent, start: Instant) -> Outcome {
-        match *extent {
-            Extent::For(duration) => {
-                while start.elapsed() < duration {
-                    (0..20).try_for_each(|_| self.text(50))?;
-                    (0..10).try_for_each(|_| self.file())?;
-                    (0..2).try_for_each(|_| self.map())?;
-                }
-            }
-            Extent::Numbers { texts, files, maps } => {
-                let sample = if texts < 100_000 { 50 } else { 1000 };
-                (0..texts).try_for_each(|_| self.text(sample))?;
-                (0..files).try_for_each(|_| self.file())?;
-                (0..maps).try_for_each(|_| self.map())?;
-            }
+    /// Draws an input: 1 where calls on it were compared, else 0.
+    fn compared(&mut self, input: impl FnOnce(&mut Self) -> Outcome) -> Result<u64, Difference> {
+        let calls = self.comparison.tally.total();
+        input(self)?;
+        Ok(u64::from(self.comparison.tally.total() > calls))
+    }
+
+    /// Draws so many inputs; one text in `sample` goes through the program.
+    fn draw(&mut self, numbers: Numbers, sample: usize) -> Outcome {
+        for _ in 0..numbers.texts {
+            self.drawn.texts += self.compared(|session| session.text(sample))?;
+        }
+        for _ in 0..numbers.files {
+            self.drawn.files += self.compared(Session::file)?;
+        }
+        for _ in 0..numbers.maps {
+            self.drawn.maps += self.compared(Session::map)?;
         }
         Ok(())
+    }
+
+    fn compare(&mut self, extent: &Extent) -> Outcome {
+        match *extent {
+            Extent::For(duration) => {
+                // by the rounds and not by what was drawn: else a run that draws nothing has no end
+                let (start, least) = (Instant::now(), LEAST.div_ceil(ROUND.maps));
+                let mut rounds = 0;
+                while rounds < least || start.elapsed() < duration {
+                    self.draw(ROUND, 50)?;
+                    rounds += 1;
+                }
+                Ok(())
+            }
+            Extent::Numbers(numbers) => {
+                self.draw(numbers, if numbers.texts < 100_000 { 50 } else { 1000 })
+            }
+        }
     }
 }
 
 fn main() -> ExitCode {
-    let start = Instant::now();
     let arguments = match arguments() {
         Ok(arguments) => arguments,
         Err(message) => {
@@ -316,13 +386,21 @@ fn main() -> ExitCode {
         return if printed.is_ok() { ExitCode::SUCCESS } else { ExitCode::FAILURE };
     }
     println!("seed {}", arguments.seed);
+    let start = Instant::now();
     let session = Session::new(&arguments).and_then(|mut session| {
-        session.compare(&arguments.extent, start)?;
+        let calls = session.comparison.tally.total();
+        println!("fixed inputs: {calls} calls in {:.1} s", start.elapsed().as_secs_f64());
+        session.compare(&arguments.extent)?;
         Ok(session)
     });
     match session {
-        Ok(session) => {
-            println!("{}", session.comparison.tally);
+        Ok(Session { comparison, drawn, .. }) => {
+            println!("{}", comparison.tally);
+            println!("drawn inputs: {drawn}");
+            if !arguments.extent.is_met(drawn) {
+                println!("TOO FEW OR TOO MANY: asked for {}", arguments.extent);
+                return ExitCode::FAILURE;
+            }
             println!("0 differences");
             ExitCode::SUCCESS
         }

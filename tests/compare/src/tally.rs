@@ -16,7 +16,7 @@ impl Tally {
         *self.0.entry(entry).or_default().entry(number).or_default() += 1;
     }
 
-    fn total(&self) -> u64 {
+    pub fn total(&self) -> u64 {
         self.0.values().flat_map(|numbers| numbers.values()).sum()
     }
 }

@@ -1,4 +1,5 @@
-//! The constants of the C header, which the Rust crate and the reference have too.
+//! The constants of the C header, which the Rust crate and the reference have too, and its words for
+//! the numbers.
 
 use crate::entries::Comparison;
 use crate::tally::{Difference, Outcome};
@@ -16,7 +17,48 @@ fn constant(name: &str) -> Option<i64> {
     if equals == "=" { number.trim_end_matches(',').parse().ok() } else { None }
 }
 
+/// The strings of the header's list of words, in order.
+fn words() -> Vec<&'static str> {
+    let list = HEADER.split_once("#define REACH_REFUSAL_WORDS").map_or("", |(_, after)| after);
+    let list = list.split_once('}').map_or("", |(list, _)| list);
+    list.split('"').skip(1).step_by(2).collect()
+}
+
+/// The words of each number, the withdrawn one too.
+const WORDS: [(u32, &str); 13] = [
+    (0, "served"),
+    (refusal::NOT_SOUND, "the map is not sound"),
+    (refusal::FULL, "the map is full"),
+    (refusal::OUT_OF_RANGE, "a coordinate is out of range"),
+    (refusal::REPEATED, "the point is equal to an accepted point"),
+    (5, "withdrawn"),
+    (refusal::NO_DART, "there is no such dart, or no such place of the listing"),
+    (refusal::BAD_FILE, "the file is not in form"),
+    (refusal::BAD_LINE, "the line is not in form"),
+    (refusal::LONG_TEXT, "the text is too long"),
+    (refusal::SHORT_LIST, "the lent list is too short"),
+    (refusal::BAD_OUTLINE, "the outline's text is not in form"),
+    (refusal::NO_SURVEY, "no survey lists these corners in this order"),
+];
+
 impl Comparison {
+    /// The header has these words in this order, and last those for a number that it does not have.
+    pub fn header_words(&mut self) -> Outcome {
+        let of_header = words();
+        for (number, expected) in WORDS {
+            let got = of_header.get(number as usize);
+            if got != Some(&expected) {
+                let said = format!("the words of {number}\nreach.h {got:?}, here {expected:?}");
+                return Err(Difference(said));
+            }
+            self.tally.add("words of reach.h", 0);
+        }
+        if of_header.len() != WORDS.len() + 1 {
+            return Err(Difference(format!("the words of reach.h\n{of_header:?}")));
+        }
+        Ok(())
+    }
+
     pub fn header(&mut self) -> Outcome {
         let refusals = [
             ("REACH_NOT_SOUND", Refusal::NotSound, refusal::NOT_SOUND),

@@ -154,6 +154,7 @@ fn arguments() -> Result<Arguments, String> {
 /// them, full maps, long texts.
 fn fixed(c: &mut Comparison) -> Outcome {
     c.header()?;
+    c.header_words()?;
     c.null_lists()?;
     for _ in 0..40 {
         c.empty()?;

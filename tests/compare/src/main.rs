@@ -399,7 +399,7 @@ fn main() -> ExitCode {
             println!("{}", comparison.tally);
             println!("drawn inputs: {drawn}");
             if !arguments.extent.is_met(drawn) {
-                println!("TOO FEW OR TOO MANY: asked for {}", arguments.extent);
+                println!("NOT AS ASKED FOR: {}", arguments.extent);
                 return ExitCode::FAILURE;
             }
             println!("0 differences");

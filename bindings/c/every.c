@@ -304,6 +304,8 @@ static void versions(void) {
     loads(former, few);
     IS(reach_check(former, bytes), REACH_BAD_FILE);
     IS(reach_check(map, few), REACH_BAD_FILE);
+    IS(reach_offer(map, few, INT64_MAX, 0, next, sizeof next, out, 4), REACH_BAD_FILE);
+    IS(reach_place(map, few, INT64_MAX, 0, out, 3), REACH_BAD_FILE);
     IS(reach_counts(former, few, out, 5), 0);
     IS(out[0], 11);
     IS(reach_offer(former, few, 0, 9, next, REACH_BYTES(n + 1) - 1, out, 4), REACH_SHORT_LIST);

@@ -3,31 +3,41 @@ use std::fmt;
 /// Why a call is refused. A refused call changes nothing.
 ///
 /// Later engines may refuse for more reasons, and withdraw some: match with a last arm `_`.
+///
+/// It is displayed in a few words:
+///
+/// ```
+/// let refused = reach::read_line(b"4,0").unwrap_err();
+/// assert_eq!(refused.to_string(), "the line is not in form");
+/// ```
 #[derive(Clone, Copy, Debug, PartialEq, Eq, PartialOrd, Ord, Hash)]
 #[non_exhaustive]
 pub enum Refusal {
-    /// The map is not sound: its points, offered in order, do not build it.
+    /// The map is not sound: it is not the one that its points, offered in order, build.
     NotSound,
     /// The map has 512 points already.
     Full,
-    /// A coordinate is below -1,000,000,000 or above 1,000,000,000.
+    /// A coordinate is out of range: below -1,000,000,000 or above 1,000,000,000.
     OutOfRange,
-    /// The offered point equals an accepted point.
+    /// The point is equal to an accepted point.
     Repeated,
-    /// The dart is absent or above 1,023, or an area is asked for from no place of the listing.
+    /// The dart is absent, or above 1,023; of an area: the index is no place of the corners'
+    /// listing.
     NoDart,
-    /// The bytes are not in the saved form, in neither of its versions.
+    /// The file is not in form: it has under 9 bytes, its length does not match its version, its
+    /// number of points and the bytes lent, it has more than 512 points, its version is neither 1
+    /// nor 2, a helper byte is above 1 or an arrival byte above 3.
     BadFile,
-    /// The text line is not in form.
+    /// The line of text is not in form.
     BadLine,
     /// The text has more than 65,536 bytes.
     LongText,
-    /// A lent list is shorter than the result.
+    /// The lent list is shorter than the result.
     ShortList,
-    /// The outline's text is in another spelling, a ring does not end on its first corner, or a
-    /// ring has under three corners.
+    /// The outline's text is in another spelling, its ring does not end on its first corner, or has
+    /// under three corners.
     BadOutline,
-    /// The outline's text has corners that no survey lists in that order.
+    /// No survey lists the corners of the outline's text in that order.
     NoSurvey,
     /// A number that this crate does not know: the archive it is linked with is of a later engine,
     /// or of an earlier one and the number withdrawn, as 5 is.
@@ -87,28 +97,19 @@ impl Refusal {
 impl fmt::Display for Refusal {
     fn fmt(&self, f: &mut fmt::Formatter<'_>) -> fmt::Result {
         f.write_str(match self {
-            Refusal::NotSound => "map not sound",
-            Refusal::Full => "offered point: 512 points already",
-            Refusal::OutOfRange => {
-                "offered or query point, or point of an orientation or of an outline's text: \
-                 coordinate out of range"
-            }
-            Refusal::Repeated => "offered point: equal to an accepted point",
-            Refusal::NoDart => "dart absent or above 1,023; area: no place of the listing",
-            Refusal::BadFile => {
-                "file under 9 bytes, length not matching the version, n and the bytes lent, n above \
-                 512, version neither 1 nor 2, helper byte above 1, or arrival byte above 3"
-            }
-            Refusal::BadLine => "text line not in form",
-            Refusal::LongText => "text above 65,536 bytes",
-            Refusal::ShortList => "lent list shorter than the result; a longer one keeps its tail",
-            Refusal::BadOutline => {
-                "outline's text in another spelling, a ring that does not end on its first corner, \
-                 or a ring of under three corners"
-            }
-            Refusal::NoSurvey => "outline's text: corners that no survey lists in that order",
+            Refusal::NotSound => "the map is not sound",
+            Refusal::Full => "the map is full",
+            Refusal::OutOfRange => "a coordinate is out of range",
+            Refusal::Repeated => "the point is equal to an accepted point",
+            Refusal::NoDart => "there is no such dart, or no such place of the listing",
+            Refusal::BadFile => "the file is not in form",
+            Refusal::BadLine => "the line is not in form",
+            Refusal::LongText => "the text is too long",
+            Refusal::ShortList => "the lent list is too short",
+            Refusal::BadOutline => "the outline's text is not in form",
+            Refusal::NoSurvey => "no survey lists these corners in this order",
             Refusal::Unknown(number) => {
-                return write!(f, "refusal {number}, unknown to this crate");
+                return write!(f, "refused with {number}, which this crate does not know");
             }
         })
     }
@@ -119,6 +120,7 @@ impl std::error::Error for Refusal {}
 #[cfg(test)]
 mod tests {
     use super::Refusal;
+    use std::collections::BTreeSet;
 
     #[test]
     fn a_number_is_looked_up() {
@@ -136,6 +138,13 @@ mod tests {
             assert_eq!(Refusal::of(number), Err(Refusal::Unknown(number)));
             assert_eq!(Refusal::Unknown(number).number(), number);
         }
-        assert_eq!(Refusal::Unknown(18).to_string(), "refusal 18, unknown to this crate");
+        let words = "refused with 18, which this crate does not know";
+        assert_eq!(Refusal::Unknown(18).to_string(), words);
+    }
+
+    #[test]
+    fn each_has_words_of_its_own() {
+        let words: BTreeSet<String> = Refusal::ALL.iter().map(Refusal::to_string).collect();
+        assert_eq!(words.len(), Refusal::ALL.len());
     }
 }

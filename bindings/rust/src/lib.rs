@@ -1,17 +1,17 @@
 //! The convex outline of marks in the plane, built point after point as a linked map of darts.
 //!
 //! The engine is written in Rattle and proved: every function meets its contract for every
-//! argument. This crate calls it safely. [`Map`] is where to begin; [`orientation`], [`read_line`],
-//! [`read_outline`], [`report`] and [`mark`] need no map. What cannot be served is a [`Refusal`],
-//! which has a number and words.
+//! argument. This crate calls it safely. [`Map`] is where to begin, with [`Map::survey`] where the
+//! marks are a text; [`orientation`], [`read_line`], [`read_outline`], [`report`] and [`mark`] need
+//! no map. What cannot be served is a [`Refusal`], which has a number and words.
 //!
 //! ```
 //! use reach::{Map, Point};
 //!
 //! let mut map = Map::new();
 //! let session = [(0, 0), (4, 0), (1, 3), (5, 4), (2, 1), (6, 7)];
-//! for (x, y) in session {
-//!     map.offer(Point { x, y })?;
+//! for point in session.map(Point::from) {
+//!     map.offer(point)?;
 //! }
 //! assert_eq!(map.corners(), [0, 1, 5, 2]);
 //! assert_eq!(map.walk(0)?.moves, 8);
@@ -22,7 +22,7 @@
 //! 1,000,000,000. A map has at most 512 points.
 //!
 //! The engine keeps its work on the stack. A thread of Rust's usual 2 MiB has room for every call;
-//! a smaller one needs [`CALL_STACK`], or [`REPORT_STACK`] for a report.
+//! a smaller one needs [`CALL_STACK`], or [`REPORT_STACK`] for a report or a survey.
 
 #![warn(missing_debug_implementations)]
 
@@ -31,7 +31,7 @@ pub mod raw;
 mod refusal;
 
 pub use map::{
-    Arrival, ArrivalKind, Counts, Ending, Kind, Map, Orbit, Placed, Record, Walk, Walker,
+    Arrival, ArrivalKind, Counts, Ending, Kind, Map, Orbit, Placed, Record, Survey, Walk, Walker,
 };
 pub use refusal::Refusal;
 
@@ -51,7 +51,7 @@ pub const MAP_BYTES: usize = 9_225;
 /// positions, and at most 23 of each of them.
 pub const OUTLINE_BYTES: usize = 12_835;
 
-/// The bytes of stack that [`report`] needs of its thread.
+/// The bytes of stack that [`report`] and [`Map::survey`] need of their thread.
 pub const REPORT_STACK: usize = 524_288;
 
 /// The bytes of stack that every other call needs of its thread.
@@ -64,6 +64,19 @@ pub struct Point {
     pub y: i64,
 }
 
+/// x and y.
+///
+/// ```
+/// use reach::Point;
+///
+/// assert_eq!(Point::from((4, 0)), Point { x: 4, y: 0 });
+/// ```
+impl From<(i64, i64)> for Point {
+    fn from((x, y): (i64, i64)) -> Self {
+        Point { x, y }
+    }
+}
+
 /// The orientation of (a, b, c): positive where c is left of the line from a to b, zero where it is
 /// in line with them, negative where it is right.
 ///
@@ -74,7 +87,7 @@ pub struct Point {
 /// ```
 /// use reach::{Point, orientation};
 ///
-/// let [a, b, c] = [(0, 0), (4, 0), (1, 3)].map(|(x, y)| Point { x, y });
+/// let [a, b, c] = [(0, 0), (4, 0), (1, 3)].map(Point::from);
 /// assert_eq!(orientation(a, b, c), Ok(12));
 /// assert_eq!(orientation(b, a, c), Ok(-12));
 /// ```
@@ -84,7 +97,7 @@ pub struct Point {
 /// ```
 /// use reach::{COORDINATE_LIMIT as FAR, Point, Refusal, orientation};
 ///
-/// let [a, b, c] = [(-FAR, -FAR), (FAR, -FAR), (FAR, FAR)].map(|(x, y)| Point { x, y });
+/// let [a, b, c] = [(-FAR, -FAR), (FAR, -FAR), (FAR, FAR)].map(Point::from);
 /// assert_eq!(orientation(a, b, c), Ok(4_000_000_000_000_000_000));
 /// assert_eq!(orientation(a, b, Point { x: FAR + 1, y: 0 }), Err(Refusal::OutOfRange));
 /// ```
@@ -150,7 +163,7 @@ pub fn report(text: &[u8]) -> Result<Vec<u8>, Refusal> {
 /// ```
 /// use reach::{Point, Refusal, read_outline};
 ///
-/// let corners = [(0, 0), (4, 0), (1, 3)].map(|(x, y)| Point { x, y });
+/// let corners = [(0, 0), (4, 0), (1, 3)].map(Point::from);
 /// assert_eq!(read_outline(b"POLYGON ((0 0, 4 0, 1 3, 0 0))"), Ok(corners.to_vec()));
 /// assert_eq!(read_outline(b"POLYGON EMPTY"), Ok(vec![]));
 /// assert_eq!(read_outline(b"POLYGON ((0 0,4 0,1 3,0 0))"), Err(Refusal::BadOutline));
@@ -178,7 +191,7 @@ pub fn read_outline(text: &[u8]) -> Result<Vec<Point>, Refusal> {
 /// ```
 /// use reach::{Point, Refusal, mark};
 ///
-/// let session = [(0, 0), (4, 0), (1, 3), (5, 4), (2, 1), (6, 7)].map(|(x, y)| Point { x, y });
+/// let session = [(0, 0), (4, 0), (1, 3), (5, 4), (2, 1), (6, 7)].map(Point::from);
 /// assert_eq!(mark(&session, &[0, 1, 5, 2]), Ok(true));
 /// assert_eq!(mark(&session, &[5, 2, 0, 1]), Ok(true));
 /// assert_eq!(mark(&session, &[2, 5, 1, 0]), Ok(false));

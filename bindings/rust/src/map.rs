@@ -1,4 +1,5 @@
-use crate::{MAP_BYTES, OUTLINE_BYTES, Point, Refusal, raw};
+use crate::{MAP_BYTES, OUTLINE_BYTES, Point, Refusal, raw, read_line, report};
+use std::fmt;
 
 const HEAD: usize = 9;
 const POINT_BYTES: usize = 18;
@@ -6,24 +7,45 @@ const POINT_BYTES: usize = 18;
 /// What stands for a dart that was not freed.
 const NO_DART: usize = 1024;
 
-/// A sound map: points in the plane, their darts, how these are linked, and what each arrival freed.
+/// A sound map: points in the plane, their darts, how these are linked, and what each arrival
+/// freed.
 ///
 /// A map owns its bytes in version 2 of the saved form, and is sound by the way it comes about:
-/// empty, loaded from bytes that the engine accepts, or changed by an accepted offer. Maps are equal
-/// where their bytes are, and so where the same points came in the same order.
+/// empty, loaded from bytes that the engine accepts, or changed by an accepted offer. Maps are
+/// equal where their bytes are, and so where the same points came in the same order.
 ///
 /// Point k owns dart 2k and may have the helper dart 2k + 1. Each dart has an edge link and a point
 /// link.
 ///
 /// A method that asks the engine lends it these bytes, and the engine checks them again each time,
 /// as it checks a file: it builds the map of its points and compares. [`Map::len`],
-/// [`Map::is_empty`], [`Map::point`], [`Map::record`] and [`Map::as_bytes`] do not ask it.
+/// [`Map::is_empty`], [`Map::point`], [`Map::points`], [`Map::record`] and [`Map::as_bytes`] do not
+/// ask it.
 #[derive(Clone, Debug, PartialEq, Eq, Hash)]
 pub struct Map {
     bytes: Vec<u8>,
 }
 
+/// What a survey text gives: see [`Map::survey`].
+#[derive(Clone, Debug, PartialEq, Eq)]
+pub struct Survey {
+    /// The map that the text's points build.
+    pub map: Map,
+    /// The answer of each line, by its number: how its point arrived, or why it is refused.
+    pub answers: Vec<Result<Arrival, Refusal>>,
+}
+
 /// What an accepted point does.
+///
+/// It is displayed as a report has it:
+///
+/// ```
+/// use reach::Arrival;
+///
+/// assert_eq!(Arrival::Inside.to_string(), "inside");
+/// let outside = Arrival::Outside { left: 1, right: 2, visible: 1 };
+/// assert_eq!(outside.to_string(), "outside 1 2 1");
+/// ```
 #[derive(Clone, Copy, Debug, PartialEq, Eq, Hash)]
 pub enum Arrival {
     /// It is the first point.
@@ -65,6 +87,19 @@ impl Arrival {
     }
 }
 
+impl fmt::Display for Arrival {
+    fn fmt(&self, f: &mut fmt::Formatter<'_>) -> fmt::Result {
+        match self {
+            Arrival::First => f.write_str("first"),
+            Arrival::Second => f.write_str("second"),
+            Arrival::Inside => f.write_str("inside"),
+            Arrival::Outside { left, right, visible } => {
+                write!(f, "outside {left} {right} {visible}")
+            }
+        }
+    }
+}
+
 /// How a point arrived, as a map keeps it: an [`Arrival`] without its corners and edges.
 #[derive(Clone, Copy, Debug, PartialEq, Eq, Hash)]
 pub enum ArrivalKind {
@@ -74,8 +109,24 @@ pub enum ArrivalKind {
     Outside,
 }
 
-/// What a map keeps of a point's arrival: how it came, and the two darts that it freed. A freed dart
-/// lost its edge link, and stays at the end of an inner chain.
+/// What a map keeps of a point's arrival: how it came, and the two darts that it freed.
+///
+/// A freed dart lost its edge link to the left or the right corner, and no later arrival links it
+/// again. Of the visible edges the first and the last are lost so, and those between stay linked,
+/// as a chain from one freed dart to the other. Where two edges were visible the chain has none,
+/// and the freed darts are the two of one point; where one was, no dart is freed.
+///
+/// ```
+/// use reach::{Ending, Map, Walk};
+///
+/// // three edges are visible from point 4, between the corners 0 and 3
+/// let map = Map::survey(b"0 0\n1 1\n1 9\n0 10\n100 5\n")?.map;
+/// let record = map.record(4).unwrap();
+/// assert_eq!((record.freed_left, record.freed_right), (Some(3), Some(4)));
+/// // the one between the points 1 and 2 stays
+/// assert_eq!(map.walk(2), Ok(Walk { last: 4, ending: Ending::Loose, moves: 2 }));
+/// # Ok::<(), reach::Refusal>(())
+/// ```
 #[derive(Clone, Copy, Debug, PartialEq, Eq, Hash)]
 pub struct Record {
     /// How the point arrived.
@@ -151,6 +202,19 @@ pub struct Walk {
 }
 
 /// Where a query point lies.
+///
+/// It is displayed as a word, with the numbers of the corner, of the edge's corners or of visible
+/// edges after it:
+///
+/// ```
+/// use reach::Placed;
+///
+/// assert_eq!(Placed::NoOutline.to_string(), "none");
+/// assert_eq!(Placed::Corner(1).to_string(), "corner 1");
+/// assert_eq!(Placed::Edge { start: 0, end: 1 }.to_string(), "edge 0 1");
+/// assert_eq!(Placed::Inside.to_string(), "inside");
+/// assert_eq!(Placed::Outside { visible: 2 }.to_string(), "outside 2");
+/// ```
 #[derive(Clone, Copy, Debug, PartialEq, Eq, Hash)]
 pub enum Placed {
     /// The map has fewer than two points, so there is no outline.
@@ -172,6 +236,18 @@ pub enum Placed {
         /// counted, though an arrival there counts them.
         visible: usize,
     },
+}
+
+impl fmt::Display for Placed {
+    fn fmt(&self, f: &mut fmt::Formatter<'_>) -> fmt::Result {
+        match self {
+            Placed::NoOutline => f.write_str("none"),
+            Placed::Corner(corner) => write!(f, "corner {corner}"),
+            Placed::Edge { start, end } => write!(f, "edge {start} {end}"),
+            Placed::Inside => f.write_str("inside"),
+            Placed::Outside { visible } => write!(f, "outside {visible}"),
+        }
+    }
 }
 
 /// A walker that stands at a dart of a map.
@@ -206,6 +282,12 @@ impl Walker<'_> {
 /// The engine's values are numbers of points and darts, which fit.
 fn index(value: u64) -> usize {
     usize::try_from(value).expect("a number below 1,025")
+}
+
+/// The number with which a report's line refuses a line of its text, `N refused R`, or 0.
+fn refused(printed: &str) -> u32 {
+    let number = printed.split_once(" refused ").map_or("0", |(_, number)| number);
+    number.parse().expect("the number of a refusal")
 }
 
 /// What cannot be refused, since the map is sound, the dart present and the list long enough.
@@ -306,6 +388,19 @@ impl Map {
         Some(Point { x: coordinate(place), y: coordinate(place + 4) })
     }
 
+    /// The points, in the order of their acceptance, which is that of their numbers.
+    ///
+    /// ```
+    /// use reach::{Map, Point};
+    ///
+    /// let map = Map::survey(b"0 0\n4 0\n4 0\n1 3\n")?.map;
+    /// assert!(map.points().eq([(0, 0), (4, 0), (1, 3)].map(Point::from)));
+    /// # Ok::<(), reach::Refusal>(())
+    /// ```
+    pub fn points(&self) -> impl ExactSizeIterator<Item = Point> + '_ {
+        (0..self.len()).map(|number| self.point(number).expect("a point has each of these numbers"))
+    }
+
     /// What is kept of the arrival of the point with a number.
     ///
     /// ```
@@ -345,6 +440,10 @@ impl Map {
     }
 
     /// Offers a point. An accepted point gets the next number; a refused one changes nothing.
+    ///
+    /// Each call builds the map anew from its points, to check it: a long survey is better given
+    /// whole, to [`report`], which builds one map, or to [`Map::survey`], which offers accepted
+    /// points alone.
     ///
     /// # Errors
     ///
@@ -388,6 +487,62 @@ impl Map {
             2 => Arrival::Inside,
             _ => Arrival::Outside { left, right, visible },
         })
+    }
+
+    /// The map of a survey text, and the answer of each of its lines, as [`report`] has them.
+    ///
+    /// A line ends in a line feed, which the last may lack; a carriage return before it is a byte
+    /// of the line, which is then not in form.
+    ///
+    /// It costs a report and an offer of each accepted point, of which there are at most 512,
+    /// however many lines are refused. The thread needs [`REPORT_STACK`](crate::REPORT_STACK).
+    ///
+    /// # Errors
+    ///
+    /// [`Refusal::LongText`] where the text has more than [`TEXT_LIMIT`](crate::TEXT_LIMIT) bytes.
+    /// A refused line is among the answers.
+    ///
+    /// ```
+    /// use reach::{Arrival, Map, Refusal, TEXT_LIMIT};
+    ///
+    /// let survey = Map::survey(b"0 0\n4 0\n1 3\n5 4\n2 1\n6 7\n")?;
+    /// let words: Vec<String> = survey.answers.iter().flatten().map(Arrival::to_string).collect();
+    /// let outside = ["outside 1 0 1", "outside 1 2 1", "outside 1 2 2"];
+    /// assert_eq!(words, ["first", "second", outside[0], outside[1], "inside", outside[2]]);
+    /// assert_eq!(survey.map.corners(), [0, 1, 5, 2]);
+    ///
+    /// let survey = Map::survey(b"0 0\n0 0\n\n4 0")?;
+    /// let [repeated, blank] = [Err(Refusal::Repeated), Err(Refusal::BadLine)];
+    /// assert_eq!(survey.answers, [Ok(Arrival::First), repeated, blank, Ok(Arrival::Second)]);
+    /// assert_eq!(survey.map.len(), 2);
+    ///
+    /// assert_eq!(Map::survey(&[b'\n'; TEXT_LIMIT + 1]), Err(Refusal::LongText));
+    /// # Ok::<(), reach::Refusal>(())
+    /// ```
+    ///
+    /// `str::lines` drops carriage returns, and so takes these lines for lines in form:
+    ///
+    /// ```
+    /// use reach::{Map, Refusal, read_line};
+    ///
+    /// let text = "0 0\r\n4 0\r\n1 3\r\n";
+    /// assert!(text.lines().all(|line| read_line(line.as_bytes()).is_ok()));
+    /// let survey = Map::survey(text.as_bytes())?;
+    /// assert_eq!(survey.answers, [Err(Refusal::BadLine); 3]);
+    /// assert!(survey.map.is_empty());
+    /// # Ok::<(), reach::Refusal>(())
+    /// ```
+    pub fn survey(text: &[u8]) -> Result<Survey, Refusal> {
+        let printed = String::from_utf8(report(text)?).expect("a text of ASCII");
+        let lines = text.split_inclusive(|&byte| byte == b'\n').zip(printed.lines().skip(1));
+        let mut map = Map::new();
+        let answer = |(line, printed)| {
+            // an offer builds the map anew even to refuse: a text has room for 16,384 repeats
+            Refusal::of(refused(printed))?;
+            map.offer(read_line(line)?)
+        };
+        let answers = lines.map(answer).collect();
+        Ok(Survey { map, answers })
     }
 
     /// The orbit of a dart.

@@ -35,7 +35,7 @@ pub use orbits::{Counts, Kind, Orbit};
 pub use outline::read_outline;
 pub use place::Placed;
 pub use plane::{LIMIT, Point, orientation};
-pub use text::{DIGIT_LIMIT, TEXT_LIMIT, read_line, report, report_or_refusal};
+pub use text::{DIGIT_LIMIT, TEXT_LIMIT, read_line, report, report_or_refusal, survey};
 pub use walk::{Ending, Walk};
 
 /// A value, or the number of the refusal.

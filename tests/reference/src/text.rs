@@ -33,20 +33,27 @@ pub fn read_line(line: &[u8]) -> Answer<Point> {
     read_bytes(line.strip_suffix(b"\n").unwrap_or(line))
 }
 
+/// The map of a text's lines, offered in turn, and the answer of each of them.
+pub fn survey(text: &[u8]) -> (Map, Vec<Answer<Arrival>>) {
+    let mut lines: Vec<&[u8]> = text.split(|&b| b == b'\n').collect();
+    if lines.last().is_some_and(|last| last.is_empty()) {
+        lines.pop();
+    }
+    let mut map = Map::empty();
+    let answers = lines.into_iter().map(|line| map.offer(read_bytes(line)?)).collect();
+    (map, answers)
+}
+
 /// What the program prints for a text.
 pub fn report(text: &[u8]) -> Vec<u8> {
     const TITLE: &str = "OUTLINE 1\n";
     if text.len() > TEXT_LIMIT {
         return format!("{TITLE}refused {}\n", refusal::LONG_TEXT).into();
     }
-    let mut lines: Vec<&[u8]> = text.split(|&b| b == b'\n').collect();
-    if lines.last().is_some_and(|last| last.is_empty()) {
-        lines.pop();
-    }
-    let mut map = Map::empty();
+    let (map, answers) = survey(text);
     let mut printed = String::from(TITLE);
-    for (number, line) in lines.into_iter().enumerate() {
-        let words = match read_bytes(line).and_then(|p| map.offer(p)) {
+    for (number, answer) in answers.into_iter().enumerate() {
+        let words = match answer {
             Ok(Arrival::First) => "first".into(),
             Ok(Arrival::Second) => "second".into(),
             Ok(Arrival::Inside) => "inside".into(),

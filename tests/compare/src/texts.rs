@@ -92,6 +92,9 @@ pub fn text(draw: &mut Draw) -> Vec<u8> {
         if draw.one_in(damaged_lines) {
             bytes = line(draw);
         }
+        if draw.one_in(damaged_lines) {
+            bytes.push(b'\r');
+        }
         text.extend(bytes);
         text.push(b'\n');
         if draw.one_in(damaged_lines) {

@@ -91,6 +91,8 @@ impl Comparison {
         self.same("Map::corners", &input, Ok(expected.corners()), Ok(map.corners()))?;
         let points: Vec<_> = (0..map.len()).filter_map(|k| map.point(k)).map(point).collect();
         self.same("Map::point", &input, Ok(expected.points.clone()), Ok(points))?;
+        let points = map.points().map(point).collect();
+        self.same("Map::points", &input, Ok(expected.points.clone()), Ok(points))?;
         let records: Vec<_> = (0..map.len()).filter_map(|k| map.record(k)).map(record).collect();
         self.same("Map::record", &input, Ok(expected.records.clone()), Ok(records))?;
         let beyond = [map.len(), usize::MAX].map(|k| (map.point(k), map.record(k)));
@@ -130,7 +132,7 @@ impl Comparison {
 
         let p = points::query(&mut self.draw, &expected);
         let input = || format!("{p:?} and map {}", hex(file));
-        let point = reach::Point { x: p.x, y: p.y };
+        let point = reach::Point::from((p.x, p.y));
         let got =
             number(on_stack("Map::place", reach::CALL_STACK, || map.place(point))).map(placed);
         self.same("Map::place", &input, expected.place(p), got)?;
@@ -143,11 +145,34 @@ impl Comparison {
         self.same("Map::as_bytes", &input, Ok(expected.save()), Ok(map.as_bytes().to_vec()))
     }
 
-    /// The crate's function on a text.
+    /// The crate's functions on a text. The answers of a survey, displayed, are the report's lines.
     pub fn wrapper_report(&mut self, text: &[u8]) -> Outcome {
         let input = || format!("text \"{}\"", text.escape_ascii());
         let got = number(on_stack("report", reach::REPORT_STACK, || reach::report(text)));
-        self.same("report", &input, reference::report_or_refusal(text), got)
+        let report = reference::report_or_refusal(text);
+        self.same("report", &input, report.clone(), got)?;
+
+        let survey = || reach::Map::survey(text);
+        let survey = number(on_stack("Map::survey", reach::REPORT_STACK, survey));
+        let expected = report.clone().map(|_| reference::survey(text));
+        let expected = expected.map(|(map, answers)| (map.save(), map.points, answers));
+        let got = survey.clone().map(|survey| {
+            let points = survey.map.points().map(point).collect();
+            let answers = survey.answers.into_iter().map(|answer| number(answer).map(arrival));
+            (survey.map.into_bytes(), points, answers.collect())
+        });
+        self.same("Map::survey", &input, expected, got)?;
+        let (Ok(report), Ok(survey)) = (report, survey) else {
+            return Ok(());
+        };
+        let report = String::from_utf8(report).expect("a text of ASCII");
+        let lines: Vec<String> = report.lines().map(String::from).collect();
+        let expected = lines[1..lines.len() - 2].to_vec();
+        let displayed = survey.answers.iter().enumerate().map(|(line, answer)| match answer {
+            Ok(arrival) => format!("{line} {arrival}"),
+            Err(refusal) => format!("{line} refused {}", refusal.number()),
+        });
+        self.same("Arrival, displayed", &input, Ok(expected), Ok(displayed.collect()))
     }
 
     /// The crate's function on an outline's text.
@@ -161,7 +186,7 @@ impl Comparison {
     /// The crate's function on a claim on points, x and y in turn.
     pub fn wrapper_mark(&mut self, coordinates: &[i64], claim: &[u64]) -> Outcome {
         let input = || format!("claim {claim:?} on points {coordinates:?}");
-        let point = |pair: &[i64]| reach::Point { x: pair[0], y: pair[1] };
+        let point = |pair: &[i64]| reach::Point::from((pair[0], pair[1]));
         let points: Vec<reach::Point> = coordinates.chunks_exact(2).map(point).collect();
         let numbers: Vec<usize> = claim.iter().map(|&number| number as usize).collect();
         let got = number(on_stack("mark", reach::CALL_STACK, || reach::mark(&points, &numbers)));

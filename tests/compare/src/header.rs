@@ -24,36 +24,24 @@ fn words() -> Vec<&'static str> {
     list.split('"').skip(1).step_by(2).collect()
 }
 
-/// The words of each number, the withdrawn one too.
-const WORDS: [(u32, &str); 13] = [
-    (0, "served"),
-    (refusal::NOT_SOUND, "the map is not sound"),
-    (refusal::FULL, "the map is full"),
-    (refusal::OUT_OF_RANGE, "a coordinate is out of range"),
-    (refusal::REPEATED, "the point is equal to an accepted point"),
-    (5, "withdrawn"),
-    (refusal::NO_DART, "there is no such dart, or no such place of the listing"),
-    (refusal::BAD_FILE, "the file is not in form"),
-    (refusal::BAD_LINE, "the line is not in form"),
-    (refusal::LONG_TEXT, "the text is too long"),
-    (refusal::SHORT_LIST, "the lent list is too short"),
-    (refusal::BAD_OUTLINE, "the outline's text is not in form"),
-    (refusal::NO_SURVEY, "no survey lists these corners in this order"),
-];
-
 impl Comparison {
-    /// The header has these words in this order, and last those for a number that it does not have.
+    /// The header says of each refusal what the crate displays, and has words of its own for a
+    /// served call, the withdrawn number, and last a number that it does not have.
     pub fn header_words(&mut self) -> Outcome {
         let of_header = words();
-        for (number, expected) in WORDS {
-            let got = of_header.get(number as usize);
-            if got != Some(&expected) {
-                let said = format!("the words of {number}\nreach.h {got:?}, here {expected:?}");
+        let known = Refusal::ALL.iter().map(|refusal| (refusal.number(), refusal.to_string()));
+        let own = [(0, "served"), (5, "withdrawn")].map(|(number, said)| (number, said.into()));
+        let mut all: Vec<(u32, String)> = known.chain(own).collect();
+        all.sort();
+        for (place, (number, said)) in all.iter().enumerate() {
+            let got = of_header.get(place);
+            if place != *number as usize || got != Some(&said.as_str()) {
+                let said = format!("the words of {number}\nreach.h {got:?}, the crate {said:?}");
                 return Err(Difference(said));
             }
             self.tally.add("words of reach.h", 0);
         }
-        if of_header.len() != WORDS.len() + 1 {
+        if of_header.len() != all.len() + 1 {
             return Err(Difference(format!("the words of reach.h\n{of_header:?}")));
         }
         Ok(())

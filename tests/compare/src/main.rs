@@ -212,6 +212,12 @@ fn fixed(c: &mut Comparison) -> Outcome {
             c.wrapper_report(&vec![byte; length])?;
         }
     }
+    // as many points as there can be, and then as many refused lines
+    let mut full: Vec<u8> =
+        (0..POINT_LIMIT).flat_map(|i| format!("{i} {}\n", i * i).into_bytes()).collect();
+    full.extend(b"0 0\n".iter().cycle().take(TEXT_LIMIT - full.len()));
+    c.report(&full)?;
+    c.wrapper_report(&full)?;
     c.is_on_small_stacks = false;
     Ok(())
 }

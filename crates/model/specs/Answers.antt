@@ -2,7 +2,7 @@
 -- served; a word for it; and its values in the document's order. Then a call of the engine, with its
 -- rules and its value, and what every entry promises of its answer.
 -- The words of arrivals, refusals, counts, endings and places are document 01's; `orientation`, `orbit`,
--- `served`, `dart`, `area`, `right`, `wrong`, `length` and `point` are ours, and nothing prints them.
+-- `served`, `dart`, `area`, `right`, `wrong`, `length` and `point` are ours, and no report has them.
 use mathlib.Core.Path.{_≡_}
 use mathlib.Core.List.{List, [], _∷_, _++_, map}
 use Prim.Native.Nat.{ℕ}

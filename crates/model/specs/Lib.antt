@@ -1,5 +1,5 @@
--- What a reader must believe: the definitions of document 01, one topic a file, each under the
--- sentence that it renders. Nothing is assumed.
+-- What a reader must believe: the definitions of document 01 and of the requests after it,
+-- one topic a file, each under the sentence that it renders. Nothing is assumed.
 --     Spelling     words and whole numbers in bytes
 --     Refusals     the numbers, and the first rule that applies
 --     Answers      number, word and values of each answer; calls, and what entries promise

@@ -10,7 +10,7 @@ use Rattle.engine.proofs.Entries.{refused-first, served-first}
 use Rattle.engine.proofs.orbit.Statement.{statement}
 use Rattle.engine.proofs.orbit.Tie as tie
 
--- an outcome with a set with-set it
+-- the answer that has this outcome and this set
 abbrev with-set : Outcome → DartSet → Orbit
 with-set outcome darts = record { outcome = outcome; darts = darts }
 

@@ -14,7 +14,7 @@ use Rattle.engine.proofs.Rules.{tested}
 use Rattle.engine.proofs.files.load.Statement.{statement}
 use Rattle.engine.proofs.files.load.Tie as tie
 
--- an outcome with a map with-map it
+-- the answer that has this outcome and this map
 abbrev with-map : Outcome → Map → Loaded
 with-map outcome map = record { outcome = outcome; map = map }
 

@@ -26,7 +26,7 @@ use Rattle.model.specs.Offers.{offer}
 use Rattle.model.specs.History.{is-accepted, extended, run-from, run}
 use Rattle.model.specs.Report.{spaced}
 use Rattle.model.specs.Outlines.{corner-points}
-use Rattle.model.specs.Area.{path-sum, fan, area-from, doubled-area, area-call, sum-of, triangle-added, area-added, history-area}
+use Rattle.model.specs.Area.{path-sum, fan, area-from, doubled-area, area-call, area-limit, sum-of, triangle-added, area-added, history-area}
 use Rattle.model.specs.Questions.{Question, _is_, session, after}
 use Rattle.model.specs.OutlineQuestions.{on-rail}
 
@@ -70,6 +70,7 @@ area-questions =
     ∷ (told-at (run on-rail .map) (2 ∷ []) is refuses 6 " 6")
     -- as large as it can be
     ∷ (told-at (run at-ends .map) (3 ∷ []) is says (" 8000000000000000000" ∷ []))
+    ∷ (spelt (pos area-limit) is bytes "8000000000000000000")
     -- 1 before 6
     ∷ (told-at unlinked (9 ∷ []) is refuses 1 " 1")
     ∷ []

@@ -381,6 +381,10 @@ rails =
     -- "A point on an edge arrives as inside": of the session's first triangle, and (2,2) after four points
     ∷ (printed (arrival-answer (offer (after 3) (at (pos 2) (pos 0)) .arrival)) is bytes "inside\n")
     ∷ (printed (arrival-answer (offer (after 4) (at (pos 2) (pos 2)) .arrival)) is bytes "inside\n")
+    -- "strictly between whose ends it lies": a point between them, both ends, and a point beyond
+    ∷ (map (λ x. one-if (strictly-between (at (pos 0) (pos 0)) (at (pos 4) (pos 0)) (at (pos x) (pos 0))))
+    (1 ∷ 0 ∷ 4 ∷ 5 ∷ [])
+    is 1 ∷ 0 ∷ 0 ∷ 0 ∷ [])
     ∷ []
 
 -- ---- lent lists and files
@@ -421,14 +425,15 @@ files two old rail-file =
     ∷ (saved (map-in one-point-old) is one-point)
     ∷ (file-numbers (two ∷ old ∷ rail-file ∷ one-point ∷ one-point-old ∷ (0 ∷ 0 ∷ 0 ∷ 5 ∷ 1 ∷ 0 ∷ 0 ∷ 4 ∷ 0 ∷ []) ∷ [])
     is replicate 6 0)
-    -- of both versions another reference, a helper and a link wrong; of version 2 another arrival, a freed
-    -- dart above 1,024, and the freed darts exchanged
+    -- of both versions another reference, a helper and a link wrong; of version 2 another arrival, a left and a
+    -- right freed dart above 1,024, and the freed darts exchanged
     ∷ (file-numbers
     (set two 8 0 ∷ set old 8 0 ∷ set two 26 0 ∷ set old 26 0 ∷ set two 28 1 ∷ set old 28 1 ∷ set two 40 2
     ∷ set two 37 1
+    ∷ set two 39 1
     ∷ (take 60 rail-file ++ 2 ∷ 0 ∷ 3 ∷ [])
     ∷ [])
-    is replicate 9 1)
+    is replicate 10 1)
     ∷ (flatMap (λ n. spelt (signed n)) (2_147_483_647 ∷ 2_147_483_648 ∷ 4_294_967_295 ∷ [])
     is bytes "2147483647-2147483648-1")
     -- 4 bytes hold more than the range: its two ends, what lies beyond them, and the ends of 4 bytes

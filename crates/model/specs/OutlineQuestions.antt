@@ -1,12 +1,15 @@
 -- Questions of ours about outlines as text (request 101): one list and one check over it, in the order of
 -- this page: the request's four texts, written for the session; what they are read as; texts in another
--- spelling, out of range, and of corners that no survey lists; the ends of the numbers.
+-- spelling, out of range, and of corners that no survey lists; texts of many bytes and of many positions; then
+-- how many corners a listing can have, as a law, since 512 corners take too long to compute.
+use mathlib.Core.Path.{_≡_, refl}
+use mathlib.Core.Bool.{false, _&&_}
 use mathlib.Core.List.{List, [], _∷_, _++_, map, flatMap, flatten}
 use Prim.Native.Nat.{ℕ}
 use Prim.Native.String.{String}
 use lib.Dec.{T}
 use lib.IntN.{pos}
-use lib.ListN.{replicate}
+use lib.ListN.{length, replicate}
 use Rattle.finite.specs.Bounded.{all, any, sum, count, one-if, table-onto, table}
 use Rattle.finite.specs.Lists.{elem, same-by, same-list, all-in, all-places, any-in, count-in, first-in, ring, insert, union}
 use Rattle.orbits.specs.Reach.{spread, reached, reaches}
@@ -42,6 +45,10 @@ reading t =
 
 reads-as : String → String → List ℕ
 reads-as t values = 0 ∷ bytes values ++ bytes t
+
+-- a ring of so many corners, all at 0, 0
+ring-text : ℕ → List ℕ
+ring-text n = bytes "POLYGON ((" ++ flatten (replicate n (bytes "0 0, ")) ++ bytes "0 0))"
 
 -- three marks on a rail: two corners
 unfoldable pub on-rail : List Point
@@ -81,6 +88,8 @@ outline-questions =
     ∷ "POINT (00 0)"
     ∷ "POINT (0 -0)"
     ∷ "POINT (+1 0)"
+    ∷ "POINT (0,0)"
+    ∷ "POINT (0\t0)"
     ∷ "point (0 0)"
     ∷ "POINT(0 0)"
     ∷ "POINT (0 0"
@@ -90,7 +99,7 @@ outline-questions =
     ∷ "POLYGON"
     ∷ ""
     ∷ [])
-    is replicate 25 11)
+    is replicate 27 11)
     -- "a ring that does not end on its first corner, or a ring of under three corners"
     ∷ (numbers-of-texts
     ("POLYGON ((0 0, 4 0, 6 7, 1 3))" ∷ "POLYGON ((0 0, 4 0, 6 7, 0 1))" ∷ "POLYGON ((0 0, 4 0, 0 0))" ∷ "POLYGON ((0 0))" ∷ [])
@@ -113,6 +122,8 @@ outline-questions =
     is replicate 9 12)
     -- "11, after 9": whatever it is
     ∷ (number-of-text (replicate 65_537 0) ∷ number-of-text (replicate 65_536 0) ∷ [] is 9 ∷ 11 ∷ [])
+    -- more corners than a map has points: no survey lists them, but their text is in the spelling
+    ∷ (number-of-text (ring-text 513) ∷ [] is 12 ∷ [])
     ∷ []
 
 -- one check over the list
@@ -129,5 +140,16 @@ unfolding table-onto all any sum count one-if table elem all-in all-places any-i
     spaced point-text joined outline-text corner-points starts-with is-word second is-position
     position after-position with-first positions positions-in exactly ring-of corners-in is-some
     or-none is-outline corners-spelt lowest-is-first all-support listable coordinates session after
-    number-of-text numbers-of-texts reading reads-as on-rail outline-questions same-by
+    number-of-text numbers-of-texts reading reads-as ring-text on-rail outline-questions same-by
 outline-answers-are-right = tt
+
+-- ---- how many corners
+
+-- 512 are not too many, and 513 are, whatever they are
+pub as-many-as-points : (cs : List Point) → length cs ≡ 512 → listable cs ≡ (lowest-is-first cs && all-support cs)
+unfolding listable
+as-many-as-points cs e = rw e refl
+
+pub one-too-many : (cs : List Point) → length cs ≡ 513 → listable cs ≡ false
+unfolding listable
+one-too-many cs e = rw e refl

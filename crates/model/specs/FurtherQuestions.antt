@@ -37,7 +37,7 @@ use Rattle.model.specs.declared.Doubled.{Doubled}
 use Rattle.model.specs.declared.Marked.{Marked}
 use Rattle.model.specs.declared.Written.{Written}
 use Rattle.model.specs.declared.Line.{Line}
-use Rattle.model.specs.Spelling.{bytes, decimal, spelt}
+use Rattle.model.specs.Spelling.{bytes, space, decimal, spelt}
 use Rattle.model.specs.Refusals.{number, Rule, unless}
 use Rattle.model.specs.Answers.{Answer, answer-of, oriented-answer, arrival-answer, outcome-answer}
 use Rattle.model.specs.Answers.{orbit-answer, counted-answer, walked-answer, moved-answer}
@@ -508,6 +508,10 @@ texts =
     -- "A blank line gets 8; later lines are still read."
     ∷ (report (bytes "\n0 0\n")
     is bytes "OUTLINE 1\n0 refused 8\n1 first\ncorners 0\ncounts 1 1 1 1 1\n")
+    -- "text above 65,536 bytes": so many are read, here as one line of spaces; one more "prints the first line and
+    -- `refused 9`, no more"
+    ∷ (report (replicate 65_536 space) is bytes "OUTLINE 1\n0 refused 8\ncorners\ncounts 0 0 0 0 0\n")
+    ∷ (report (replicate 65_537 space) is bytes "OUTLINE 1\nrefused 9\n")
     ∷ []
 
 pub further-questions : List Question

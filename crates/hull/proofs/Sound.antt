@@ -1,16 +1,19 @@
 -- Sound maps are those that points build: what they build from the empty map is sound (`built-sound`), a sound map
 -- is shaped, so that document 01's sentences hold of it (`sound-shaped`), and with one accepted point more it is
 -- sound again (`sound-grows`). "The empty map, which is the sound map without points" is `empty-is-sound` and
--- `empty-only`.
+-- `empty-only`. Not every shaped map is sound (`another-reference`).
 use mathlib.Core.Path.{_≡_, refl, sym, ap, subst, _∙_}
+use mathlib.Core.Logic.{_≢_}
 use mathlib.Core.List.{List, [], _∷_, _++_}
 use Prim.Native.Nat.{ℕ}
 use lib.Dec.{T}
 use Rattle.finite.specs.Bounded.{table, table-onto}
+use Rattle.finite.specs.Lists.{elem}
 use Rattle.model.specs.declared.Point.{Point}
 use Rattle.model.specs.declared.Map.{Map}
 use Rattle.model.specs.Refusals.{NoneApplies, none}
-use Rattle.model.specs.Maps.{point, empty-map, map-points}
+use Rattle.model.specs.Maps.{own, point, empty-map, map-points}
+use Rattle.model.specs.Outline.{outline}
 use Rattle.model.specs.Shape.{Shaped}
 use Rattle.model.specs.Arrival.{arrive}
 use Rattle.model.specs.Building.{building-rules, built}
@@ -18,6 +21,7 @@ use Rattle.model.specs.Sound.{sound}
 use Rattle.model.proofs.Answers.{none-append}
 use Rattle.model.proofs.Sound.{sound-is, sound-by}
 use Rattle.maps.proofs.Empty.{empty-sound}
+use Rattle.maps.proofs.Referenced.{referring, referring-shaped}
 use Rattle.sight.specs.Requires.{Accepted}
 use Rattle.hull.proofs.Outcomes.{none-applies}
 use Rattle.hull.proofs.Building.{building-append, built-append, built-shaped, built-keeps}
@@ -70,3 +74,17 @@ pub empty-only : (m : Map) → T (sound m) → m .count ≡ 0 → m ≡ empty-ma
 unfolding built table table-onto
 empty-only m t e =
     sound-is m t .is-built ∙ ap (λ (n : ℕ). built empty-map (table n (point m))) e
+
+-- ---- shaped maps that are not sound
+
+-- Document 01's sentences do not make a map sound: a sound map with another corner's own dart for its reference
+-- keeps them, and is not the one that its points build.
+pub another-reference : (m : Map) → T (sound m) → (a : ℕ) → T (elem a (outline m)) → own a ≢ m .reference →
+    Shaped (referring m a) × ¬ T (sound (referring m a))
+unfolding point
+another-reference m t a on other = (
+  referring-shaped (sound-shaped m t) a on,
+  λ u.
+      other
+      (ap (λ (n : Map). n .reference) (sound-is (referring m a) u .is-built ∙ sym (sound-is m t .is-built))),
+)

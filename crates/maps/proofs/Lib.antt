@@ -5,6 +5,7 @@
 --     Circuits     lists of points round which edges lead
 --     Outline      the outline is the one circuit that is a closed walk
 --     Soundness    what makes a map sound, with an outline and without
+--     Referenced   a sound map with another reference on its outline keeps what is asked of it
 --     Ranges       two points of a map and a point beside them are in range
 --     Same         two sound maps that agree at every place are equal
 --     Points       a map with one point more: its points
@@ -22,6 +23,7 @@ pub mod Tables
 pub mod Circuits
 pub mod Outline
 pub mod Soundness
+pub mod Referenced
 pub mod Ranges
 pub mod Same
 pub mod Points

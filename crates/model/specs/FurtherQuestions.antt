@@ -248,8 +248,8 @@ unsound-maps one two m =
     ∷ with-reference 0 one
     ∷ []
 
--- all of document 01's sentences hold of these, but their points build another map: another chain within the
--- outline, helpers without an edge, another reference
+-- their points build another map: helpers without an edge, another chain within the outline, another reference. That
+-- all of document 01's sentences hold of such a map as the last is `another-reference` of hull/proofs/Sound.
 other-maps : Map → List Map
 other-maps m = chained 6 7 8 9 m ∷ chained 9 7 8 6 m ∷ with-reference 0 m ∷ []
 

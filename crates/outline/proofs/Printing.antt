@@ -10,8 +10,7 @@ use lib.ListN.{length}
 use Rattle.reports.specs.declared.Summary.{Summary}
 use Rattle.lines.specs.declared.positions.Piece.{Piece}
 use Rattle.lines.specs.Lines.{line-count}
-use Rattle.reports.specs.Deciding.{Decides}
-use Rattle.reports.specs.Summaries.{Fits}
+use Rattle.reports.specs.Summaries.{Fits, Decides}
 use Rattle.reports.specs.Pieces.{WroteLines, Pieces, begun, continued}
 use Rattle.reports.proofs.Wholes.{piece-whole, piece-last, piece-further, pieces-are-the-report}
 use Rattle.outline.specs.declared.Printed.{Printed}

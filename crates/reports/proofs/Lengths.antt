@@ -42,12 +42,12 @@ use Rattle.printing.proofs.Printed.{line-length, first-line, second-line, insid
 use Rattle.printing.proofs.Reports.{closing-lines}
 use Rattle.hull.proofs.Sound.{sound-shaped, sound-grows, empty-is-sound}
 use Rattle.corners.proofs.Corners.{corners-circuit, one-listed, none-listed}
-use Rattle.reports.specs.declared.deciding.Verdict.{Verdict}
+use Rattle.deciding.specs.declared.Verdict.{Verdict}
 use Rattle.lines.specs.Packing as packing
 use Rattle.lines.specs.Packing.{Packable}
 use Rattle.lines.specs.Lines.{counts-values}
-use Rattle.reports.specs.Verdicts.{verdict-by}
-use Rattle.reports.proofs.Verdicts.{line-refused, line-accepted, arrive-packable}
+use Rattle.deciding.specs.Verdicts.{verdict-by}
+use Rattle.deciding.proofs.Verdicts.{line-refused, line-accepted, arrive-packable}
 
 -- ---- numbers
 

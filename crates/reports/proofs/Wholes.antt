@@ -15,6 +15,7 @@ use Rattle.finite.specs.Bounded.{lt-or-ge}
 use Rattle.finite.specs.Overwriting.{over, over-at, over-front}
 use Rattle.model.specs.declared.Refusal.{Refusal}
 use Rattle.model.specs.declared.Counts.{Counts}
+use Rattle.model.specs.declared.Map.{Map}
 use Rattle.model.specs.Maps.{point-limit, empty-map}
 use Rattle.model.specs.Answers.{refused}
 use Rattle.model.specs.Reading.{counts}
@@ -25,14 +26,13 @@ use Rattle.corners.specs.Listing.{ListsCorners}
 use Rattle.printing.proofs.Overwriting.{wrote-length}
 use Rattle.printing.proofs.Reports.{closing-lines}
 use Rattle.reports.specs.declared.Summary.{Summary}
-use Rattle.reports.specs.declared.deciding.Surveyed.{Surveyed}
 use Rattle.lines.specs.declared.positions.Ends.{Ends}
 use Rattle.lines.specs.declared.positions.Piece.{Piece}
 use Rattle.lines.specs.Lines.{title, report-line, lines-from, line-count}
-use Rattle.reports.specs.Summaries.{corners-in, report-of, Fits}
+use Rattle.reports.specs.Summaries.{corners-in, report-of, Fits, Decides}
 use Rattle.lines.specs.Printing.{Printable, PutLines}
 use Rattle.reports.specs.Pieces.{WroteLines, line-limit, Pieces, begun, continued}
-use Rattle.reports.specs.Deciding.{Surveys, Decides}
+use Rattle.deciding.specs.Deciding.{Surveys}
 use Rattle.lines.proofs.ReportLines.{report-line-most, lines-more, lines-none, lines-joined, report-short, report-long}
 
 -- ---- a text that is too long
@@ -53,16 +53,15 @@ decides-long {text} {answers} {d} h long whole fits =
 
 -- ---- any other text
 
-module _ {text answers : List ℕ} {s : Surveyed} {list : CornerList} {c : Counts}
-    (surveys : Surveys text answers s) (lists : ListsCorners (s .map) list)
-    (numbers : c ≡ counts (s .map))
+module _ {text answers : List ℕ} {m : Map} {n : ℕ} {list : CornerList} {c : Counts}
+    (surveys : Surveys text m answers n) (lists : ListsCorners m list) (numbers : c ≡ counts m)
     (short : ltb text-limit (length text) ≡ false) where
   abbrev decided : Summary
   decided =
       record {
         corners = list .points;
         listed = list .count;
-        ends = record { lines = s .lines; long = false; counts = c };
+        ends = record { lines = n; long = false; counts = c };
       }
 
   pub decides-short : Decides text answers decided
@@ -79,7 +78,7 @@ module _ {text answers : List ℕ} {s : Surveyed} {list : CornerList} {c : Count
         is-report =
             report-short answers (take (list .count) (list .points)) (decided .ends) refl
             ∙ ap (λ (l : List ℕ). title ++ l)
-            (rw (lists .members, numbers, ← closing-lines (s .map)) (surveys .together))
+            (rw (lists .members, numbers, ← closing-lines m) (surveys .together))
             ∙ ap (λ (b : Bool). title
             ++ cond b (printed (refused Refusal.LongText)) (arrivals empty-map 0 (lines text)))
             (sym short);

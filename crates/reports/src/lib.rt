@@ -2,16 +2,18 @@
 // then its bytes are written: no line is decided twice, and no array holds a report. The answers of
 // the lines stand in an array that the caller lends, so that no call copies them.
 
-pub mod deciding;
-
-use crate::deciding::decide_lines;
+use admission::hashes::no_hashes;
 use corners::listing::corners_of;
+use deciding::Tally;
+use deciding::survey;
 use lines::positions::Ends;
 use lines::positions::Piece;
 use lines::positions::put_lines;
 use lines::positions::total_length;
+use maps::empty_map;
 use maps::traversal::counts_of;
 use model::Counts;
+use model::Map;
 use model::POINT_LIMIT;
 use survey::lines::TEXT_LIMIT;
 use survey::lines::is_too_long;
@@ -20,8 +22,8 @@ ghost use Prim.Native.Nat.{_≤_};
 ghost use lib.ListN.{length};
 ghost use Rattle.finite.specs.Overwriting.{over};
 ghost use Rattle.model.specs.Report.{text-limit};
-ghost use Rattle.reports.specs.Summaries.{report-of, Fits};
-ghost use Rattle.reports.specs.Deciding.{Decides};
+ghost use Rattle.deciding.specs.Deciding.{Readable, Surveys};
+ghost use Rattle.reports.specs.Summaries.{report-of, Decides, Fits};
 ghost use Rattle.reports.specs.Pieces.{WroteLines};
 
 // What is decided of a text beside the answers of its lines: the corners, which are the first so
@@ -32,11 +34,67 @@ pub struct Summary {
     pub ends: Ends,
 }
 
+// The map at the end of a text, and how many lines the text has.
+pub struct Surveyed {
+    pub map: Map,
+    pub lines: usize,
+}
+
 // As many answers as a text may have lines, each as one number.
 pub fn no_answers() -> [u32; TEXT_LIMIT]
     ensures { λ r. ⌜ text-limit ≡ length r ⌝ }
 {
     [0u32; TEXT_LIMIT]
+}
+
+// Decides every line of a text that is not too long, from the empty map on.
+fn decide_lines(text: &[u8], answers: &mut [u32; TEXT_LIMIT]) -> Surveyed
+    requires { ⌜ Readable (now text) (now answers) ⌝ }
+    ensures { λ r. ⌜ Surveys (now (text .entry)) (r .map) (now (answers .exit)) (r .lines) ⌝ }
+{
+    let empty = empty_map();
+    let mut xs = empty.xs;
+    let mut ys = empty.ys;
+    let mut helpers = empty.helpers;
+    let mut edge = empty.edge;
+    let mut arrivals = empty.arrivals;
+    let mut lefts = empty.lefts;
+    let mut rights = empty.rights;
+    let mut hashes = no_hashes();
+    let begun = Tally {
+        count: empty.count,
+        reference: empty.reference,
+        lines: 0,
+    };
+    let tally = survey(
+        text,
+        &mut xs,
+        &mut ys,
+        &mut helpers,
+        &mut edge,
+        &mut arrivals,
+        &mut lefts,
+        &mut rights,
+        &mut hashes,
+        answers,
+        begun,
+    );
+    let count = tally.count;
+    let reference = tally.reference;
+    Surveyed {
+        map: Map {
+            xs,
+            ys,
+            helpers,
+            edge,
+            arrivals,
+            lefts,
+            rights,
+            count,
+            reference,
+        },
+        lines: tally.lines,
+    }
 }
 
 // Decides a text, whatever its bytes are, and leaves the answers of its lines in a lent array. One

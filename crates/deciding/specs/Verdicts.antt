@@ -7,7 +7,7 @@ use Rattle.model.specs.declared.Outcome.{Outcome}
 use Rattle.model.specs.declared.Point.{Point}
 use Rattle.model.specs.declared.Line.{Line}
 use Rattle.admission.specs.Admission.{admission-by}
-use Rattle.reports.specs.declared.deciding.Verdict.{Verdict}
+use Rattle.deciding.specs.declared.Verdict.{Verdict}
 
 unfoldable pub verdict-on : Point → Outcome → Verdict
 verdict-on p Outcome.Served = Verdict.Taken p

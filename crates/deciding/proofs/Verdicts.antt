@@ -1,7 +1,7 @@
 -- What becomes of a line, as a sound map's coordinates have it, is what the definitions offer, in
 -- the order of this page: a refused line, and which refusals a line can get; an accepted one, and
 -- what its arrival reports; the code's way to it.
-use mathlib.Core.Path.{_≡_, sym, ap, subst, _∙_}
+use mathlib.Core.Path.{_≡_, refl, sym, ap, subst, _∙_}
 use mathlib.Core.List.{List}
 use Prim.Native.Nat.{ℕ, _≤_}
 use lib.Dec.{T}
@@ -22,16 +22,14 @@ use Rattle.model.specs.Outline.{visible-edges}
 use Rattle.model.specs.Offers.{offer}
 use Rattle.model.specs.Report.{offer-line}
 use Rattle.model.proofs.Answers.{RulesDecide, refuses, serves, unless-decides}
-use Rattle.survey.specs.declared.lines.Read.{Read}
-use Rattle.survey.specs.Places.{line-at, read-at}
-use Rattle.survey.proofs.Texts.{line-at-refused}
 use Rattle.admission.specs.Admission.{rules-by, admission-by}
 use Rattle.hull.proofs.Sound.{sound-shaped}
 use Rattle.hull.proofs.Admissions.{admission-refused, admission-served, admission-accepted, visible-most, corners-below}
 use Rattle.sight.specs.Requires.{Accepted}
 use Rattle.hull.proofs.Outcomes.{Arrives, first, second, inside, outside, arrive-arrives}
-use Rattle.reports.specs.declared.deciding.Verdict.{Verdict}
-use Rattle.reports.specs.Verdicts.{verdict-on, verdict-by}
+use Rattle.deciding.specs.declared.Verdict.{Verdict}
+use Rattle.deciding.specs.Verdicts.{verdict-on, verdict-by}
+use Rattle.deciding.specs.Deciding.{AsRead}
 use Rattle.lines.specs.Packing as packing
 use Rattle.lines.specs.Packing.{OfLine, full, out-of-range, repeated, bad-line, Packable}
 
@@ -85,23 +83,22 @@ module _ (xs ys : List ℤ) (count : ℕ) (p : Point) where
       go (serves f) e = absurd (let z : _≡_ {A = ℕ} 0 1 = cc in omega arith)
 
 -- by the rules of an offer, or as a line that is not in form
-module _ (xs ys : List ℤ) (count : ℕ) (text : List ℕ) (at : ℕ) where
-  refusal-by : (line : Line) (r : Refusal) → line-at text at ≡ line →
+module _ (xs ys : List ℤ) (count : ℕ) where
+  refusal-by : (line : Line) (r : Refusal) → AsRead line →
       Verdict.Refused r ≡ verdict-by xs ys count line → OfLine r
   unfolding verdict-by
-  refusal-by (Line.Named p) r is e =
+  refusal-by (Line.Named p) r as-read e =
       point-refusal xs ys count p r (outcome-refused p r (admission-by xs ys count p) e)
-  refusal-by (Line.Refused q) r is e =
-      let bad = line-at-refused text at q is in
+  refusal-by (Line.Refused q) r as-read e =
+      let bad = as-read q refl in
       let same : Refusal.BadLine ≡ r = cc in subst OfLine same bad-line
 
   -- as the code has it
-  pub refusal-packable : {r : Refusal} {found : Verdict} {read : Read} → found ≡ Verdict.Refused r →
-      found ≡ verdict-by xs ys count (read .line) → read ≡ read-at text at →
+  pub refusal-packable : {r : Refusal} {found : Verdict} (line : Line) → AsRead line →
+      found ≡ Verdict.Refused r → found ≡ verdict-by xs ys count line →
       Packable (Arrival.Refused r)
-  refusal-packable {r = r} {read = read} is ruled here =
-      packing.refused
-      (refusal-by (read .line) r (sym (ap (λ (q : Read). q .line) here)) (sym is ∙ ruled))
+  refusal-packable {r = r} line as-read is ruled =
+      packing.refused (refusal-by line r as-read (sym is ∙ ruled))
 
 -- ---- the arrival of an accepted point
 

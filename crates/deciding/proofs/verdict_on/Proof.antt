@@ -1,9 +1,9 @@
--- `reports::deciding::verdict_on` meets its contract, by what the line names and what the rules
+-- `deciding::verdict_on` meets its contract, by what the line names and what the rules
 -- came to.
 use borrow.Author.Needs.{needs}
-use Rattle.reports.proofs.Verdicts.{found-accepted, found-refused, found-malformed}
-use Rattle.reports.proofs.deciding.verdict_on.Statement.{statement}
-use Rattle.reports.proofs.deciding.verdict_on.Tie as tie
+use Rattle.deciding.proofs.Verdicts.{found-accepted, found-refused, found-malformed}
+use Rattle.deciding.proofs.verdict_on.Statement.{statement}
+use Rattle.deciding.proofs.verdict_on.Tie as tie
 
 returns : tie.Need-returns
 returns c =

@@ -77,7 +77,7 @@ empty-only m t e =
 
 -- ---- shaped maps that are not sound
 
--- Document 01's sentences do not make a map sound: a sound map with another corner's own dart for its reference
+-- Document 01's sentences do not make a map sound: with another corner's own dart for its reference a sound map
 -- keeps them, and is not the one that its points build.
 pub another-reference : (m : Map) → T (sound m) → (a : ℕ) → T (elem a (outline m)) → own a ≢ m .reference →
     Shaped (referring m a) × ¬ T (sound (referring m a))

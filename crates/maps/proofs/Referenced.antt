@@ -1,5 +1,5 @@
--- A shaped map with another corner's own dart for its reference is shaped: document 01 asks of the reference that
--- it is an own dart on the outline, and does not say which one.
+-- A shaped map with any corner's own dart for its reference is shaped: document 01 asks of the reference that it
+-- is an own dart on the outline, and does not say which one.
 use mathlib.Core.Path.{_≡_, refl}
 use mathlib.Core.List.{List, _∷_, _++_}
 use Prim.Native.Nat.{ℕ, _≤_}
@@ -98,4 +98,5 @@ module _ {m : Map} (s : Shaped m) (a : ℕ) (on : T (elem a (outline m))) where
   pub referring-shaped : Shaped (referring m a)
   referring-shaped =
       sound-with-outline points links notes two (a ∷ rest) circuit
-      (circuit-outline a rest circuit two (owner-own a)) (is-own-own a) (rw (owner-own a) (elem-head a rest)) every others
+      (circuit-outline a rest circuit two (owner-own a)) (is-own-own a) (rw (owner-own a) (elem-head a rest)) every
+      others

@@ -248,8 +248,9 @@ unsound-maps one two m =
     ∷ with-reference 0 one
     ∷ []
 
--- their points build another map: helpers without an edge, another chain within the outline, another reference. That
--- all of document 01's sentences hold of such a map as the last is `another-reference` of hull/proofs/Sound.
+-- their points build another map: helpers without an edge, another chain within the outline, another
+-- reference. That all of document 01's sentences hold of a map like the last is `another-reference` of
+-- hull/proofs/Sound.
 other-maps : Map → List Map
 other-maps m = chained 6 7 8 9 m ∷ chained 9 7 8 6 m ∷ with-reference 0 m ∷ []
 
@@ -425,8 +426,8 @@ files two old rail-file =
     ∷ (saved (map-in one-point-old) is one-point)
     ∷ (file-numbers (two ∷ old ∷ rail-file ∷ one-point ∷ one-point-old ∷ (0 ∷ 0 ∷ 0 ∷ 5 ∷ 1 ∷ 0 ∷ 0 ∷ 4 ∷ 0 ∷ []) ∷ [])
     is replicate 6 0)
-    -- of both versions another reference, a helper and a link wrong; of version 2 another arrival, a left and a
-    -- right freed dart above 1,024, and the freed darts exchanged
+    -- of both versions another reference, a helper and a link wrong; of version 2 another arrival, a left and
+    -- a right freed dart above 1,024, and the freed darts exchanged
     ∷ (file-numbers
     (set two 8 0 ∷ set old 8 0 ∷ set two 26 0 ∷ set old 26 0 ∷ set two 28 1 ∷ set old 28 1 ∷ set two 40 2
     ∷ set two 37 1
@@ -508,8 +509,8 @@ texts =
     -- "A blank line gets 8; later lines are still read."
     ∷ (report (bytes "\n0 0\n")
     is bytes "OUTLINE 1\n0 refused 8\n1 first\ncorners 0\ncounts 1 1 1 1 1\n")
-    -- "text above 65,536 bytes": so many are read, here as one line of spaces; one more "prints the first line and
-    -- `refused 9`, no more"
+    -- "text above 65,536 bytes": so many are read, here as one line of spaces; one more "prints the first line
+    -- and `refused 9`, no more"
     ∷ (report (replicate 65_536 space) is bytes "OUTLINE 1\n0 refused 8\ncorners\ncounts 0 0 0 0 0\n")
     ∷ (report (replicate 65_537 space) is bytes "OUTLINE 1\nrefused 9\n")
     ∷ []

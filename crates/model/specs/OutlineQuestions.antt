@@ -1,7 +1,7 @@
 -- Questions of ours about outlines as text (request 101): one list and one check over it, in the order of
 -- this page: the request's four texts, written for the session; what they are read as; texts in another
--- spelling, out of range, and of corners that no survey lists; texts of many bytes and of many positions; then
--- how many corners a listing can have, as a law, since 512 corners take too long to compute.
+-- spelling, out of range, and of corners that no survey lists; texts of many bytes and of many positions;
+-- then how many corners a listing can have, as two laws, which hold whatever the corners are.
 use mathlib.Core.Path.{_≡_, refl}
 use mathlib.Core.Bool.{false, _&&_}
 use mathlib.Core.List.{List, [], _∷_, _++_, map, flatMap, flatten}
@@ -145,8 +145,9 @@ outline-answers-are-right = tt
 
 -- ---- how many corners
 
--- 512 are not too many, and 513 are, whatever they are
-pub as-many-as-points : (cs : List Point) → length cs ≡ 512 → listable cs ≡ (lowest-is-first cs && all-support cs)
+-- 512 are not too many, and 513 are
+pub as-many-as-points : (cs : List Point) → length cs ≡ 512 →
+    listable cs ≡ (lowest-is-first cs && all-support cs)
 unfolding listable
 as-many-as-points cs e = rw e refl
 

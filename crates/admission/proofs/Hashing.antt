@@ -13,60 +13,60 @@ use lib.ListN.{length, get_or, set, length-set}
 use lib.Seq.{get_or-set_same, get_or-set_other}
 use lib.Signed.{◌≤ℤ◌}
 use mir.Syntax.{w64}
-use Rattle.integers.specs.Order.{order, +ℤ-splits}
-use Rattle.integers.specs.Sign.{nonneg-nonneg}
-use Rattle.integers.specs.Range.{Number, bounded-splits, literal, add, mul, back}
+use Rattle.integers.specs.Order.{order, +ℤ_splits}
+use Rattle.integers.specs.Sign.{nonneg_nonneg}
+use Rattle.integers.specs.Range.{Number, bounded_splits, literal, add, mul, back}
 use Rattle.finite.specs.Tests.{is_false, same_or_not}
 use Rattle.finite.specs.Bounded.{any, any_at, below_suc}
 use Rattle.model.specs.declared.Point.{Point}
-use Rattle.model.specs.Plane.{coordinate-limit, same_point}
+use Rattle.model.specs.Plane.{coordinate_limit, same_point}
 use Rattle.model.specs.Maps.{point_at}
-use Rattle.model.proofs.Shape.{same-point-eq}
+use Rattle.model.proofs.Shape.{same_point_eq}
 use Rattle.plane.proofs.Bounds.{span}
-use Rattle.admission.specs.Hashes.{hash-count, hash-row, numbered, hash, AllHashed}
+use Rattle.admission.specs.Hashes.{hash_count, hash_row, numbered, hash, AllHashed}
 
 -- ---- what the machine computes, operation by operation, from coordinates in range
 
-module _ {x y : ℤ} (a : Number coordinate-limit x) (b : Number coordinate-limit y) where
-  abbrev pub column : Number span (x +ℤ pos coordinate-limit)
-  column = add a (literal (pos coordinate-limit))
+module _ {x y : ℤ} (a : Number coordinate_limit x) (b : Number coordinate_limit y) where
+  abbrev pub column : Number span (x +ℤ pos coordinate_limit)
+  column = add a (literal (pos coordinate_limit))
 
-  abbrev pub row : Number span (y +ℤ pos coordinate-limit)
-  row = add b (literal (pos coordinate-limit))
+  abbrev pub row : Number span (y +ℤ pos coordinate_limit)
+  row = add b (literal (pos coordinate_limit))
 
-  abbrev pub rows : Number (hash-row * span) (pos hash-row *ℤ (y +ℤ pos coordinate-limit))
-  rows = mul (literal (pos hash-row)) (back w64 tt row)
+  abbrev pub rows : Number (hash_row * span) (pos hash_row *ℤ (y +ℤ pos coordinate_limit))
+  rows = mul (literal (pos hash_row)) (back w64 tt row)
 
-  abbrev pub number : Number (span + hash-row * span) (numbered x y)
+  abbrev pub number : Number (span + hash_row * span) (numbered x y)
   number = add (back w64 tt column) (back w64 tt rows)
 
-  pub number-nonneg : pos 0 ≤ℤ numbered x y
-  number-nonneg =
-      let low : pos 0 ≤ℤ (x +ℤ pos coordinate-limit) =
-      omega (arith, order, bounded-splits a.small, +ℤ-splits x (pos coordinate-limit)) in
-      let high : pos 0 ≤ℤ (pos hash-row *ℤ (y +ℤ pos coordinate-limit)) =
-      nonneg-nonneg {a = pos hash-row} {b = y +ℤ pos coordinate-limit} (omega (arith, order))
-      (omega (arith, order, bounded-splits b.small, +ℤ-splits y (pos coordinate-limit))) in
+  pub number_nonneg : pos 0 ≤ℤ numbered x y
+  number_nonneg =
+      let low : pos 0 ≤ℤ (x +ℤ pos coordinate_limit) =
+      omega (arith, order, bounded_splits a.small, +ℤ_splits x (pos coordinate_limit)) in
+      let high : pos 0 ≤ℤ (pos hash_row *ℤ (y +ℤ pos coordinate_limit)) =
+      nonneg_nonneg {a = pos hash_row} {b = y +ℤ pos coordinate_limit} (omega (arith, order))
+      (omega (arith, order, bounded_splits b.small, +ℤ_splits y (pos coordinate_limit))) in
       omega (
         arith,
         order,
-        +ℤ-splits (x +ℤ pos coordinate-limit) (pos hash-row *ℤ (y +ℤ pos coordinate-limit)),
+        +ℤ_splits (x +ℤ pos coordinate_limit) (pos hash_row *ℤ (y +ℤ pos coordinate_limit)),
       )
 
-pub hash-below : (p : Point) → hash p < hash-count
+pub hash_below : (p : Point) → hash p < hash_count
 unfolding hash
-hash-below p = omega arith
+hash_below p = omega arith
 
 -- ---- the hashes of the first points
 
-pub none-hashed : (xs ys : List ℤ) {hashes : List Bool} → hash-count ≡ length hashes → AllHashed xs ys 0 hashes
-none-hashed xs ys e = record { whole = sym e; hashed = λ k h. absurd (omega arith) }
+pub none_hashed : (xs ys : List ℤ) {hashes : List Bool} → hash_count ≡ length hashes → AllHashed xs ys 0 hashes
+none_hashed xs ys e = record { whole = sym e; hashed = λ k h. absurd (omega arith) }
 
 -- one point more: those before it are where they were
-pub one-hashed : {xs ys xs' ys' : List ℤ} {count : ℕ} {hashes : List Bool} (p : Point) →
+pub one_hashed : {xs ys xs' ys' : List ℤ} {count : ℕ} {hashes : List Bool} (p : Point) →
     AllHashed xs ys count hashes → ((k : ℕ) → k < count → point_at xs' ys' k ≡ point_at xs ys k) →
     point_at xs' ys' count ≡ p → AllHashed xs' ys' (count + 1) (set hashes (hash p) true)
-one-hashed {xs} {ys} {xs'} {ys'} {count} {hashes} p all old new =
+one_hashed {xs} {ys} {xs'} {ys'} {count} {hashes} p all old new =
     record {
       whole = length-set hashes (hash p) true ∙ all.whole;
       hashed =
@@ -76,7 +76,7 @@ one-hashed {xs} {ys} {xs'} {ys'} {count} {hashes} p all old new =
     }
   where
     here : T (get_or (set hashes (hash p) true) (hash p) false)
-    here = rw (get_or-set_same hashes (hash p) true false (omega (arith, all.whole, hash-below p))) tt
+    here = rw (get_or-set_same hashes (hash p) true false (omega (arith, all.whole, hash_below p))) tt
 
     stays : (v : ℕ) → T (get_or hashes v false) → T (get_or (set hashes (hash p) true) v false)
     stays v t =
@@ -84,11 +84,11 @@ one-hashed {xs} {ys} {xs'} {ys'} {count} {hashes} p all old new =
         (λ (n : v ≢ hash p). rw (get_or-set_other hashes (hash p) v true false n) t) (same_or_not v (hash p))
 
 -- a point whose hash is not set
-pub unhashed-new : {xs ys : List ℤ} {count : ℕ} {hashes : List Bool} (p : Point) → AllHashed xs ys count hashes →
+pub unhashed_new : {xs ys : List ℤ} {count : ℕ} {hashes : List Bool} (p : Point) → AllHashed xs ys count hashes →
     get_or hashes (hash p) false ≡ false → any count (λ k. same_point (point_at xs ys k) p) ≡ false
-unhashed-new {xs} {ys} {count} {hashes} p all none =
+unhashed_new {xs} {ys} {count} {hashes} p all none =
     is_false (any count (λ k. same_point (point_at xs ys k) p))
     (λ t.
     let f = any_at count _ t in
-    let e = same-point-eq (point_at xs ys f.0) p f.2 in
+    let e = same_point_eq (point_at xs ys f.0) p f.2 in
     subst T none (subst (λ (q : Point). T (get_or hashes (hash q) false)) e (all.hashed f.0 f.1)))

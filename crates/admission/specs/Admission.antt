@@ -7,17 +7,17 @@ use Rattle.model.specs.declared.Refusal.{Refusal}
 use Rattle.model.specs.declared.Outcome.{Outcome}
 use Rattle.model.specs.declared.Point.{Point}
 use Rattle.model.specs.Refusals.{Rule, ◌when◌}
-use Rattle.model.specs.Answers.{outcome-by}
-use Rattle.model.specs.Plane.{in-range, same_point}
-use Rattle.model.specs.Maps.{point-limit, point_at}
+use Rattle.model.specs.Answers.{outcome_by}
+use Rattle.model.specs.Plane.{in_range, same_point}
+use Rattle.model.specs.Maps.{point_limit, point_at}
 
 -- the rules of a map with these coordinates
-abbrev pub rules-by : List ℤ → List ℤ → ℕ → Point → List Rule
-rules-by xs ys count p =
-    (Refusal.Full when leb point-limit count)
-    ∷ (Refusal.OutOfRange when not (in-range p))
+abbrev pub rules_by : List ℤ → List ℤ → ℕ → Point → List Rule
+rules_by xs ys count p =
+    (Refusal.Full when leb point_limit count)
+    ∷ (Refusal.OutOfRange when not (in_range p))
     ∷ (Refusal.Repeated when any count (λ k. same_point (point_at xs ys k) p))
     ∷ []
 
-unfoldable pub admission-by : List ℤ → List ℤ → ℕ → Point → Outcome
-admission-by xs ys count p = outcome-by (rules-by xs ys count p)
+unfoldable pub admission_by : List ℤ → List ℤ → ℕ → Point → Outcome
+admission_by xs ys count p = outcome_by (rules_by xs ys count p)

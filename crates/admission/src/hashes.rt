@@ -2,11 +2,11 @@
 // none of them, and need not be compared with each.
 
 ghost use Rattle.std.specs.Prelude.{◌≡◌, true, false, T, get_or, length, set};
-ghost use Rattle.model.specs.Plane.{in-range};
-ghost use Rattle.model.specs.Maps.{point-limit};
+ghost use Rattle.model.specs.Plane.{in_range};
+ghost use Rattle.model.specs.Maps.{point_limit};
 ghost use Rattle.maps.specs.Places.{PlacesFor};
-ghost use Rattle.admission.specs.Admission.{admission-by};
-ghost use Rattle.admission.specs.Hashes.{AllHashed, hash, hash-count};
+ghost use Rattle.admission.specs.Admission.{admission_by};
+ghost use Rattle.admission.specs.Hashes.{AllHashed, hash, hash_count};
 
 use super::admission;
 use model::{Outcome, POINT_LIMIT, Point, Refusal};
@@ -20,14 +20,14 @@ const HASH_ROW: i64 = 2039;
 
 // No hash is set.
 pub fn no_hashes() -> [bool; HASH_COUNT]
-    ensures { hash-count ≡ length result }
+    ensures { hash_count ≡ length result }
 {
     [false; HASH_COUNT]
 }
 
 // The hash of a point is set.
 pub fn put_hash(hashes: &mut [bool; HASH_COUNT], p: Point)
-    requires { T (in-range p) }
+    requires { T (in_range p) }
     ensures { hashes.new ≡ set hashes.old (hash p) true }
 {
     let k = hash(p);
@@ -43,9 +43,9 @@ pub fn admission_hashed<'a>(
     hashes: &'a [bool],
     p: Point,
 ) -> Outcome
-    requires places_for { PlacesFor xs.now ys.now point-limit }
+    requires places_for { PlacesFor xs.now ys.now point_limit }
     requires all_hashed { AllHashed xs.now ys.now count hashes.now }
-    ensures { result ≡ admission-by xs.now ys.now count p }
+    ensures { result ≡ admission_by xs.now ys.now count p }
 {
     if POINT_LIMIT <= count {
         return Outcome::Refused(Refusal::Full);
@@ -60,7 +60,7 @@ pub fn admission_hashed<'a>(
 
 // Whether the hash of a point is set.
 fn has_hash(hashes: &[bool], p: Point) -> bool
-    requires { (length hashes.now ≡ hash-count) × T (in-range p) }
+    requires { (length hashes.now ≡ hash_count) × T (in_range p) }
     ensures { result ≡ get_or hashes.now (hash p) false }
 {
     let k = hash(p);
@@ -69,7 +69,7 @@ fn has_hash(hashes: &[bool], p: Point) -> bool
 
 // The hash of a point that is in range.
 fn hash(p: Point) -> usize
-    requires { T (in-range p) }
+    requires { T (in_range p) }
     ensures { result ≡ hash p }
 {
     let column = p.x + COORDINATE_LIMIT;

@@ -3,9 +3,9 @@
 pub mod hashes;
 
 ghost use Rattle.std.specs.Prelude.{◌≡◌};
-ghost use Rattle.model.specs.Maps.{point-limit};
+ghost use Rattle.model.specs.Maps.{point_limit};
 ghost use Rattle.maps.specs.Places.{PlacesFor};
-ghost use Rattle.admission.specs.Admission.{admission-by};
+ghost use Rattle.admission.specs.Admission.{admission_by};
 
 use maps::places::is_new;
 use model::{Outcome, POINT_LIMIT, Point, Refusal};
@@ -13,8 +13,8 @@ use plane::in_range;
 
 // Whether a point is accepted, or why it is refused.
 pub fn admission<'a>(xs: &'a [i64], ys: &'a [i64], count: usize, p: Point) -> Outcome
-    requires { PlacesFor xs.now ys.now point-limit }
-    ensures { result ≡ admission-by xs.now ys.now count p }
+    requires { PlacesFor xs.now ys.now point_limit }
+    ensures { result ≡ admission_by xs.now ys.now count p }
 {
     if POINT_LIMIT <= count {
         return Outcome::Refused(Refusal::Full);

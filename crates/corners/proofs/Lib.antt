@@ -3,7 +3,7 @@
 --     CornerLoops    the loops that look for and list the corners
 --     Views          placing by one look at each edge
 --     Placing        what each answer on a query point means
---     Listings       which lists of points are the listing of some survey: `listed-iff`
+--     Listings       which lists of points are the listing of some survey: `listed_iff`
 pub mod Corners
 pub mod CornerLoops
 pub mod Views

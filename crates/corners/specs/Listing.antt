@@ -4,12 +4,12 @@
 -- Document 01: "Corners are listed anticlockwise from the smallest y, then the smallest x."
 use Rattle.std.specs.Prelude.{◌≡◌, cond, List, [], ◌∷◌, ℕ, ◌≤◌, ℤ, length, take}
 use Rattle.finite.specs.Lists.{ring}
-use Rattle.orbits.specs.Links.{link-of}
+use Rattle.orbits.specs.Links.{link_of}
 use Rattle.model.specs.declared.Point.{Point}
 use Rattle.model.specs.declared.Map.{Map}
 use Rattle.model.specs.Plane.{lower}
-use Rattle.model.specs.Maps.{point-limit}
-use Rattle.model.specs.Outline.{next-by, corners}
+use Rattle.model.specs.Maps.{point_limit}
+use Rattle.model.specs.Outline.{next_by, corners}
 use Rattle.model.specs.Maps.{point_at}
 use Rattle.corners.specs.declared.listing.CornerList.{CornerList}
 
@@ -21,25 +21,25 @@ listed r = take r.count r.points
 pub record ListsCorners (m : Map) (r : CornerList) : Type 0 where
   pub members : listed r ≡ corners m
   pub number : r.count ≡ length (corners m)
-  pub whole : length r.points ≡ point-limit
-  pub fits : r.count ≤ point-limit
+  pub whole : length r.points ≡ point_limit
+  pub fits : r.count ≤ point_limit
 
 -- the list has its declared length, and the lent list has room for what it holds
 pub record HasRoom (r : CornerList) (lent : List ℕ) : Type 0 where
-  pub whole : length r.points ≡ point-limit
-  pub fits : r.count ≤ point-limit
+  pub whole : length r.points ≡ point_limit
+  pub fits : r.count ≤ point_limit
   pub room : r.count ≤ length lent
 
 -- the lower one of points a and b; a where neither is lower
-abbrev pub lower-at : List ℤ → List ℤ → ℕ → ℕ → ℕ
-lower-at xs ys a b = cond (lower (point_at xs ys b) (point_at xs ys a)) b a
+abbrev pub lower_at : List ℤ → List ℤ → ℕ → ℕ → ℕ
+lower_at xs ys a b = cond (lower (point_at xs ys b) (point_at xs ys a)) b a
 
 -- x, or a member that is lower than all before it
-unfoldable pub lowest-of : (ℕ → Point) → ℕ → List ℕ → ℕ
-lowest-of P x [] = x
-lowest-of P x (a ∷ s) = lowest-of P (cond (lower (P a) (P x)) a x) s
+unfoldable pub lowest_of : (ℕ → Point) → ℕ → List ℕ → ℕ
+lowest_of P x [] = x
+lowest_of P x (a ∷ s) = lowest_of P (cond (lower (P a) (P x)) a x) s
 
 -- the lowest of the corners round from `start`, of at most so many
-unfoldable pub lowest-round : List ℤ → List ℤ → List ℕ → ℕ → ℕ → ℕ
-lowest-round xs ys edge count start =
-    lowest-of (point_at xs ys) start (ring (next-by (link-of edge)) start count start)
+unfoldable pub lowest_round : List ℤ → List ℤ → List ℕ → ℕ → ℕ → ℕ
+lowest_round xs ys edge count start =
+    lowest_of (point_at xs ys) start (ring (next_by (link_of edge)) start count start)

@@ -4,9 +4,9 @@
 use Rattle.std.specs.Prelude.{Bool, true, false, cond, List, [], ◌∷◌, ℕ, ◌+◌, ℤ}
 use Rattle.model.specs.declared.Point.{Point}
 use Rattle.model.specs.declared.Map.{Map}
-use Rattle.model.specs.Plane.{same_point, left-of, visible-from}
+use Rattle.model.specs.Plane.{same_point, left_of, visible_from}
 use Rattle.model.specs.Maps.{point}
-use Rattle.model.specs.Outline.{next-corner}
+use Rattle.model.specs.Outline.{next_corner}
 use Rattle.plane.specs.Between.{opposite}
 use Rattle.model.specs.Maps.{point_at}
 use Rattle.corners.specs.declared.query.Side.{Side}
@@ -16,13 +16,13 @@ abbrev pub same_at : List ℤ → List ℤ → ℕ → Point → Bool
 same_at xs ys a p = same_point (point_at xs ys a) p
 
 -- how p lies to the edge from a to b
-unfoldable pub side-of : Point → Point → Point → Side
-side-of a b p =
-    cond (left-of a b p) Side.Left
-    (cond (visible-from a b p) Side.Visible (cond (opposite a b p) Side.Between Side.Beyond))
+unfoldable pub side_of : Point → Point → Point → Side
+side_of a b p =
+    cond (left_of a b p) Side.Left
+    (cond (visible_from a b p) Side.Visible (cond (opposite a b p) Side.Between Side.Beyond))
 
-abbrev pub side-at : List ℤ → List ℤ → ℕ → ℕ → Point → Side
-side-at xs ys a b p = side-of (point_at xs ys a) (point_at xs ys b) p
+abbrev pub side_at : List ℤ → List ℤ → ℕ → ℕ → Point → Side
+side_at xs ys a b p = side_of (point_at xs ys a) (point_at xs ys b) p
 
 -- what is found with the edge that leaves corner a
 abbrev pub viewed : View → Side → ℕ → View
@@ -38,4 +38,4 @@ viewed v Side.Beyond a =
 unfoldable pub view_of : Map → Point → View → List ℕ → View
 view_of m p v [] = v
 view_of m p v (a ∷ s) =
-    view_of m p (viewed v (side-of (point m a) (point m (next-corner m a)) p) a) s
+    view_of m p (viewed v (side_of (point m a) (point m (next_corner m a)) p) a) s

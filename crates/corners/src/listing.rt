@@ -2,9 +2,9 @@
 
 ghost use Rattle.std.specs.Prelude.{◌≡◌, ◌≤◌};
 ghost use Rattle.finite.specs.Overwriting.{over};
-ghost use Rattle.model.specs.Maps.{point-limit};
+ghost use Rattle.model.specs.Maps.{point_limit};
 ghost use Rattle.model.specs.Shape.{Shaped};
-ghost use Rattle.corners.specs.Listing.{HasRoom, ListsCorners, listed, lower-at, lowest-round};
+ghost use Rattle.corners.specs.Listing.{HasRoom, ListsCorners, listed, lower_at, lowest_round};
 
 use maps::reading::{next_corner, point_at};
 use model::{Map, POINT_LIMIT};
@@ -53,8 +53,8 @@ fn lowest_corner<'a>(
     count: usize,
     start: usize,
 ) -> usize
-    requires { count ≤ point-limit }
-    ensures { result ≡ lowest-round xs.now ys.now edge.now count start }
+    requires { count ≤ point_limit }
+    ensures { result ≡ lowest_round xs.now ys.now edge.now count start }
 {
     let mut lowest = start;
     let mut a = start;
@@ -70,7 +70,7 @@ fn lowest_corner<'a>(
 
 // The lower one of points a and b; a where neither is lower.
 fn lower_of<'a>(xs: &'a [i64], ys: &'a [i64], a: usize, b: usize) -> usize
-    ensures { result ≡ lower-at xs.now ys.now a b }
+    ensures { result ≡ lower_at xs.now ys.now a b }
 {
     if is_lower(point_at(xs, ys, b), point_at(xs, ys, a)) {
         b

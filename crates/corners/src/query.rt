@@ -1,12 +1,12 @@
 // Where a query point lies.
 
 ghost use Rattle.std.specs.Prelude.{◌≡◌, cond, ◌&&◌, ◌<◌, T, ltb};
-ghost use Rattle.model.specs.Plane.{in-range};
-ghost use Rattle.model.specs.Maps.{point-limit};
+ghost use Rattle.model.specs.Plane.{in_range};
+ghost use Rattle.model.specs.Maps.{point_limit};
 ghost use Rattle.model.specs.Shape.{Shaped};
-ghost use Rattle.model.specs.Placing.{place-among};
+ghost use Rattle.model.specs.Placing.{place_among};
 ghost use Rattle.maps.specs.Places.{RangedQuery};
-ghost use Rattle.corners.specs.Viewing.{side-at, side-of, same_at, viewed};
+ghost use Rattle.corners.specs.Viewing.{side_at, side_of, same_at, viewed};
 
 use crate::listing::corners_of;
 use maps::reading::{next_corner, point_at};
@@ -36,8 +36,8 @@ pub struct View {
 
 // Where p lies in a sound map, once round its corners in listing order.
 pub fn placed(map: Map, p: Point) -> Placed
-    requires { Shaped map × T (in-range p) }
-    ensures { result ≡ cond (ltb map.count 2) Placed.NoOutline (place-among map p) }
+    requires { Shaped map × T (in_range p) }
+    ensures { result ≡ cond (ltb map.count 2) Placed.NoOutline (place_among map p) }
 {
     if map.count < 2 {
         return Placed::NoOutline;
@@ -82,15 +82,15 @@ fn is_at<'a>(xs: &'a [i64], ys: &'a [i64], a: usize, p: Point) -> bool
 // How p lies to the edge from point a to point b.
 fn side_at<'a>(xs: &'a [i64], ys: &'a [i64], a: usize, b: usize, p: Point) -> Side
     requires { RangedQuery xs.now ys.now p }
-    ensures { result ≡ side-at xs.now ys.now a b p }
+    ensures { result ≡ side_at xs.now ys.now a b p }
 {
     side_of(point_at(xs, ys, a), point_at(xs, ys, b), p)
 }
 
 // How p lies to the edge from a to b, for points that are in range.
 fn side_of(a: Point, b: Point, p: Point) -> Side
-    requires { T (in-range a && in-range b && in-range p) }
-    ensures { result ≡ side-of a b p }
+    requires { T (in_range a && in_range b && in_range p) }
+    ensures { result ≡ side_of a b p }
 {
     let z = orientation_in_range(a, b, p);
     if 0 < z {
@@ -107,7 +107,7 @@ fn side_of(a: Point, b: Point, p: Point) -> Side
 
 // What is found with the edge that leaves corner a, to which the point lies on this side.
 fn viewed(view: View, side: Side, a: usize) -> View
-    requires { view.visible < point-limit }
+    requires { view.visible < point_limit }
     ensures { result ≡ viewed view side a }
 {
     match side {

@@ -80,9 +80,9 @@ abbrev pub returned : (ls : List Loan) → Values ls → Fml → Fml
 returned [] xs rest = rest
 returned (l ∷ ls) xs rest = fsep (own l l.lft l.name xs.0) (returned ls xs.1 rest)
 
-abbrev pub own-tokens : List Loan → Fml
-own-tokens [] = ftrue
-own-tokens (l ∷ ls) = fsep (flft l.lft l.share) (own-tokens ls)
+abbrev pub own_tokens : List Loan → Fml
+own_tokens [] = ftrue
+own_tokens (l ∷ ls) = fsep (flft l.lft l.share) (own_tokens ls)
 
 -- ---- the parameters of a call
 
@@ -90,9 +90,9 @@ abbrev pub lifetimes : (ls : List Loan) → Names ls → Lfts (length ls)
 lifetimes [] ns = tt
 lifetimes (l ∷ ls) ns = (ns.0.0 ∷ [], lifetimes ls ns.1)
 
-abbrev pub whole-shares : (ls : List Loan) → Shares (length ls)
-whole-shares [] = tt
-whole-shares (l ∷ ls) = (full_share, whole-shares ls)
+abbrev pub whole_shares : (ls : List Loan) → Shares (length ls)
+whole_shares [] = tt
+whole_shares (l ∷ ls) = (full_share, whole_shares ls)
 
 abbrev pub Refs : List Loan → Type 0 → Type 0
 Refs [] Z = Z
@@ -138,36 +138,36 @@ module _ {M : Type 1} {𝓤 : Ura M} (𝓛 : Logic 𝓤) where
   open 𝓛 use {H}
 
   pub hold : (ls : List Loan) (xs : Values ls) (rest : Fml) → ent 𝓤
-      (sep 𝓤 (sem 𝓛 (own-tokens ls)) (sem 𝓛 (returned ls xs rest)))
+      (sep 𝓤 (sem 𝓛 (own_tokens ls)) (sem 𝓛 (returned ls xs rest)))
       (sep 𝓤 (sem 𝓛 (held ls xs)) (sem 𝓛 rest))
   hold [] xs rest = qed 𝓛 (‵ ftrue ∷ ‵ rest ∷ []) ∵ done !
   hold (l ∷ ls) xs rest =
-      qed 𝓛 (‵ (own-tokens (l ∷ ls)) ∷ ‵ (returned (l ∷ ls) xs rest) ∷ []) ∵ fsplit ! $
+      qed 𝓛 (‵ (own_tokens (l ∷ ls)) ∷ ‵ (returned (l ∷ ls) xs rest) ∷ []) ∵ fsplit ! $
       move ! (2 ∷ []) $ fsplit ! $ move ! (3 ∷ 1 ∷ []) $
       use2 𝓛 (‵ (held ls xs.1) ⊛ ‵ rest) (hold ls xs.1 rest) $ split ! $
       move ! (2 ∷ 3 ∷ []) $ fjoin ! $ fjoin ! $ done !
 
   pub unhold : (ls : List Loan) (xs : Values ls) (rest : Fml) → ent 𝓤
       (sep 𝓤 (sem 𝓛 (held ls xs)) (sem 𝓛 rest))
-      (sep 𝓤 (sem 𝓛 (own-tokens ls)) (sem 𝓛 (returned ls xs rest)))
+      (sep 𝓤 (sem 𝓛 (own_tokens ls)) (sem 𝓛 (returned ls xs rest)))
   unhold [] xs rest = qed 𝓛 (‵ ftrue ∷ ‵ rest ∷ []) ∵ done !
   unhold (l ∷ ls) xs rest =
       qed 𝓛 (‵ (held (l ∷ ls) xs) ∷ ‵ rest ∷ []) ∵ fsplit ! $ move ! (1 ∷ 2 ∷ []) $
-      use2 𝓛 (‵ (own-tokens ls) ⊛ ‵ (returned ls xs.1 rest)) (unhold ls xs.1 rest) $ split ! $
+      use2 𝓛 (‵ (own_tokens ls) ⊛ ‵ (returned ls xs.1 rest)) (unhold ls xs.1 rest) $ split ! $
       move ! (2 ∷ []) $ fsplit ! $ move ! (1 ∷ 2 ∷ []) $ fjoin ! $ frame ! $ fjoin ! $ done !
 
-  pub lends-all : (ls : List Loan) (xs : Values ls) (rest : Fml) → ent 𝓤
+  pub lends_all : (ls : List Loan) (xs : Values ls) (rest : Fml) → ent 𝓤
       (sep 𝓤 (sem 𝓛 (held ls xs)) (sem 𝓛 rest))
       (H.⇛ (ex 𝓤 (λ (ns : Names ls). sep 𝓤 (sem 𝓛 (tokens ls ns))
       (sep 𝓤 (sem 𝓛 (handed ls ns xs rest)) (sem 𝓛 (kept ls ns xs))))))
-  lends-all [] xs rest =
+  lends_all [] xs rest =
       qed 𝓛 (‵ ftrue ∷ ‵ rest ∷ []) ∵ updating ! $ nothing ! $ at_once ! $
       show ! (λ (ns : Unit {0}). sep 𝓤 (sem 𝓛 ftrue)
       (sep 𝓤 (sem 𝓛 rest) (sem 𝓛 ftrue))) tt $ frame ! $ move ! (1 ∷ 0 ∷ []) $ done !
-  lends-all (l ∷ ls) xs rest =
+  lends_all (l ∷ ls) xs rest =
       qed 𝓛 (‵ (held (l ∷ ls) xs) ∷ ‵ rest ∷ []) ∵ updating ! $ fsplit ! $ move ! (1 ∷ 2 ∷ []) $
       use2 𝓛 (later (some (λ (ns : Names ls). ‵ (tokens ls ns) ⊛ ‵ (handed ls ns xs.1 rest)
-      ⊛ ‵ (kept ls ns xs.1)))) (lends-all ls xs.1 rest) $ await ! tt $
+      ⊛ ‵ (kept ls ns xs.1)))) (lends_all ls xs.1 rest) $ await ! tt $
       pick ! (λ ns. split ! $ move ! (1 ∷ []) $ split ! $
       -- [what is handed; what is kept; the tokens; the reference and its token]
       move ! (3 ∷ []) $ fsplit ! $ lft_new ! tt (λ ν. move ! (1 ∷ 2 ∷ []) $
@@ -183,18 +183,18 @@ module _ {M : Type 1} {𝓤 : Ura M} (𝓛 : Logic 𝓤) where
       move ! (2 ∷ 5 ∷ []) $ fjoin ! $ frame ! $ move ! (0 ∷ 2 ∷ []) $ fjoin ! $ frame ! $ fjoin ! $
       done !)))
 
-  pub come-back : (ls : List Loan) (ns : Names ls) (xs ys : Values ls) (rest : Fml) → ent 𝓤
+  pub come_back : (ls : List Loan) (ns : Names ls) (xs ys : Values ls) (rest : Fml) → ent 𝓤
       (sep 𝓤 (sem 𝓛 (tokens ls ns))
       (sep 𝓤 (sem 𝓛 (kept ls ns xs)) (sem 𝓛 (last ls ns ys rest))))
       (H.⇛ (sem 𝓛 (held ls ys)))
-  come-back [] ns xs ys rest = qed 𝓛 (‵ ftrue ∷ ‵ ftrue ∷ ‵ rest ∷ []) ∵ updating ! $ at_once ! $
+  come_back [] ns xs ys rest = qed 𝓛 (‵ ftrue ∷ ‵ ftrue ∷ ‵ rest ∷ []) ∵ updating ! $ at_once ! $
       keep ! (0 ∷ []) $ done !
-  come-back (l ∷ ls) ns xs ys rest =
+  come_back (l ∷ ls) ns xs ys rest =
       qed 𝓛 (‵ (tokens (l ∷ ls) ns) ∷ ‵ (kept (l ∷ ls) ns xs) ∷ ‵ (last (l ∷ ls) ns ys rest) ∷ [])
       ∵ updating ! $ fsplit ! $ move ! (2 ∷ []) $ fsplit ! $ move ! (4 ∷ []) $ fsplit ! $
       -- [the last value; those of the others; what is kept; .. of the others; the token; .. of the others]
       move ! (5 ∷ 3 ∷ 1 ∷ []) $
-      use3 𝓛 (later (‵ (held ls ys.1))) (come-back ls ns.1 xs.1 ys.1 rest) $
+      use3 𝓛 (later (‵ (held ls ys.1))) (come_back ls ns.1 xs.1 ys.1 rest) $
       await ! tt $
       -- [what is held of the others; the last value; what is kept; the token]
       move ! (3 ∷ []) $ lft_end ! tt $ move ! (0 ∷ 3 ∷ 2 ∷ []) $

@@ -6,29 +6,29 @@ use Rattle.model.specs.declared.Map.{Map}
 use Rattle.model.specs.declared.Line.{Line}
 use Rattle.model.specs.declared.Refusal.{Refusal}
 use Rattle.model.specs.declared.Arrival.{Arrival}
-use Rattle.model.specs.Maps.{empty-map}
+use Rattle.model.specs.Maps.{empty_map}
 use Rattle.model.specs.Arrival.{arrived}
 use Rattle.model.specs.Shape.{Shaped}
 use Rattle.model.specs.Sound.{sound}
 use Rattle.model.specs.Text.{lines}
-use Rattle.model.specs.Report.{text-limit, arrivals, closing, offer-line}
+use Rattle.model.specs.Report.{text_limit, arrivals, closing, offer_line}
 use Rattle.admission.specs.Hashes.{AllHashed}
 use Rattle.lines.specs.Packing.{Packable, packed}
-use Rattle.lines.specs.Lines.{answer-lines}
+use Rattle.lines.specs.Lines.{answer_lines}
 
 -- the answers of the lines before number n, and the lines from a place on, offered to the map, with
 -- the hashes of its points
 pub record Surveying (text : List ℕ) (m : Map) (hashes : List Bool) (answers : List ℕ)
     (n at : ℕ) : Type 0 where
-  pub is-sound : T (sound m)
-  pub all-hashed : AllHashed m.xs m.ys m.count hashes
+  pub is_sound : T (sound m)
+  pub all_hashed : AllHashed m.xs m.ys m.count hashes
   pub together :
-      answer-lines answers n ++ arrivals m n (lines (drop at text))
-      ≡ arrivals empty-map 0 (lines text)
+      answer_lines answers n ++ arrivals m n (lines (drop at text))
+      ≡ arrivals empty_map 0 (lines text)
   pub few : n ≤ at
   pub inside : at ≤ length text
-  pub short : length text ≤ text-limit
-  pub whole : length answers ≡ text-limit
+  pub short : length text ≤ text_limit
+  pub whole : length answers ≡ text_limit
 
 -- what reading refuses is a line that is not in form
 abbrev pub AsRead : Line → Type 0
@@ -37,10 +37,10 @@ AsRead line = (r : Refusal) → line ≡ Line.Refused r → r ≡ Refusal.BadLin
 -- a sound map with the hashes of its points, a place for the answer, and a line as it is read
 pub record Decidable (m : Map) (hashes : List Bool) (answers : List ℕ) (n : ℕ) (line : Line) :
     Type 0 where
-  pub is-sound : T (sound m)
-  pub all-hashed : AllHashed m.xs m.ys m.count hashes
-  pub free : n < text-limit
-  pub whole : length answers ≡ text-limit
+  pub is_sound : T (sound m)
+  pub all_hashed : AllHashed m.xs m.ys m.count hashes
+  pub free : n < text_limit
+  pub whole : length answers ≡ text_limit
   pub as_read : AsRead line
 
 -- what the offer comes to, with the map and its hashes after it; the answer stands at the line's
@@ -48,21 +48,21 @@ pub record Decidable (m : Map) (hashes : List Bool) (answers : List ℕ) (n : �
 pub record DecidedLine (m after : Map) (hashes : List Bool) (answers later : List ℕ) (n more : ℕ)
     (line : Line) : Type 0 where
   pub arrival : Arrival
-  pub offered : offer-line m line ≡ arrived arrival after
+  pub offered : offer_line m line ≡ arrived arrival after
   pub packable : Packable arrival
-  pub is-sound : T (sound after)
-  pub all-hashed : AllHashed after.xs after.ys after.count hashes
+  pub is_sound : T (sound after)
+  pub all_hashed : AllHashed after.xs after.ys after.count hashes
   pub answered : later ≡ set answers n (packed arrival)
   pub counted : more ≡ n + 1
 
 -- a text that is not too long, and a place for the answer of each of its lines
 pub record Readable (text answers : List ℕ) : Type 0 where
-  pub short : length text ≤ text-limit
-  pub whole : length answers ≡ text-limit
+  pub short : length text ≤ text_limit
+  pub whole : length answers ≡ text_limit
 
 -- the answers of all lines, and the last two lines on the map, make up the report
 pub record Surveys (text : List ℕ) (m : Map) (answers : List ℕ) (n : ℕ) : Type 0 where
-  pub is-sound : Shaped m
-  pub whole : length answers ≡ text-limit
-  pub lines_fit : n ≤ text-limit
-  pub together : answer-lines answers n ++ closing m ≡ arrivals empty-map 0 (lines text)
+  pub is_sound : Shaped m
+  pub whole : length answers ≡ text_limit
+  pub lines_fit : n ≤ text_limit
+  pub together : answer_lines answers n ++ closing m ≡ arrivals empty_map 0 (lines text)

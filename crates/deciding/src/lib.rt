@@ -3,10 +3,10 @@
 // arrays: no map is copied.
 
 ghost use Rattle.std.specs.Prelude.{◌≡◌};
-ghost use Rattle.model.specs.Maps.{map-lent, point-limit};
+ghost use Rattle.model.specs.Maps.{map_lent, point_limit};
 ghost use Rattle.maps.specs.Places.{PlacesFor};
 ghost use Rattle.admission.specs.Hashes.{AllHashed};
-ghost use Rattle.deciding.specs.Verdicts.{verdict-by};
+ghost use Rattle.deciding.specs.Verdicts.{verdict_by};
 ghost use Rattle.deciding.specs.Deciding.{Decidable, DecidedLine, Surveying, Surveys};
 
 use admission::hashes::{HASH_COUNT, admission_hashed, put_hash};
@@ -41,9 +41,9 @@ fn verdict_on<'a>(
     hashes: &'a [bool],
     line: Line,
 ) -> Verdict
-    requires places_for { PlacesFor xs.now ys.now point-limit }
+    requires places_for { PlacesFor xs.now ys.now point_limit }
     requires all_hashed { AllHashed xs.now ys.now count hashes.now }
-    ensures { result ≡ verdict-by xs.now ys.now count line }
+    ensures { result ≡ verdict_by xs.now ys.now count line }
 {
     match line {
         Line::Named(p) => {
@@ -72,12 +72,12 @@ fn decide_line(
     line: Line,
 ) -> Tally
     requires { Decidable
-        (map-lent xs ys helpers edge arrivals lefts rights tally.count tally.reference)
+        (map_lent xs ys helpers edge arrivals lefts rights tally.count tally.reference)
         hashes.old answers.old tally.lines line }
     ensures { DecidedLine
-        (map-lent xs.entry ys.entry helpers.entry edge.entry arrivals.entry
+        (map_lent xs.entry ys.entry helpers.entry edge.entry arrivals.entry
         lefts.entry rights.entry tally.count tally.reference)
-        (map-lent xs.exit ys.exit helpers.exit edge.exit arrivals.exit
+        (map_lent xs.exit ys.exit helpers.exit edge.exit arrivals.exit
         lefts.exit rights.exit result.count result.reference)
         hashes.new answers.old answers.new tally.lines result.lines
         line }
@@ -128,10 +128,10 @@ pub fn survey(
     begun: Tally,
 ) -> Tally
     requires { Surveying text.now
-        (map-lent xs ys helpers edge arrivals lefts rights begun.count begun.reference)
+        (map_lent xs ys helpers edge arrivals lefts rights begun.count begun.reference)
         hashes.old answers.old begun.lines 0 }
     ensures { Surveys text.now
-        (map-lent xs.exit ys.exit helpers.exit edge.exit arrivals.exit
+        (map_lent xs.exit ys.exit helpers.exit edge.exit arrivals.exit
         lefts.exit rights.exit result.count result.reference)
         answers.new result.lines }
 {

@@ -4,18 +4,18 @@
 use Rattle.std.specs.Prelude.{List, ◌++◌, map, ℕ, ◌≤◌, ℤ, length}
 use Rattle.model.specs.declared.Point.{Point}
 use Rattle.model.specs.Spelling.{bytes}
-use Rattle.model.specs.Maps.{point_at, point-limit}
-use Rattle.model.specs.Outlines.{point-text}
+use Rattle.model.specs.Maps.{point_at, point_limit}
+use Rattle.model.specs.Outlines.{point_text}
 
 -- the points of these numbers, by their coordinates
-abbrev pub points-at : List ℤ → List ℤ → List ℕ → List Point
-points-at xs ys = map (point_at xs ys)
+abbrev pub points_at : List ℤ → List ℤ → List ℕ → List Point
+points_at xs ys = map (point_at xs ys)
 
 -- a comma, a space and the position
-unfoldable pub next-text : Point → List ℕ
-next-text p = bytes ", " ++ point-text p
+unfoldable pub next_text : Point → List ℕ
+next_text p = bytes ", " ++ point_text p
 
 -- so many stand in the list, no more than a map has
 pub record FirstOf (points : List ℕ) (count : ℕ) : Type 0 where
   pub there : count ≤ length points
-  pub few : count ≤ point-limit
+  pub few : count ≤ point_limit

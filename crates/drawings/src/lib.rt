@@ -5,10 +5,10 @@ pub mod positions;
 
 ghost use Rattle.std.specs.Prelude.{◌≡◌, ◌≤◌, length, take};
 ghost use Rattle.finite.specs.Overwriting.{over};
-ghost use Rattle.model.specs.Maps.{point-limit};
-ghost use Rattle.model.specs.Outlines.{outline-text};
+ghost use Rattle.model.specs.Maps.{point_limit};
+ghost use Rattle.model.specs.Outlines.{outline_text};
 ghost use Rattle.printing.specs.Writing.{Room, PutAt};
-ghost use Rattle.drawings.specs.Positions.{FirstOf, points-at};
+ghost use Rattle.drawings.specs.Positions.{FirstOf, points_at};
 
 use crate::positions::{position_length, positions_length, put_next, put_positions};
 use maps::reading::point_at;
@@ -17,8 +17,8 @@ use printing::writing::{put_byte, put_word};
 // How many bytes the text of an outline takes whose corners are the first `count` of `points`.
 pub fn text_length<'a>(xs: &'a [i64], ys: &'a [i64], points: &[usize], count: usize) -> usize
     requires { FirstOf points.now count }
-    ensures { result ≡ length (outline-text
-        (points-at xs.now ys.now (take count points.now))) }
+    ensures { result ≡ length (outline_text
+        (points_at xs.now ys.now (take count points.now))) }
 {
     outline_length(xs, ys, &points[..count])
 }
@@ -26,10 +26,10 @@ pub fn text_length<'a>(xs: &'a [i64], ys: &'a [i64], points: &[usize], count: us
 // Writes that text into a lent list that has room for it; the rest of it stays as it is.
 pub fn write_text<'a>(xs: &'a [i64], ys: &'a [i64], points: &[usize], count: usize, lent: &mut [u8])
     requires first_of { FirstOf points.now count }
-    requires points_in_bounds { length (outline-text (points-at xs.now ys.now (take count points.now)))
+    requires points_in_bounds { length (outline_text (points_at xs.now ys.now (take count points.now)))
         ≤ length lent.old }
-    ensures { lent.new ≡ over (outline-text
-        (points-at xs.now ys.now (take count points.now)))
+    ensures { lent.new ≡ over (outline_text
+        (points_at xs.now ys.now (take count points.now)))
         lent.old }
 {
     put_outline(lent, 0, xs, ys, &points[..count]);
@@ -38,9 +38,9 @@ pub fn write_text<'a>(xs: &'a [i64], ys: &'a [i64], points: &[usize], count: usi
 // How many bytes the text of an outline takes: what opens the positions, the positions and what
 // closes them, with the lengths of the words that are written.
 fn outline_length<'a>(xs: &'a [i64], ys: &'a [i64], corners: &[usize]) -> usize
-    requires { length corners.now ≤ point-limit }
+    requires { length corners.now ≤ point_limit }
     ensures { result ≡ length
-        (outline-text (points-at xs.now ys.now corners.now)) }
+        (outline_text (points_at xs.now ys.now corners.now)) }
 {
     let count = corners.len();
     if count == 0 {
@@ -67,9 +67,9 @@ fn put_outline<'a>(
     ys: &'a [i64],
     corners: &[usize],
 ) -> usize
-    requires { Room lent.old at (outline-text (points-at xs.now ys.now corners.now)) }
+    requires { Room lent.old at (outline_text (points_at xs.now ys.now corners.now)) }
     ensures { PutAt lent.old at
-        (outline-text (points-at xs.now ys.now corners.now))
+        (outline_text (points_at xs.now ys.now corners.now))
         lent.new result }
 {
     let count = corners.len();

@@ -2,10 +2,10 @@
 // comma and a space between: their lengths, and writing them at a place of a lent list.
 
 ghost use Rattle.std.specs.Prelude.{◌≡◌, ◌++◌, ◌≤◌, length};
-ghost use Rattle.model.specs.Maps.{point-limit};
-ghost use Rattle.model.specs.Outlines.{joined, point-text};
+ghost use Rattle.model.specs.Maps.{point_limit};
+ghost use Rattle.model.specs.Outlines.{joined, point_text};
 ghost use Rattle.printing.specs.Writing.{Room, PutAt};
-ghost use Rattle.drawings.specs.Positions.{next-text, points-at};
+ghost use Rattle.drawings.specs.Positions.{next_text, points_at};
 
 use maps::reading::point_at;
 use model::Point;
@@ -13,15 +13,15 @@ use printing::writing::{number_length, put_byte, put_number, put_word};
 
 // How many bytes a position takes.
 pub fn position_length(p: Point) -> usize
-    ensures { result ≡ length (point-text p) }
+    ensures { result ≡ length (point_text p) }
 {
     number_length(p.x) + 1 + number_length(p.y)
 }
 
 // Writes a position.
 fn put_position(lent: &mut [u8], at: usize, p: Point) -> usize
-    requires { Room lent.old at (point-text p) }
-    ensures { PutAt lent.old at (point-text p) lent.new result }
+    requires { Room lent.old at (point_text p) }
+    ensures { PutAt lent.old at (point_text p) lent.new result }
 {
     let x_end = put_number(lent, at, p.x);
     let y_start = put_byte(lent, x_end, b' ');
@@ -30,8 +30,8 @@ fn put_position(lent: &mut [u8], at: usize, p: Point) -> usize
 
 // Writes a position that comes after another one.
 pub fn put_next(lent: &mut [u8], at: usize, p: Point) -> usize
-    requires { Room lent.old at (next-text p) }
-    ensures { PutAt lent.old at (next-text p) lent.new result }
+    requires { Room lent.old at (next_text p) }
+    ensures { PutAt lent.old at (next_text p) lent.new result }
 {
     let position = put_word(lent, at, b", ");
     put_position(lent, position, p)
@@ -40,9 +40,9 @@ pub fn put_next(lent: &mut [u8], at: usize, p: Point) -> usize
 // How many bytes the positions of a first point and of other ones take. They are a map's corners at
 // most.
 pub fn positions_length<'a>(xs: &'a [i64], ys: &'a [i64], first: Point, others: &[usize]) -> usize
-    requires { length others.now ≤ point-limit }
+    requires { length others.now ≤ point_limit }
     ensures { result ≡ length
-        (joined first (points-at xs.now ys.now others.now)) }
+        (joined first (points_at xs.now ys.now others.now)) }
 {
     let mut total = position_length(first);
     for i in 0..others.len() {
@@ -62,9 +62,9 @@ pub fn put_positions<'a>(
     others: &[usize],
 ) -> usize
     requires { Room lent.old at
-        (word.now ++ joined first (points-at xs.now ys.now others.now)) }
+        (word.now ++ joined first (points_at xs.now ys.now others.now)) }
     ensures { PutAt lent.old at (word.now ++
-        joined first (points-at xs.now ys.now others.now))
+        joined first (points_at xs.now ys.now others.now))
         lent.new result }
 {
     let position = put_word(lent, at, word);

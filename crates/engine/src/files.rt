@@ -4,7 +4,7 @@ ghost use Rattle.std.specs.Prelude.{[], ◌∷◌};
 ghost use Rattle.model.specs.Answers.{Answered};
 ghost use Rattle.model.specs.Reading.{unsound};
 ghost use Rattle.model.specs.Lent.{Wrote};
-ghost use Rattle.model.specs.Saved.{load-call, saved};
+ghost use Rattle.model.specs.Saved.{load_call, saved};
 
 use layout::{VERSION, is_in_form, saved_length};
 use loading::map_of;
@@ -33,7 +33,7 @@ pub fn save(map: Map, lent: &mut [u8]) -> Written
 // The map of a file of either version: number 7, and then number 1. A refused call has the empty map beside its
 // refusal.
 pub fn load(file: &[u8]) -> Loaded
-    ensures { Answered (load-call file.now) result }
+    ensures { Answered (load_call file.now) result }
 {
     if !is_in_form(file) {
         return Loaded {

@@ -7,13 +7,13 @@ pub mod files;
 pub mod texts;
 
 ghost use Rattle.std.specs.Prelude.{◌≡◌, [], ◌∷◌};
-ghost use Rattle.model.specs.Maps.{empty-map};
+ghost use Rattle.model.specs.Maps.{empty_map};
 ghost use Rattle.model.specs.Sound.{sound};
 ghost use Rattle.model.specs.Outline.{corners};
 ghost use Rattle.model.specs.Answers.{Answered};
-ghost use Rattle.model.specs.Reading.{counts-call, orbit-call, unsound, walk_call, walker-call};
-ghost use Rattle.model.specs.Offers.{offer-call};
-ghost use Rattle.model.specs.Placing.{place-call};
+ghost use Rattle.model.specs.Reading.{counts_call, orbit_call, unsound, walk_call, walker_call};
+ghost use Rattle.model.specs.Offers.{offer_call};
+ghost use Rattle.model.specs.Placing.{place_call};
 ghost use Rattle.model.specs.Lent.{Wrote};
 ghost use Rattle.plane.specs.OrientedAnswer.{OrientedAnswer};
 
@@ -38,7 +38,7 @@ pub fn orientation(a: Point, b: Point, c: Point) -> Oriented
 
 // The map without points, from which every survey starts.
 pub fn empty_map() -> Map
-    ensures { result ≡ empty-map }
+    ensures { result ≡ empty_map }
 {
     maps::empty_map()
 }
@@ -53,7 +53,7 @@ pub fn is_sound(map: Map) -> bool
 // The map after a point is offered to it, and what became of the point: numbers 1 to 4. Where the point is
 // refused, the map is as it was.
 pub fn offer(map: Map, p: Point) -> Offered
-    ensures { Answered (offer-call map p) result }
+    ensures { Answered (offer_call map p) result }
 {
     if !is_sound(map) {
         return Offered {
@@ -66,7 +66,7 @@ pub fn offer(map: Map, p: Point) -> Offered
 
 // The orbit of a dart, of the kind that is named: numbers 1 and 6.
 pub fn orbit(map: Map, kind: Kind, dart: usize) -> Orbit
-    ensures { Answered (orbit-call map kind dart) result }
+    ensures { Answered (orbit_call map kind dart) result }
 {
     let checked = check_dart(map, dart);
     match checked {
@@ -83,7 +83,7 @@ pub fn orbit(map: Map, kind: Kind, dart: usize) -> Orbit
 
 // The numbers of darts, vertices, edges, faces and connected parts: number 1.
 pub fn counts(map: Map) -> Counted
-    ensures { Answered (counts-call map) result }
+    ensures { Answered (counts_call map) result }
 {
     if !is_sound(map) {
         return Counted::Refused(Refusal::NotSound);
@@ -105,7 +105,7 @@ pub fn walk(map: Map, dart: usize) -> Walked
 // A walker moved by a link, or started where it stands, by none; the dart where it stands is checked:
 // numbers 1 and 6.
 pub fn move_walker(map: Map, link: Link, walker: Walker) -> Moved
-    ensures { Answered (walker-call map link walker.dart) result }
+    ensures { Answered (walker_call map link walker.dart) result }
 {
     let checked = check_dart(map, walker.dart);
     match checked {
@@ -116,7 +116,7 @@ pub fn move_walker(map: Map, link: Link, walker: Walker) -> Moved
 
 // Where a query point lies: numbers 1 and 3.
 pub fn place(map: Map, p: Point) -> Placed
-    ensures { Answered (place-call map p) result }
+    ensures { Answered (place_call map p) result }
 {
     if !is_sound(map) {
         return Placed::Refused(Refusal::NotSound);

@@ -17,9 +17,9 @@ any zero p = false
 any (suc n) p = any n p || p n
 
 -- 1 where the test passes, else 0
-unfoldable pub one-if : Bool → ℕ
-one-if true = 1
-one-if false = 0
+unfoldable pub one_if : Bool → ℕ
+one_if true = 1
+one_if false = 0
 
 -- f 0 + f 1 + .. + f (n - 1)
 unfoldable pub sum : ℕ → (ℕ → ℕ) → ℕ
@@ -28,25 +28,25 @@ sum (suc n) f = sum n f + f n
 
 -- how many k below n pass p
 unfoldable pub count : ℕ → (ℕ → Bool) → ℕ
-unfolding sum one-if
-count n p = sum n (λ k. one-if (p k))
+unfolding sum one_if
+count n p = sum n (λ k. one_if (p k))
 
 -- f 0 ∷ f 1 ∷ .. ∷ f (n - 1), before a list
-unfoldable pub table-onto {ℓ} : {A : Type ℓ} → ℕ → (ℕ → A) → List A → List A
-table-onto zero f s = s
-table-onto (suc n) f s = table-onto n f (f n ∷ s)
+unfoldable pub table_onto {ℓ} : {A : Type ℓ} → ℕ → (ℕ → A) → List A → List A
+table_onto zero f s = s
+table_onto (suc n) f s = table_onto n f (f n ∷ s)
 
 -- f 0 ∷ f 1 ∷ .. ∷ f (n - 1)
 unfoldable pub table {ℓ} : {A : Type ℓ} → ℕ → (ℕ → A) → List A
-unfolding table-onto
-table n f = table-onto n f []
+unfolding table_onto
+table n f = table_onto n f []
 
 -- ---- the laws of `all` and `any`
 
-pub lt-or-ge : (k n : ℕ) → (k < n) ⊎ (n ≤ k)
-lt-or-ge k zero = inr zero-le
-lt-or-ge zero (suc n) = inl (omega arith)
-lt-or-ge (suc k) (suc n) = ⊎_elim (λ l. inl (suc-le-suc l)) (λ l. inr (suc-le-suc l)) (lt-or-ge k n)
+pub lt_or_ge : (k n : ℕ) → (k < n) ⊎ (n ≤ k)
+lt_or_ge k zero = inr zero-le
+lt_or_ge zero (suc n) = inl (omega arith)
+lt_or_ge (suc k) (suc n) = ⊎_elim (λ l. inl (suc-le-suc l)) (λ l. inr (suc-le-suc l)) (lt_or_ge k n)
 
 -- the last number below suc n, or one below n
 pub below_suc : (n k : ℕ) → k < suc n → (k < n) ⊎ (k ≡ n)
@@ -56,20 +56,20 @@ below_suc (suc n) zero h = inl (omega arith)
 below_suc (suc n) (suc k) h =
     ⊎_elim (λ (l : k < n). inl (omega arith)) (λ (e : k ≡ n). inr (ap suc e)) (below_suc n k (le_of_suc-le-suc h))
 
-pub all-at : (n : ℕ) (p : ℕ → Bool) → T (all n p) → (k : ℕ) → k < n → T (p k)
+pub all_at : (n : ℕ) (p : ℕ → Bool) → T (all n p) → (k : ℕ) → k < n → T (p k)
 unfolding all
-all-at zero p t k h = absurd (not-suc-le-zero h)
-all-at (suc n) p t k h =
+all_at zero p t k h = absurd (not-suc-le-zero h)
+all_at (suc n) p t k h =
     ⊎_elim
-    (λ (l : k < n). all-at n p (and_left (all n p) (p n) t) k l)
+    (λ (l : k < n). all_at n p (and_left (all n p) (p n) t) k l)
     (λ (e : k ≡ n). subst (λ (j : ℕ). T (p j)) (sym e) (and_right (all n p) (p n) t))
     (below_suc n k h)
 
-pub all-by : (n : ℕ) (p : ℕ → Bool) → ((k : ℕ) → k < n → T (p k)) → T (all n p)
+pub all_by : (n : ℕ) (p : ℕ → Bool) → ((k : ℕ) → k < n → T (p k)) → T (all n p)
 unfolding all
-all-by zero p f = tt
-all-by (suc n) p f =
-    and_both (all n p) (p n) (all-by n p (λ k h. f k (omega arith))) (f n (le_refl (suc n)))
+all_by zero p f = tt
+all_by (suc n) p f =
+    and_both (all n p) (p n) (all_by n p (λ k h. f k (omega arith))) (f n (le_refl (suc n)))
 
 pub any_at : (n : ℕ) (p : ℕ → Bool) → T (any n p) → (k : ℕ) × (k < n) × T (p k)
 unfolding any
@@ -80,20 +80,20 @@ any_at (suc n) p t =
     (λ (s : T (p n)). (n, le_refl (suc n), s))
     (or_cases (any n p) (p n) t)
 
-pub any-by : (n : ℕ) (p : ℕ → Bool) (k : ℕ) → k < n → T (p k) → T (any n p)
+pub any_by : (n : ℕ) (p : ℕ → Bool) (k : ℕ) → k < n → T (p k) → T (any n p)
 unfolding any
-any-by zero p k h t = absurd (not-suc-le-zero h)
-any-by (suc n) p k h t =
+any_by zero p k h t = absurd (not-suc-le-zero h)
+any_by (suc n) p k h t =
     ⊎_elim
-    (λ (l : k < n). or_left (any n p) (p n) (any-by n p k l t))
+    (λ (l : k < n). or_left (any n p) (p n) (any_by n p k l t))
     (λ (e : k ≡ n). or_right (any n p) (p n) (subst (λ (j : ℕ). T (p j)) e t))
     (below_suc n k h)
 
 -- some number passes where not all fail
-pub some-not-none : (n : ℕ) (p : ℕ → Bool) → not (all n (λ k. not (p k))) ≡ any n p
+pub some_not_none : (n : ℕ) (p : ℕ → Bool) → not (all n (λ k. not (p k))) ≡ any n p
 unfolding all any
-some-not-none zero p = refl
-some-not-none (suc n) p = both (all n (λ k. not (p k))) (any n p) (p n) (some-not-none n p)
+some_not_none zero p = refl
+some_not_none (suc n) p = both (all n (λ k. not (p k))) (any n p) (p n) (some_not_none n p)
   where
     both : (a b c : Bool) → not a ≡ b → not (a && not c) ≡ (b || c)
     both true b true e = ap (λ (t : Bool). t || true) e
@@ -102,62 +102,62 @@ some-not-none (suc n) p = both (all n (λ k. not (p k))) (any n p) (p n) (some-n
 
 -- ---- the laws of `table`
 
-length-onto {ℓ} : {A : Type ℓ} (n : ℕ) (f : ℕ → A) (s : List A) → length (table-onto n f s) ≡ n + length s
-unfolding table-onto
-length-onto zero f s = omega arith
-length-onto (suc n) f s = omega (arith, length-onto n f (f n ∷ s))
+length_onto {ℓ} : {A : Type ℓ} (n : ℕ) (f : ℕ → A) (s : List A) → length (table_onto n f s) ≡ n + length s
+unfolding table_onto
+length_onto zero f s = omega arith
+length_onto (suc n) f s = omega (arith, length_onto n f (f n ∷ s))
 
-pub length-table {ℓ} : {A : Type ℓ} (n : ℕ) (f : ℕ → A) → length (table n f) ≡ n
+pub length_table {ℓ} : {A : Type ℓ} (n : ℕ) (f : ℕ → A) → length (table n f) ≡ n
 unfolding table
-length-table n f = omega (arith, length-onto n f [])
+length_table n f = omega (arith, length_onto n f [])
 
 -- past the table stands the list that it was put before
-get_d_past {ℓ} : {A : Type ℓ} (n : ℕ) (f : ℕ → A) (s : List A) (k : ℕ) (d : A) → get_or (table-onto n f s) (n + k) d ≡ get_or s k d
-unfolding table-onto
+get_d_past {ℓ} : {A : Type ℓ} (n : ℕ) (f : ℕ → A) (s : List A) (k : ℕ) (d : A) → get_or (table_onto n f s) (n + k) d ≡ get_or s k d
+unfolding table_onto
 get_d_past zero f s k d = ap (λ (j : ℕ). get_or s j d) (zero-add k)
 get_d_past (suc n) f s k d =
-    ap (λ (j : ℕ). get_or (table-onto n f (f n ∷ s)) j d) (suc-add n k ∙ sym (add-suc n k)) ∙ get_d_past n f (f n ∷ s) (suc k) d
+    ap (λ (j : ℕ). get_or (table_onto n f (f n ∷ s)) j d) (suc-add n k ∙ sym (add-suc n k)) ∙ get_d_past n f (f n ∷ s) (suc k) d
 
-getD-onto {ℓ} : {A : Type ℓ} (n : ℕ) (f : ℕ → A) (s : List A) (k : ℕ) (d : A) → k < n → get_or (table-onto n f s) k d ≡ f k
-unfolding table-onto
-getD-onto zero f s k d h = absurd (not-suc-le-zero h)
-getD-onto (suc n) f s k d h =
-    ⊎_elim (λ (l : k < n). getD-onto n f (f n ∷ s) k d l)
+get_or_onto {ℓ} : {A : Type ℓ} (n : ℕ) (f : ℕ → A) (s : List A) (k : ℕ) (d : A) → k < n → get_or (table_onto n f s) k d ≡ f k
+unfolding table_onto
+get_or_onto zero f s k d h = absurd (not-suc-le-zero h)
+get_or_onto (suc n) f s k d h =
+    ⊎_elim (λ (l : k < n). get_or_onto n f (f n ∷ s) k d l)
     (λ (e : k ≡ n).
-    ap (λ (j : ℕ). get_or (table-onto n f (f n ∷ s)) j d) (e ∙ sym (add-zero n)) ∙ get_d_past n f (f n ∷ s) 0 d
+    ap (λ (j : ℕ). get_or (table_onto n f (f n ∷ s)) j d) (e ∙ sym (add-zero n)) ∙ get_d_past n f (f n ∷ s) 0 d
     ∙ ap f (sym e))
     (below_suc n k h)
 
-pub getD-table {ℓ} : {A : Type ℓ} (n : ℕ) (f : ℕ → A) (k : ℕ) (d : A) → k < n → get_or (table n f) k d ≡ f k
+pub get_or_table {ℓ} : {A : Type ℓ} (n : ℕ) (f : ℕ → A) (k : ℕ) (d : A) → k < n → get_or (table n f) k d ≡ f k
 unfolding table
-getD-table n f k d h = getD-onto n f [] k d h
+get_or_table n f k d h = get_or_onto n f [] k d h
 
-onto-append {ℓ} : {A : Type ℓ} (n : ℕ) (f : ℕ → A) (s t : List A) → table-onto n f (s ++ t) ≡ table-onto n f s ++ t
-unfolding table-onto
-onto-append zero f s t = refl
-onto-append (suc n) f s t = onto-append n f (f n ∷ s) t
+onto_append {ℓ} : {A : Type ℓ} (n : ℕ) (f : ℕ → A) (s t : List A) → table_onto n f (s ++ t) ≡ table_onto n f s ++ t
+unfolding table_onto
+onto_append zero f s t = refl
+onto_append (suc n) f s t = onto_append n f (f n ∷ s) t
 
 -- a table of one more
 pub table_more {ℓ} : {A : Type ℓ} (n : ℕ) (f : ℕ → A) → table (suc n) f ≡ table n f ++ f n ∷ []
 unfolding table
-table_more n f = onto-append n f [] (f n ∷ [])
+table_more n f = onto_append n f [] (f n ∷ [])
 
 -- lists put together one after another, and one more
-flatten-append : (r s : List (List ℕ)) → flatten (r ++ s) ≡ flatten r ++ flatten s
+flatten_append : (r s : List (List ℕ)) → flatten (r ++ s) ≡ flatten r ++ flatten s
 unfolding flatten
-flatten-append [] s = refl
-flatten-append (l ∷ r) s = rw (flatten-append r s, append_assoc)
+flatten_append [] s = refl
+flatten_append (l ∷ r) s = rw (flatten_append r s, append_assoc)
 
-pub flatten-more : (n : ℕ) (f : ℕ → List ℕ) → flatten (table (suc n) f) ≡ flatten (table n f) ++ f n
+pub flatten_more : (n : ℕ) (f : ℕ → List ℕ) → flatten (table (suc n) f) ≡ flatten (table n f) ++ f n
 unfolding flatten
-flatten-more n f =
-    ap flatten (table_more n f) ∙ flatten-append (table n f) (f n ∷ []) ∙ rw append-nil
+flatten_more n f =
+    ap flatten (table_more n f) ∙ flatten_append (table n f) (f n ∷ []) ∙ rw append-nil
 
-onto_same {ℓ} : {A : Type ℓ} (n : ℕ) (f g : ℕ → A) (s : List A) → ((k : ℕ) → k < n → f k ≡ g k) → table-onto n f s ≡ table-onto n g s
-unfolding table-onto
+onto_same {ℓ} : {A : Type ℓ} (n : ℕ) (f g : ℕ → A) (s : List A) → ((k : ℕ) → k < n → f k ≡ g k) → table_onto n f s ≡ table_onto n g s
+unfolding table_onto
 onto_same zero f g s e = refl
 onto_same (suc n) f g s e =
-    ap (λ a. table-onto n f (a ∷ s)) (e n (le_refl (suc n))) ∙ onto_same n f g (g n ∷ s) (λ k h. e k (omega arith))
+    ap (λ a. table_onto n f (a ∷ s)) (e n (le_refl (suc n))) ∙ onto_same n f g (g n ∷ s) (λ k h. e k (omega arith))
 
 pub table_same {ℓ} : {A : Type ℓ} (n : ℕ) (f g : ℕ → A) → ((k : ℕ) → k < n → f k ≡ g k) → table n f ≡ table n g
 unfolding table

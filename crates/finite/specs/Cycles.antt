@@ -18,25 +18,25 @@ module _ {A : Type 0} (E : A → A → Type 0) where
   Cycle (a ∷ s) = Chain (a ∷ s ++ a ∷ [])
 
   -- a chain is cut at any member, which ends the one half and begins the other
-  pub chain-cut : (s : List A) (x : A) (t : List A) → Chain (s ++ x ∷ t) → Chain (s ++ x ∷ []) × Chain (x ∷ t)
+  pub chain_cut : (s : List A) (x : A) (t : List A) → Chain (s ++ x ∷ t) → Chain (s ++ x ∷ []) × Chain (x ∷ t)
   unfolding Chain
-  chain-cut [] x t c = (tt, c)
-  chain-cut (a ∷ []) x t c = ((c.0, tt), c.1)
-  chain-cut (a ∷ b ∷ s) x t c = let r = chain-cut (b ∷ s) x t c.1 in ((c.0, r.0), r.1)
+  chain_cut [] x t c = (tt, c)
+  chain_cut (a ∷ []) x t c = ((c.0, tt), c.1)
+  chain_cut (a ∷ b ∷ s) x t c = let r = chain_cut (b ∷ s) x t c.1 in ((c.0, r.0), r.1)
 
-  pub chain-join : (s : List A) (x : A) (t : List A) → Chain (s ++ x ∷ []) → Chain (x ∷ t) → Chain (s ++ x ∷ t)
+  pub chain_join : (s : List A) (x : A) (t : List A) → Chain (s ++ x ∷ []) → Chain (x ∷ t) → Chain (s ++ x ∷ t)
   unfolding Chain
-  chain-join [] x t c d = d
-  chain-join (a ∷ []) x t c d = (c.0, d)
-  chain-join (a ∷ b ∷ s) x t c d = (c.0, chain-join (b ∷ s) x t c.1 d)
+  chain_join [] x t c d = d
+  chain_join (a ∷ []) x t c d = (c.0, d)
+  chain_join (a ∷ b ∷ s) x t c d = (c.0, chain_join (b ∷ s) x t c.1 d)
 
   -- a cycle may begin at any of its members
-  pub cycle-rotate : (s : List A) (x : A) (t : List A) → Cycle (s ++ x ∷ t) → Cycle (x ∷ t ++ s)
+  pub cycle_rotate : (s : List A) (x : A) (t : List A) → Cycle (s ++ x ∷ t) → Cycle (x ∷ t ++ s)
   unfolding Cycle
-  cycle-rotate [] x t c = subst (λ (u : List A). Chain (x ∷ u ++ x ∷ [])) (sym (append-nil t)) c
-  cycle-rotate (a ∷ s) x t c =
+  cycle_rotate [] x t c = subst (λ (u : List A). Chain (x ∷ u ++ x ∷ [])) (sym (append-nil t)) c
+  cycle_rotate (a ∷ s) x t c =
       let halves =
-      chain-cut (a ∷ s) x (t ++ a ∷ []) (subst (λ (u : List A). Chain (a ∷ u)) (append_assoc s (x ∷ t) (a ∷ [])) c)
+      chain_cut (a ∷ s) x (t ++ a ∷ []) (subst (λ (u : List A). Chain (a ∷ u)) (append_assoc s (x ∷ t) (a ∷ [])) c)
       in
       subst (λ (u : List A). Chain (x ∷ u)) (sym (append_assoc t (a ∷ s) (x ∷ [])))
-      (chain-join (x ∷ t) a (s ++ x ∷ []) halves.1 halves.0)
+      (chain_join (x ∷ t) a (s ++ x ∷ []) halves.1 halves.0)

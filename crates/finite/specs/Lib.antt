@@ -3,7 +3,7 @@
 --     Tests        laws of Bool: `&&`, `||`, `⇒`, and from a test to its statement
 --     Bounded      `all`, `any`, `sum`, `count`, `table` below a bound, with the law of each
 --     Counting     counts compared: injections, the pigeonhole, the least number that passes
---     Lists        `elem`, `all_in`, `count-in`, `first-in`, `ring`, `distinct`: the definitions
+--     Lists        `elem`, `all_in`, `count_in`, `first_in`, `ring`, `distinct`: the definitions
 --     ListLaws     members of a list, tests that pass at all of them, and what is put together
 --     Distinct     lists in which no member stands twice; how many members there are
 --     FirstPassing the first member that passes a test

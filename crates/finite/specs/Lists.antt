@@ -5,7 +5,7 @@
 -- This page has the definitions alone: their laws stand in ListLaws, Distinct, FirstPassing and
 -- Rings.
 use Rattle.std.specs.Prelude.{Bool, true, false, not, cond, ◌&&◌, ◌||◌, List, [], ◌∷◌, ◌++◌, ℕ, zero, suc, ◌+◌, eqb}
-use Rattle.finite.specs.Bounded.{one-if}
+use Rattle.finite.specs.Bounded.{one_if}
 
 -- x is a member of the list
 unfoldable pub elem : ℕ → List ℕ → Bool
@@ -19,8 +19,8 @@ same_by same [] (y ∷ t) = false
 same_by same (x ∷ s) [] = false
 same_by same (x ∷ s) (y ∷ t) = same x y && same_by same s t
 
-abbrev pub same-list : List ℕ → List ℕ → Bool
-same-list = same_by eqb
+abbrev pub same_list : List ℕ → List ℕ → Bool
+same_list = same_by eqb
 
 module _ {ℓ} {A : Type ℓ} where
   -- p passes at every member
@@ -29,24 +29,24 @@ module _ {ℓ} {A : Type ℓ} where
   all_in p (x ∷ s) = p x && all_in p s
 
   -- p passes at every place and its member, places counted from i
-  unfoldable pub all-places : (ℕ → A → Bool) → ℕ → List A → Bool
-  all-places p i [] = true
-  all-places p i (x ∷ s) = p i x && all-places p (suc i) s
+  unfoldable pub all_places : (ℕ → A → Bool) → ℕ → List A → Bool
+  all_places p i [] = true
+  all_places p i (x ∷ s) = p i x && all_places p (suc i) s
 
   -- p passes at some member
-  unfoldable pub any-in : (A → Bool) → List A → Bool
-  any-in p [] = false
-  any-in p (x ∷ s) = p x || any-in p s
+  unfoldable pub any_in : (A → Bool) → List A → Bool
+  any_in p [] = false
+  any_in p (x ∷ s) = p x || any_in p s
 
   -- how many members pass p
-  unfoldable pub count-in : (A → Bool) → List A → ℕ
-  count-in p [] = 0
-  count-in p (x ∷ s) = one-if (p x) + count-in p s
+  unfoldable pub count_in : (A → Bool) → List A → ℕ
+  count_in p [] = 0
+  count_in p (x ∷ s) = one_if (p x) + count_in p s
 
   -- the first member that passes p, or d where none does
-  unfoldable pub first-in : (A → Bool) → A → List A → A
-  first-in p d [] = d
-  first-in p d (x ∷ s) = let later = first-in p d s in cond (p x) x later
+  unfoldable pub first_in : (A → Bool) → A → List A → A
+  first_in p d [] = d
+  first_in p d (x ∷ s) = let later = first_in p d s in cond (p x) x later
 
 -- what stands before the first x, and after it
 unfoldable pub before : ℕ → List ℕ → List ℕ

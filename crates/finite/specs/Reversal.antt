@@ -9,8 +9,8 @@ use mathlib.Core.List.{List, [], ◌∷◌, ◌++◌, append_assoc}
 use Rattle.std.proofs.Math.Dec.{T}
 use Rattle.std.proofs.Math.ListN.{length-append}
 use Rattle.finite.specs.Lists.{elem}
-use Rattle.finite.specs.ListLaws.{elem-head, elem-tail, elem-one, elem-append}
-use Rattle.finite.specs.Cycles.{Chain, Cycle, chain-join}
+use Rattle.finite.specs.ListLaws.{elem_head, elem_tail, elem_one, elem_append}
+use Rattle.finite.specs.Cycles.{Chain, Cycle, chain_join}
 
 module _ (E : ℕ → ℕ → Type 0) where
   -- the converse of E
@@ -24,24 +24,24 @@ module _ (E : ℕ → ℕ → Type 0) where
     same_length : length list ≡ length s
     members : (z : ℕ) → T (elem z list) → T (elem z s)
 
-  chain-reversed : (x y : ℕ) (s : List ℕ) → Chain E (x ∷ s ++ y ∷ []) → ReversedChain x y s
+  chain_reversed : (x y : ℕ) (s : List ℕ) → Chain E (x ∷ s ++ y ∷ []) → ReversedChain x y s
   unfolding Chain
-  chain-reversed x y [] c =
+  chain_reversed x y [] c =
       record { list = []; chain = (c.0, tt); same_length = refl; members = λ z h. h }
-  chain-reversed x y (a ∷ s) c =
-      let rest = chain-reversed a y s c.1 in
+  chain_reversed x y (a ∷ s) c =
+      let rest = chain_reversed a y s c.1 in
       record {
         list = rest.list ++ a ∷ [];
         chain =
             subst (λ (u : List ℕ). Chain Converse (y ∷ u)) (sym (append_assoc rest.list (a ∷ []) (x ∷ [])))
-            (chain-join Converse (y ∷ rest.list) a (x ∷ []) rest.chain (c.0, tt));
+            (chain_join Converse (y ∷ rest.list) a (x ∷ []) rest.chain (c.0, tt));
         same_length = omega (arith, length-append rest.list (a ∷ []), rest.same_length);
         members =
             λ z h.
             ⊎_elim
-            (λ (t : T (elem z rest.list)). elem-tail z a s (rest.members z t))
-            (λ (t : T (elem z (a ∷ []))). rw (elem-one z a t) (elem-head a s))
-            (elem-append z rest.list (a ∷ []) h);
+            (λ (t : T (elem z rest.list)). elem_tail z a s (rest.members z t))
+            (λ (t : T (elem z (a ∷ []))). rw (elem_one z a t) (elem_head a s))
+            (elem_append z rest.list (a ∷ []) h);
       }
 
   -- what stands after the first member of a cycle, in reverse order
@@ -51,8 +51,8 @@ module _ (E : ℕ → ℕ → Type 0) where
     pub same_length : length list ≡ length s
     pub members : (z : ℕ) → T (elem z list) → T (elem z s)
 
-  pub cycle-reversed : (x : ℕ) (s : List ℕ) → Cycle E (x ∷ s) → Reversed x s
+  pub cycle_reversed : (x : ℕ) (s : List ℕ) → Cycle E (x ∷ s) → Reversed x s
   unfolding Cycle
-  cycle-reversed x s c =
-      let r = chain-reversed x x s c in
+  cycle_reversed x s c =
+      let r = chain_reversed x x s c in
       record { list = r.list; cycle = r.chain; same_length = r.same_length; members = r.members }

@@ -13,7 +13,7 @@ use Rattle.std.proofs.Math.Numerals.{add-one}
 use native.Mathlib.Omega.{arith}
 use Rattle.std.proofs.Math.ListN.{length, get_or, length-append, get_or-append}
 use Rattle.std.proofs.Math.Seq.{get_or-append_seam}
-use Rattle.finite.specs.Bounded.{lt-or-ge}
+use Rattle.finite.specs.Bounded.{lt_or_ge}
 use Rattle.finite.specs.Lists.{ring}
 use Rattle.finite.specs.Cycles.{Chain, Cycle}
 
@@ -21,25 +21,25 @@ use Rattle.finite.specs.Cycles.{Chain, Cycle}
 
 module _ (f : ℕ → ℕ) (start : ℕ) where
   -- then none, since the next one is the start ..
-  pub ring-last : (k a : ℕ) → 0 < k → f a ≡ start → ring f start k a ≡ a ∷ ring f start 0 (f a)
+  pub ring_last : (k a : ℕ) → 0 < k → f a ≡ start → ring f start k a ≡ a ∷ ring f start 0 (f a)
   unfolding ring
-  ring-last zero a h e = absurd (not-suc-le-zero h)
-  ring-last (suc k) a h e = rw (eq-eqb (f a) start e)
+  ring_last zero a h e = absurd (not-suc-le-zero h)
+  ring_last (suc k) a h e = rw (eq-eqb (f a) start e)
 
   -- .. or then those from the next one on
-  pub ring-more : (k a : ℕ) → 0 < k → f a ≢ start →
+  pub ring_more : (k a : ℕ) → 0 < k → f a ≢ start →
       ring f start k a ≡ a ∷ ring f start (k - 1) (f a)
   unfolding ring
-  ring-more zero a h n = absurd (not-suc-le-zero h)
-  ring-more (suc k) a h n =
+  ring_more zero a h n = absurd (not-suc-le-zero h)
+  ring_more (suc k) a h n =
       let one_less : k ≡ suc k - 1 = omega arith in
       rw (ne_eqb (f a) start n) (ap (λ (j : ℕ). a ∷ ring f start j (f a)) one_less)
 
   -- at most k of them
-  pub ring-most : (k a : ℕ) → length (ring f start k a) ≤ k
+  pub ring_most : (k a : ℕ) → length (ring f start k a) ≤ k
   unfolding ring
-  ring-most zero a = omega arith
-  ring-most (suc k) a = go (eqb (f a) start) (ring-most k (f a))
+  ring_most zero a = omega arith
+  ring_most (suc k) a = go (eqb (f a) start) (ring_most k (f a))
     where
       go : (b : Bool) → length (ring f start k (f a)) ≤ k →
           suc (length (cond b [] (ring f start k (f a)))) ≤ suc k
@@ -49,24 +49,24 @@ module _ (f : ℕ → ℕ) (start : ℕ) where
 -- ---- the member after a place
 
 module _ {A : Type 0} (E : A → A → Type 0) where
-  chain-at : (s : List A) (i : ℕ) (d : A) → suc i < length s → Chain E s →
+  chain_at : (s : List A) (i : ℕ) (d : A) → suc i < length s → Chain E s →
       E (get_or s i d) (get_or s (suc i) d)
   unfolding Chain
-  chain-at [] i d h c = absurd (not-suc-le-zero h)
-  chain-at (a ∷ []) i d h c = absurd (not-suc-le-zero (le_of_suc-le-suc h))
-  chain-at (a ∷ b ∷ s) zero d h c = c.0
-  chain-at (a ∷ b ∷ s) (suc i) d h c = chain-at (b ∷ s) i d (le_of_suc-le-suc h) c.1
+  chain_at [] i d h c = absurd (not-suc-le-zero h)
+  chain_at (a ∷ []) i d h c = absurd (not-suc-le-zero (le_of_suc-le-suc h))
+  chain_at (a ∷ b ∷ s) zero d h c = c.0
+  chain_at (a ∷ b ∷ s) (suc i) d h c = chain_at (b ∷ s) i d (le_of_suc-le-suc h) c.1
 
   -- round a cycle the first stands after the last
-  pub cycle-at : (s : List A) (i : ℕ) (d : A) → i < length s → Cycle E s →
+  pub cycle_at : (s : List A) (i : ℕ) (d : A) → i < length s → Cycle E s →
       E (get_or s i d) (get_or s ((i + 1) % length s) d)
   unfolding Cycle
-  cycle-at [] i d h c = absurd (not-suc-le-zero h)
-  cycle-at (a ∷ s) i d h c =
+  cycle_at [] i d h c = absurd (not-suc-le-zero h)
+  cycle_at (a ∷ s) i d h c =
       subst (λ (x : A). E x (get_or (a ∷ s) ((i + 1) % suc (length s)) d))
       (get_or-append (a ∷ s) (a ∷ []) d i h)
       (subst (E (get_or (a ∷ s ++ a ∷ []) i d)) after
-      (chain-at (a ∷ s ++ a ∷ []) i d (omega (arith, length-append s (a ∷ []))) c))
+      (chain_at (a ∷ s ++ a ∷ []) i d (omega (arith, length-append s (a ∷ []))) c))
     where
       after : get_or (a ∷ s ++ a ∷ []) (suc i) d ≡ get_or (a ∷ s) ((i + 1) % suc (length s)) d
       after =
@@ -81,7 +81,7 @@ module _ {A : Type 0} (E : A → A → Type 0) where
           ap (λ (j : ℕ). get_or (s ++ a ∷ []) j d) e ∙ get_or-append_seam s a [] d
           ∙ ap (λ (j : ℕ). get_or (a ∷ s) j d)
           (sym (ap (λ (j : ℕ). j % suc (length s)) w ∙ mod_self (suc (length s)))))
-          (lt-or-ge (i + 1) (suc (length s)))
+          (lt_or_ge (i + 1) (suc (length s)))
 
   -- the other way round: what holds from each place to the next, and from the last one to x, holds along the list and
   -- on to x ..
@@ -92,11 +92,11 @@ module _ {A : Type 0} (E : A → A → Type 0) where
   chain_by x a (b ∷ s) d f last = (f 0 (omega arith), chain_by x b s d (λ i h. f (suc i) (omega arith)) last)
 
   -- .. and round it, where x is the first
-  pub cycle-by : (s : List A) (d : A) → ((i : ℕ) → i < length s → E (get_or s i d) (get_or s ((i + 1) % length s) d)) →
+  pub cycle_by : (s : List A) (d : A) → ((i : ℕ) → i < length s → E (get_or s i d) (get_or s ((i + 1) % length s) d)) →
       Cycle E s
   unfolding Cycle
-  cycle-by [] d f = tt
-  cycle-by (a ∷ s) d f =
+  cycle_by [] d f = tt
+  cycle_by (a ∷ s) d f =
       chain_by a a s d
       (λ i h.
       let next : i + 1 < suc (length s) = omega arith in

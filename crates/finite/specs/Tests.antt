@@ -14,15 +14,15 @@ true ⇒ b = b
 false ⇒ b = true
 
 -- both pass or neither does
-pub beq-eq : (a b : Bool) → T (beq a b) → a ≡ b
-beq-eq true true t = refl
-beq-eq true false t = absurd t
-beq-eq false true t = absurd t
-beq-eq false false t = refl
+pub beq_eq : (a b : Bool) → T (beq a b) → a ≡ b
+beq_eq true true t = refl
+beq_eq true false t = absurd t
+beq_eq false true t = absurd t
+beq_eq false false t = refl
 
-pub beq-refl : (a : Bool) → T (beq a a)
-beq-refl true = tt
-beq-refl false = tt
+pub beq_refl : (a : Bool) → T (beq a a)
+beq_refl true = tt
+beq_refl false = tt
 
 pub and_left : (a b : Bool) → T (a && b) → T a
 and_left true b t = tt
@@ -36,9 +36,9 @@ pub and_both : (a b : Bool) → T a → T b → T (a && b)
 and_both true b s t = t
 and_both false b s t = s
 
-pub and-true : (a : Bool) → (a && true) ≡ a
-and-true true = refl
-and-true false = refl
+pub and_true : (a : Bool) → (a && true) ≡ a
+and_true true = refl
+and_true false = refl
 
 pub and_assoc : (a b c : Bool) → (a && (b && c)) ≡ ((a && b) && c)
 and_assoc true b c = refl
@@ -56,13 +56,13 @@ pub or_right : (a b : Bool) → T b → T (a || b)
 or_right true b t = tt
 or_right false b t = t
 
-pub implies-use : (a b : Bool) → T (a ⇒ b) → T a → T b
-implies-use true b t s = t
-implies-use false b t s = absurd s
+pub implies_use : (a b : Bool) → T (a ⇒ b) → T a → T b
+implies_use true b t s = t
+implies_use false b t s = absurd s
 
-pub implies-by : (a b : Bool) → (T a → T b) → T (a ⇒ b)
-implies-by true b f = f tt
-implies-by false b f = tt
+pub implies_by : (a b : Bool) → (T a → T b) → T (a ⇒ b)
+implies_by true b f = f tt
+implies_by false b f = tt
 
 -- a test passes or its negation does
 pub decide : (a : Bool) → T a ⊎ T (not a)
@@ -77,12 +77,12 @@ pub is_false : (a : Bool) → (T a → ⊥) → a ≡ false
 is_false true f = absurd (f tt)
 is_false false f = refl
 
-pub of-true : (a : Bool) → a ≡ true → T a
-of-true a e = subst T (sym e) tt
+pub of_true : (a : Bool) → a ≡ true → T a
+of_true a e = subst T (sym e) tt
 
-pub not-not : (a : Bool) → ¬ T (not a) → T a
-not-not true n = tt
-not-not false n = n tt
+pub not_not : (a : Bool) → ¬ T (not a) → T a
+not_not true n = tt
+not_not false n = n tt
 
 -- two tests that imply each other are equal
 pub same_test : (a b : Bool) → (T a → T b) → (T b → T a) → a ≡ b
@@ -101,13 +101,13 @@ either_way false a = refl
 pub equal_by : (a b : ℕ) → a ≡ b → T (eqb a b)
 equal_by a b e = subst (λ (c : ℕ). T (eqb a c)) e (eqb_refl a)
 
-pub differ-use : (a b : ℕ) → T (not (eqb a b)) → a ≢ b
-differ-use a b t e = T_not (eqb a b) t (equal_by a b e)
+pub differ_use : (a b : ℕ) → T (not (eqb a b)) → a ≢ b
+differ_use a b t e = T_not (eqb a b) t (equal_by a b e)
 
-pub differ-by : (a b : ℕ) → a ≢ b → T (not (eqb a b))
-differ-by a b n = not_T (eqb a b) (λ t. n (eqb→eq a b t))
+pub differ_by : (a b : ℕ) → a ≢ b → T (not (eqb a b))
+differ_by a b n = not_T (eqb a b) (λ t. n (eqb→eq a b t))
 
 pub same_or_not : (a b : ℕ) → (a ≡ b) ⊎ (a ≢ b)
 same_or_not a b =
     ⊎_elim
-    (λ (t : T (eqb a b)). inl (eqb→eq a b t)) (λ (t : T (not (eqb a b))). inr (differ-use a b t)) (decide (eqb a b))
+    (λ (t : T (eqb a b)). inl (eqb→eq a b t)) (λ (t : T (not (eqb a b))). inr (differ_use a b t)) (decide (eqb a b))

@@ -15,9 +15,9 @@ use Rattle.model.specs.declared.Note.{Note}
 use Rattle.model.specs.declared.Map.{Map}
 use Rattle.model.specs.declared.Arrival.{Arrival}
 use Rattle.model.specs.Maps.{map_of}
-use Rattle.model.specs.Outline.{visible-edges}
-use Rattle.model.specs.Arrival.{left-corner, right-corner, first_kind, inside-kind, with-point, alone, pair, spliced}
-use Rattle.model.specs.Arrival.{arrived, later-point, arrive}
+use Rattle.model.specs.Outline.{visible_edges}
+use Rattle.model.specs.Arrival.{left_corner, right_corner, first_kind, inside_kind, with_point, alone, pair, spliced}
+use Rattle.model.specs.Arrival.{arrived, later_point, arrive}
 
 module _ (m : Map) (p : Point) where
   pub first : m.count ≡ 0 → arrived Arrival.First (alone first_kind m p) ≡ arrive m p
@@ -28,19 +28,19 @@ module _ (m : Map) (p : Point) where
   unfolding arrive
   second e = rw e
 
-  pub later : m.count ≢ 0 → m.count ≢ 1 → later-point m p ≡ arrive m p
+  pub later : m.count ≢ 0 → m.count ≢ 1 → later_point m p ≡ arrive m p
   unfolding arrive
   later n₀ n₁ = rw (ne_eqb m.count 0 n₀, ne_eqb m.count 1 n₁)
 
-  pub inside : visible-edges m p ≡ 0 → arrived Arrival.Inside (alone inside-kind m p) ≡ later-point m p
-  unfolding later-point
+  pub inside : visible_edges m p ≡ 0 → arrived Arrival.Inside (alone inside_kind m p) ≡ later_point m p
+  unfolding later_point
   inside e = rw e
 
-  pub outside : visible-edges m p ≢ 0 →
-      arrived (Arrival.Outside (left-corner m p) (right-corner m p) (visible-edges m p))
-      (spliced m p (left-corner m p) (right-corner m p)) ≡ later-point m p
-  unfolding later-point
-  outside n = rw (ne_eqb (visible-edges m p) 0 n)
+  pub outside : visible_edges m p ≢ 0 →
+      arrived (Arrival.Outside (left_corner m p) (right_corner m p) (visible_edges m p))
+      (spliced m p (left_corner m p) (right_corner m p)) ≡ later_point m p
+  unfolding later_point
+  outside n = rw (ne_eqb (visible_edges m p) 0 n)
 
 -- ---- the arrays after an arrival: p was put into the coordinates, what is noted of it into the notes, and the
 -- others are the definition's
@@ -53,7 +53,7 @@ pub grown : (m : Map) (p : Point) {noted noted' : Note} {xs ys : List ℤ} {help
     × (rights ≡ set m.rights m.count noted.right) →
     (helpers ≡ helpers') × (edge ≡ edge') →
     map_of xs ys helpers edge arrivals lefts rights (m.count + 1) reference
-    ≡ with-point m p noted' helpers' edge' reference
-unfolding with-point
+    ≡ with_point m p noted' helpers' edge' reference
+unfolding with_point
 grown m p reference put same noting linked =
     rw (put.0, put.1, noting.0, noting.1, noting.2, linked.0, linked.1, add-one m.count, same)

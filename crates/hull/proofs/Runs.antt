@@ -1,8 +1,8 @@
 -- Points offered one after another by document 01's offers, in the order of this page: what offers make of a run, as
--- the record `After`; from the empty map all offers are accepted just where no rule applies (`all-accepted`), the map
--- is then the one that the points build (`built-is-run`), and the first refusal met is that of the first rule that
--- applies (`first-refusal-met`). So the sound maps are just those that some list of offers gives
--- (`sound-reachable`).
+-- the record `After`; from the empty map all offers are accepted just where no rule applies (`all_accepted`), the map
+-- is then the one that the points build (`built_is_run`), and the first refusal met is that of the first rule that
+-- applies (`first_refusal_met`). So the sound maps are just those that some list of offers gives
+-- (`sound_reachable`).
 use mathlib.Core.Path.{◌≡◌, refl, sym, subst, ◌∙◌}
 use mathlib.Core.Logic.{◌↔◌}
 use mathlib.Core.List.{List, [], ◌∷◌, ◌++◌}
@@ -16,20 +16,20 @@ use Rattle.model.specs.declared.Point.{Point}
 use Rattle.model.specs.declared.Map.{Map}
 use Rattle.model.specs.declared.Arrival.{Arrival}
 use Rattle.model.specs.Refusals.{Refuses, NoneApplies, none, nor}
-use Rattle.model.specs.Maps.{empty-map, map-points}
-use Rattle.model.specs.Arrival.{arrive, admission-rules}
-use Rattle.model.specs.Building.{building-rules, built}
+use Rattle.model.specs.Maps.{empty_map, map_points}
+use Rattle.model.specs.Arrival.{arrive, admission_rules}
+use Rattle.model.specs.Building.{building_rules, built}
 use Rattle.model.specs.Sound.{sound}
 use Rattle.model.specs.Offers.{offer}
-use Rattle.model.specs.History.{Run, run-from, run}
-use Rattle.model.proofs.Answers.{refuses-some, none-append, none_both, refuses-front, refuses-later}
-use Rattle.model.proofs.Sound.{sound-is}
+use Rattle.model.specs.History.{Run, run_from, run}
+use Rattle.model.proofs.Answers.{refuses_some, none_append, none_both, refuses_front, refuses_later}
+use Rattle.model.proofs.Sound.{sound_is}
 use Rattle.sight.specs.Requires.{Accepted}
-use Rattle.hull.proofs.Outcomes.{none-applies}
-use Rattle.hull.proofs.Building.{building-append}
-use Rattle.hull.proofs.Sound.{sound-grows, empty-is-sound}
-use Rattle.hull.proofs.Offers.{sound-passes, refused-sound}
-use Rattle.hull.proofs.History.{with-entry, offer-either, run_sound}
+use Rattle.hull.proofs.Outcomes.{none_applies}
+use Rattle.hull.proofs.Building.{building_append}
+use Rattle.hull.proofs.Sound.{sound_grows, empty_is_sound}
+use Rattle.hull.proofs.Offers.{sound_passes, refused_sound}
+use Rattle.hull.proofs.History.{with_entry, offer_either, run_sound}
 
 -- ---- what offers make of a run
 
@@ -37,77 +37,77 @@ use Rattle.hull.proofs.History.{with-entry, offer-either, run_sound}
 -- one for each just where no rule applies; then its map is the one that they build.
 record After (r : Run) (ps : List Point) (end : Run) : Type 0 where
   at_most : length end.history ≤ length r.history + length ps
-  all-taken : (length end.history ≡ length r.history + length ps) ↔ NoneApplies (building-rules r.map ps)
-  is-built : NoneApplies (building-rules r.map ps) → built r.map ps ≡ end.map
+  all_taken : (length end.history ≡ length r.history + length ps) ↔ NoneApplies (building_rules r.map ps)
+  is_built : NoneApplies (building_rules r.map ps) → built r.map ps ≡ end.map
 
 -- the first point is accepted, or refused, and then come the others ..
 module _ {r : Run} {p : Point} {ps : List Point} {end : Run} where
-  after-accepted : Accepted r.map p → After (with-entry r p (arrive r.map p)) ps end → After r (p ∷ ps) end
-  unfolding building-rules built
-  after-accepted a after =
-      let rules = admission-rules r.map p in
-      let next = with-entry r p (arrive r.map p) in
+  after_accepted : Accepted r.map p → After (with_entry r p (arrive r.map p)) ps end → After r (p ∷ ps) end
+  unfolding building_rules built
+  after_accepted a after =
+      let rules = admission_rules r.map p in
+      let next = with_entry r p (arrive r.map p) in
       let one_more : length next.history ≡ length r.history + 1 = simp length-append in
       record {
         at_most = omega arith;
-        all-taken = (
-          λ e. none-append (none-applies p a) (after.all-taken.0 (omega arith)),
-          λ free. omega (arith, after.all-taken.1 (none_both rules free).1),
+        all_taken = (
+          λ e. none_append (none_applies p a) (after.all_taken.0 (omega arith)),
+          λ free. omega (arith, after.all_taken.1 (none_both rules free).1),
         );
-        is-built = λ free. after.is-built (none_both rules free).1;
+        is_built = λ free. after.is_built (none_both rules free).1;
       }
 
-  after-refused : ¬ NoneApplies (admission-rules r.map p) → After r ps end → After r (p ∷ ps) end
-  unfolding building-rules
-  after-refused n after =
-      let some : ¬ NoneApplies (building-rules r.map (p ∷ ps)) = λ free. n (none_both _ free).0 in
+  after_refused : ¬ NoneApplies (admission_rules r.map p) → After r ps end → After r (p ∷ ps) end
+  unfolding building_rules
+  after_refused n after =
+      let some : ¬ NoneApplies (building_rules r.map (p ∷ ps)) = λ free. n (none_both _ free).0 in
       record {
         at_most = omega arith;
-        all-taken = (λ e. absurd (omega arith), λ free. absurd (some free));
-        is-built = λ free. absurd (some free);
+        all_taken = (λ e. absurd (omega arith), λ free. absurd (some free));
+        is_built = λ free. absurd (some free);
       }
 
 -- .. so it holds of every list of offers
-after-offers : (r : Run) → T (sound r.map) → (ps : List Point) → After r ps (run-from r ps)
-unfolding run-from building-rules built
-after-offers r s [] =
-    record { at_most = omega arith; all-taken = (λ e. none, λ free. omega arith); is-built = λ free. refl }
-after-offers r s (p ∷ ps) =
-    offer-either (λ (next : Run). After r (p ∷ ps) (run-from next ps)) r p
-    (λ t a. after-accepted a (after-offers (with-entry r p (arrive r.map p)) (sound-grows t a) ps))
-    (λ refusal f. after-refused (λ free. refuses-some f (nor (sound-passes r.map s) free)) (after-offers r s ps))
+after_offers : (r : Run) → T (sound r.map) → (ps : List Point) → After r ps (run_from r ps)
+unfolding run_from building_rules built
+after_offers r s [] =
+    record { at_most = omega arith; all_taken = (λ e. none, λ free. omega arith); is_built = λ free. refl }
+after_offers r s (p ∷ ps) =
+    offer_either (λ (next : Run). After r (p ∷ ps) (run_from next ps)) r p
+    (λ t a. after_accepted a (after_offers (with_entry r p (arrive r.map p)) (sound_grows t a) ps))
+    (λ refusal f. after_refused (λ free. refuses_some f (nor (sound_passes r.map s) free)) (after_offers r s ps))
 
 -- ---- from the empty map
 
-after_run : (ps : List Point) → After (record { map = empty-map; history = [] }) ps (run ps)
+after_run : (ps : List Point) → After (record { map = empty_map; history = [] }) ps (run ps)
 unfolding run
-after_run = after-offers (record { map = empty-map; history = [] }) empty-is-sound
+after_run = after_offers (record { map = empty_map; history = [] }) empty_is_sound
 
 -- all offers are accepted just where no rule applies ..
-pub all-accepted : (ps : List Point) → (length (run ps).history ≡ length ps) ↔ NoneApplies (building-rules empty-map ps)
-all-accepted ps = rw zero-add at (after_run ps).all-taken
+pub all_accepted : (ps : List Point) → (length (run ps).history ≡ length ps) ↔ NoneApplies (building_rules empty_map ps)
+all_accepted ps = rw zero-add at (after_run ps).all_taken
 
 -- .. and the map is then the one that the points build
-pub built-is-run : (ps : List Point) → NoneApplies (building-rules empty-map ps) → built empty-map ps ≡ (run ps).map
-built-is-run ps = (after_run ps).is-built
+pub built_is_run : (ps : List Point) → NoneApplies (building_rules empty_map ps) → built empty_map ps ≡ (run ps).map
+built_is_run ps = (after_run ps).is_built
 
 -- where the offers of qs are all accepted and the next one is refused with r, r is the first refusal met, whatever
 -- follows
-pub first-refusal-met : (qs : List Point) (p : Point) (rest : List Point) (r : Refusal) →
+pub first_refusal_met : (qs : List Point) (p : Point) (rest : List Point) (r : Refusal) →
     length (run qs).history ≡ length qs → (offer (run qs).map p).arrival ≡ Arrival.Refused r →
-    Refuses r (building-rules empty-map (qs ++ p ∷ rest))
-unfolding building-rules
-first-refusal-met qs p rest r all refusal =
-    let free = (all-accepted qs).0 all in
-    rw (building-append empty-map qs (p ∷ rest), built-is-run qs free)
-    (refuses-later free (refuses-front (refused-sound (run qs).map (run_sound qs) p r refusal) _))
+    Refuses r (building_rules empty_map (qs ++ p ∷ rest))
+unfolding building_rules
+first_refusal_met qs p rest r all refusal =
+    let free = (all_accepted qs).0 all in
+    rw (building_append empty_map qs (p ∷ rest), built_is_run qs free)
+    (refuses_later free (refuses_front (refused_sound (run qs).map (run_sound qs) p r refusal) _))
 
 -- ---- sound maps are those that offers lead to
 
-pub sound-reachable : (m : Map) → T (sound m) ↔ ((ps : List Point) × ((run ps).map ≡ m))
-sound-reachable m = (
+pub sound_reachable : (m : Map) → T (sound m) ↔ ((ps : List Point) × ((run ps).map ≡ m))
+sound_reachable m = (
   λ t.
-      let s = sound-is m t in
-      (map-points m, sym (built-is-run (map-points m) s.free) ∙ sym s.is-built),
+      let s = sound_is m t in
+      (map_points m, sym (built_is_run (map_points m) s.free) ∙ sym s.is_built),
   λ w. subst (λ (n : Map). T (sound n)) w.1 (run_sound w.0),
 )

@@ -1,9 +1,9 @@
 // The arrival of a point in a map: why an offered point is refused, or how it arrives.
 
 ghost use Rattle.std.specs.Prelude.{◌≡◌, ◌+◌, ◌≤◌};
-ghost use Rattle.model.specs.Maps.{map-lent};
+ghost use Rattle.model.specs.Maps.{map_lent};
 ghost use Rattle.model.specs.Shape.{Shaped};
-ghost use Rattle.model.specs.Arrival.{admitted, arrive, arrived, later-point, refusing};
+ghost use Rattle.model.specs.Arrival.{admitted, arrive, arrived, later_point, refusing};
 ghost use Rattle.sight.specs.Requires.{Accepted};
 
 use admission::admission;
@@ -106,12 +106,12 @@ pub fn grow(
     reference: usize,
     p: Point,
 ) -> Growth
-    requires { Accepted (map-lent xs ys helpers edge arrivals lefts rights count reference) p }
+    requires { Accepted (map_lent xs ys helpers edge arrivals lefts rights count reference) p }
     ensures { arrived result.arrival
-        (map-lent xs.exit ys.exit helpers.exit edge.exit arrivals.exit lefts.exit rights.exit
+        (map_lent xs.exit ys.exit helpers.exit edge.exit arrivals.exit lefts.exit rights.exit
         (count + 1) result.reference)
         ≡ arrive
-        (map-lent xs.entry ys.entry helpers.entry edge.entry arrivals.entry lefts.entry
+        (map_lent xs.entry ys.entry helpers.entry edge.entry arrivals.entry lefts.entry
         rights.entry count reference) p }
 {
     if count == 0 {
@@ -149,13 +149,13 @@ fn grow_later(
     reference: usize,
     p: Point,
 ) -> Growth
-    requires accepted { Accepted (map-lent xs ys helpers edge arrivals lefts rights count reference) p }
+    requires accepted { Accepted (map_lent xs ys helpers edge arrivals lefts rights count reference) p }
     requires le_count { 2 ≤ count }
     ensures { arrived result.arrival
-        (map-lent xs.exit ys.exit helpers.exit edge.exit arrivals.exit lefts.exit rights.exit
+        (map_lent xs.exit ys.exit helpers.exit edge.exit arrivals.exit lefts.exit rights.exit
         (count + 1) result.reference)
-        ≡ later-point
-        (map-lent xs.entry ys.entry helpers.entry edge.entry arrivals.entry lefts.entry
+        ≡ later_point
+        (map_lent xs.entry ys.entry helpers.entry edge.entry arrivals.entry lefts.entry
         rights.entry count reference) p }
 {
     let seen = seen_from(xs, ys, edge, count, reference, p);

@@ -16,17 +16,17 @@ use lib.Signed.{lt_z}
 use lib.Arith.{digits_lt, digits_div, digits_mod, mod-mul}
 use lib.ListN.{length, get_or, take, drop, get_or-append, length-drop}
 use lib.Seq.{get_or-append-add, get_or-take, get_or-drop, length-take-le, ext_get_or}
-use Rattle.integers.specs.Order.{≡-splits, splits-≡, +ℤ-splits, -ℤ-splits, natAbs-splits}
-use Rattle.integers.specs.Order.{ltZ-true-splits}
+use Rattle.integers.specs.Order.{≡_splits, splits_≡, +ℤ_splits, -ℤ_splits, nat_abs_splits}
+use Rattle.integers.specs.Order.{lt_z_true_splits}
 use Rattle.integers.specs.Range.{Bounded}
-use Rattle.finite.specs.Bounded.{lt-or-ge}
-use Rattle.model.specs.Plane.{coordinate-limit}
+use Rattle.finite.specs.Bounded.{lt_or_ge}
+use Rattle.model.specs.Plane.{coordinate_limit}
 use Rattle.model.specs.Saved.{Bytes, big_endian, number_at, complement, signed}
 
-pub length-big-endian : (w v : ℕ) → length (big_endian w v) ≡ w
+pub length_big_endian : (w v : ℕ) → length (big_endian w v) ≡ w
 unfolding big_endian
-length-big-endian zero v = refl
-length-big-endian (suc w) v = ap suc (length-big-endian w v)
+length_big_endian zero v = refl
+length_big_endian (suc w) v = ap suc (length_big_endian w v)
 
 -- byte i of a number in i + 1 + d bytes
 byte_at : (i d v : ℕ) → get_or (big_endian (i + suc d) v) i 0 ≡ v / 256 ^ d % 256
@@ -35,11 +35,11 @@ byte_at zero d v = rw zero-add
 byte_at (suc i) d v = rw suc-add (byte_at i d v)
 
 -- the first i bytes of a number in i + d bytes
-first-bytes : (i d v : ℕ) → number_at (big_endian (i + d) v) 0 i ≡ v / 256 ^ d % 256 ^ i
+first_bytes : (i d v : ℕ) → number_at (big_endian (i + d) v) 0 i ≡ v / 256 ^ d % 256 ^ i
 unfolding number_at
-first-bytes zero d v = sym (mod-one (v / 256 ^ d))
-first-bytes (suc i) d v =
-    ap₂ (λ (a b : ℕ). a * 256 + b) (higher (first-bytes i (suc d) v)) lowest
+first_bytes zero d v = sym (mod-one (v / 256 ^ d))
+first_bytes (suc i) d v =
+    ap₂ (λ (a b : ℕ). a * 256 + b) (higher (first_bytes i (suc d) v)) lowest
     ∙ sym
     (mod-mul (v / 256 ^ d) {m = 256 ^ i} {c = 256} (one-le-pow i 256 (omega arith)) (omega arith))
     ∙ ap (λ (p : ℕ). v / 256 ^ d % p) (sym (pow-suc 256 i))
@@ -64,19 +64,19 @@ number_past p s at (suc w) =
     ap₂ (λ (a b : ℕ). a * 256 + b) (number_past p s at w)
     (rw add_assoc (get_or-append-add p s (at + w) 0))
 
-pub number-before : (s t : List ℕ) (at w : ℕ) → at + w ≤ length s →
+pub number_before : (s t : List ℕ) (at w : ℕ) → at + w ≤ length s →
     number_at (s ++ t) at w ≡ number_at s at w
 unfolding number_at
-number-before s t at zero h = refl
-number-before s t at (suc w) h =
-    ap₂ (λ (a b : ℕ). a * 256 + b) (number-before s t at w (omega arith))
+number_before s t at zero h = refl
+number_before s t at (suc w) h =
+    ap₂ (λ (a b : ℕ). a * 256 + b) (number_before s t at w (omega arith))
     (get_or-append s t 0 (at + w) (omega arith))
 
 -- ---- written and read back
 
-pub number-back : (w v : ℕ) → v < 256 ^ w → number_at (big_endian w v) 0 w ≡ v
-number-back w v h =
-    ap (λ (k : ℕ). number_at (big_endian k v) 0 w) (sym (add-zero w)) ∙ first-bytes w 0 v
+pub number_back : (w v : ℕ) → v < 256 ^ w → number_at (big_endian w v) 0 w ≡ v
+number_back w v h =
+    ap (λ (k : ℕ). number_at (big_endian k v) 0 w) (sym (add-zero w)) ∙ first_bytes w 0 v
     ∙ ap (λ (n : ℕ). n % 256 ^ w) (div-one v) ∙ mod-eq_of_lt h
 
 -- ---- read and written back
@@ -88,26 +88,26 @@ module _ {s : List ℕ} (b : Bytes s) where
   number_small at (suc w) = rw pow-suc (digits_lt (number_small at w) (b.small (at + w)))
 
   -- without its last d bytes
-  number-high : (at w d : ℕ) → number_at s at (w + d) / 256 ^ d ≡ number_at s at w
+  number_high : (at w d : ℕ) → number_at s at (w + d) / 256 ^ d ≡ number_at s at w
   unfolding number_at
-  number-high at w zero = rw add-zero (div-one (number_at s at w))
-  number-high at w (suc d) =
+  number_high at w zero = rw add-zero (div-one (number_at s at w))
+  number_high at w (suc d) =
       rw (
         add-suc,
         pow-succ',
         ← div-div-eq-div-mul,
         digits_div (number_at s at (w + d)) (b.small (at + (w + d))),
       )
-      (number-high at w d)
+      (number_high at w d)
 
   pub bytes_back : (at w : ℕ) → at + w ≤ length s →
       big_endian w (number_at s at w) ≡ take w (drop at s)
   unfolding number_at
   bytes_back at w h =
       ext_get_or 0 (big_endian w (number_at s at w)) (take w (drop at s))
-      (length-big-endian w (number_at s at w)
+      (length_big_endian w (number_at s at w)
       ∙ sym (length-take-le w (drop at s) (omega (arith, length-drop at s))))
-      (λ i l. each i (w - suc i) (omega (arith, length-big-endian w (number_at s at w))))
+      (λ i l. each i (w - suc i) (omega (arith, length_big_endian w (number_at s at w))))
     where
       each : (i d : ℕ) → w ≡ i + suc d →
           get_or (big_endian w (number_at s at w)) i 0 ≡ get_or (take w (drop at s)) i 0
@@ -116,43 +116,43 @@ module _ {s : List ℕ} (b : Bytes s) where
           ∙ byte_at i d (number_at s at (i + suc d))
           ∙ ap (λ (n : ℕ). n % 256)
           (ap (λ (k : ℕ). number_at s at k / 256 ^ d) (add-suc i d ∙ sym (suc-add i d))
-          ∙ number-high at (suc i) d)
+          ∙ number_high at (suc i) d)
           ∙ digits_mod (number_at s at i) (b.small (at + i))
           ∙ sym (get_or-take w (drop at s) i 0 (omega arith) ∙ get_or-drop at s i 0)
 
 -- ---- two's complement
 
-pub complement-small : (z : ℤ) → nat_abs z ≤ 2 ^ 31 → complement z < 256 ^ 4
+pub complement_small : (z : ℤ) → nat_abs z ≤ 2 ^ 31 → complement z < 256 ^ 4
 unfolding complement
-complement-small (pos n) h = omega arith
-complement-small (negsuc n) h = omega arith
+complement_small (pos n) h = omega arith
+complement_small (negsuc n) h = omega arith
 
-pub signed-complement : (z : ℤ) → nat_abs z < 2 ^ 31 → signed (complement z) ≡ z
+pub signed_complement : (z : ℤ) → nat_abs z < 2 ^ 31 → signed (complement z) ≡ z
 unfolding complement signed
-signed-complement (pos n) h = rw (lt-ltb n (2 ^ 31) h)
-signed-complement (negsuc n) h =
+signed_complement (pos n) h = rw (lt-ltb n (2 ^ 31) h)
+signed_complement (negsuc n) h =
     let e : 2 ^ 32 - suc (2 ^ 32 - suc n) ≡ n = omega arith in
     rw (le-ltb (2 ^ 32 - suc n) (2 ^ 31) (omega arith), e)
 
-pub complement-signed : (v : ℕ) → v < 256 ^ 4 → complement (signed v) ≡ v
+pub complement_signed : (v : ℕ) → v < 256 ^ 4 → complement (signed v) ≡ v
 unfolding complement signed
-complement-signed v h = ⊎_elim
+complement_signed v h = ⊎_elim
     (λ (l : v < 2 ^ 31). rw (lt-ltb v (2 ^ 31) l))
     (λ (l : 2 ^ 31 ≤ v). rw (le-ltb v (2 ^ 31) l) (omega arith))
-    (lt-or-ge v (2 ^ 31))
+    (lt_or_ge v (2 ^ 31))
 
 -- by the sign, as the code goes
-pub complement-negative : (z : ℤ) (v : ℕ) → lt_z z (pos 0) ≡ true → Bounded coordinate-limit z →
+pub complement_negative : (z : ℤ) (v : ℕ) → lt_z z (pos 0) ≡ true → Bounded coordinate_limit z →
     pos v ≡ z +ℤ pos (2 ^ 32) → v ≡ complement z
 unfolding complement
-complement-negative (pos n) v t h e = absurd (omega (arith, ltZ-true-splits (pos n) (pos 0) t))
-complement-negative (negsuc n) v t h e =
-    let b = h.bound in omega (arith, ≡-splits e, +ℤ-splits (negsuc n) (pos (2 ^ 32)))
+complement_negative (pos n) v t h e = absurd (omega (arith, lt_z_true_splits (pos n) (pos 0) t))
+complement_negative (negsuc n) v t h e =
+    let b = h.bound in omega (arith, ≡_splits e, +ℤ_splits (negsuc n) (pos (2 ^ 32)))
 
-pub complement-not-negative : (z : ℤ) (v : ℕ) → lt_z z (pos 0) ≡ false → pos v ≡ z → v ≡ complement z
+pub complement_not_negative : (z : ℤ) (v : ℕ) → lt_z z (pos 0) ≡ false → pos v ≡ z → v ≡ complement z
 unfolding complement
-complement-not-negative (pos n) v t e = omega (arith, ≡-splits e)
-complement-not-negative (negsuc n) v t e = absurd (omega (arith, ≡-splits e))
+complement_not_negative (pos n) v t e = omega (arith, ≡_splits e)
+complement_not_negative (negsuc n) v t e = absurd (omega (arith, ≡_splits e))
 
 pub signed_low : (v : ℕ) → v < 2 ^ 31 → signed v ≡ pos v
 unfolding signed
@@ -162,8 +162,8 @@ pub signed_high : (v : ℕ) → 2 ^ 31 ≤ v → v < 256 ^ 4 → signed v ≡ po
 unfolding signed
 signed_high v h l =
     rw (le-ltb v (2 ^ 31) h)
-    (splits-≡ (omega (
+    (splits_≡ (omega (
       arith,
-      -ℤ-splits (pos v) (pos (2 ^ 32)),
-      natAbs-splits (pos v -ℤ pos (2 ^ 32)),
+      -ℤ_splits (pos v) (pos (2 ^ 32)),
+      nat_abs_splits (pos v -ℤ pos (2 ^ 32)),
     )))

@@ -3,9 +3,9 @@
 
 ghost use Rattle.std.specs.Prelude.{◌≡◌, ◌+◌, ◌*◌, ◌≤◌, ◌<◌, leb, length};
 ghost use Rattle.finite.specs.Bounded.{all};
-ghost use Rattle.model.specs.Maps.{point-limit};
-ghost use Rattle.model.specs.Saved.{file-in-form, file-in-form-of, number_at};
-ghost use Rattle.model.specs.Saved.{helpers-place, links-place, notes-place, saved-length};
+ghost use Rattle.model.specs.Maps.{point_limit};
+ghost use Rattle.model.specs.Saved.{file_in_form, file_in_form_of, number_at};
+ghost use Rattle.model.specs.Saved.{helpers_place, links_place, notes_place, saved_length};
 
 use model::POINT_LIMIT;
 
@@ -28,8 +28,8 @@ pub const HEADER_LENGTH: usize = 9;
 
 // How many bytes the file in a version of a map of so many points has.
 pub fn saved_length(version: usize, count: usize) -> usize
-    requires { count ≤ point-limit }
-    ensures { result ≡ saved-length version count }
+    requires { count ≤ point_limit }
+    ensures { result ≡ saved_length version count }
 {
     if version == OLD_VERSION {
         return notes_place(count);
@@ -39,31 +39,31 @@ pub fn saved_length(version: usize, count: usize) -> usize
 
 // Where the helper bytes begin in the file of a map of so many points.
 pub fn helpers_place(count: usize) -> usize
-    requires { count ≤ point-limit }
-    ensures { result ≡ helpers-place count }
+    requires { count ≤ point_limit }
+    ensures { result ≡ helpers_place count }
 {
     HEADER_LENGTH + 8 * count
 }
 
 // Where the edge links begin.
 pub fn links_place(count: usize) -> usize
-    requires { count ≤ point-limit }
-    ensures { result ≡ links-place count }
+    requires { count ≤ point_limit }
+    ensures { result ≡ links_place count }
 {
     HEADER_LENGTH + 9 * count
 }
 
 // Where the edge links end, and what is noted of the points begins.
 pub fn notes_place(count: usize) -> usize
-    requires { count ≤ point-limit }
-    ensures { result ≡ notes-place count }
+    requires { count ≤ point_limit }
+    ensures { result ≡ notes_place count }
 {
     HEADER_LENGTH + 13 * count
 }
 
 // Whether a file is in form, whatever its bytes and however many.
 pub fn is_in_form(file: &[u8]) -> bool
-    ensures { result ≡ file-in-form file.now }
+    ensures { result ≡ file_in_form file.now }
 {
     if is_in_form_of(file, OLD_VERSION) {
         return true;
@@ -73,7 +73,7 @@ pub fn is_in_form(file: &[u8]) -> bool
 
 // Whether a file is in the form of a version.
 fn is_in_form_of(file: &[u8], version: usize) -> bool
-    ensures { result ≡ file-in-form-of version file.now }
+    ensures { result ≡ file_in_form_of version file.now }
 {
     if file.len() < HEADER_LENGTH {
         return false;

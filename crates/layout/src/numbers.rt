@@ -2,7 +2,7 @@
 
 ghost use Rattle.std.specs.Prelude.{◌≡◌, ◌+◌, ◌^◌, ◌≤◌, ◌<◌, length};
 ghost use Rattle.integers.specs.Range.{Bounded};
-ghost use Rattle.model.specs.Plane.{coordinate-limit};
+ghost use Rattle.model.specs.Plane.{coordinate_limit};
 ghost use Rattle.model.specs.Saved.{big_endian, complement, number_at, signed};
 ghost use Rattle.finite.specs.Overwriting.{over};
 
@@ -40,7 +40,7 @@ pub fn number_at(file: &[u8], at: usize, width: usize) -> usize
 
 // A coordinate in two's complement.
 pub fn complement(z: i64) -> usize
-    requires { Bounded coordinate-limit z }
+    requires { Bounded coordinate_limit z }
     ensures { result ≡ complement z }
 {
     if z < 0 {

@@ -7,75 +7,75 @@ use mathlib.Core.List.{List, ◌++◌}
 use Prim.Native.Nat.{ℕ, suc, ◌+◌, ◌-◌, ◌*◌, ◌≤◌, ◌<◌}
 use native.Mathlib.Omega.{arith}
 use lib.ListN.{length, length-append}
-use Rattle.model.specs.Maps.{point-limit}
-use Rattle.model.specs.Report.{text-limit}
+use Rattle.model.specs.Maps.{point_limit}
+use Rattle.model.specs.Report.{text_limit}
 use Rattle.printing.specs.Writing.{Room, PutAt}
-use Rattle.printing.proofs.Overwriting.{wrote_none, wrote_as, wrote_then, wrote-length}
+use Rattle.printing.proofs.Overwriting.{wrote_none, wrote_as, wrote_then, wrote_length}
 use Rattle.lines.specs.declared.positions.Ends.{Ends}
-use Rattle.lines.specs.Lines.{report-line, lines_from, line-count}
+use Rattle.lines.specs.Lines.{report_line, lines_from, line_count}
 use Rattle.lines.specs.Printing.{Printable, PutLines}
-use Rattle.lines.proofs.ReportLines.{line-most, lines_none, lines_more, lines-most}
+use Rattle.lines.proofs.ReportLines.{line_most, lines_none, lines_more, lines_most}
 
 -- ---- the loop that adds up their lengths
 
 -- no report has more lines than this
-pub count_most : (ends : Ends) → Printable ends → line-count ends ≤ text-limit + 3
-unfolding line-count
+pub count_most : (ends : Ends) → Printable ends → line_count ends ≤ text_limit + 3
+unfolding line_count
 count_most ends p = go ends.long
   where
-    go : (b : Bool) → cond b 2 (ends.lines + 3) ≤ text-limit + 3
+    go : (b : Bool) → cond b 2 (ends.lines + 3) ≤ text_limit + 3
     go true = omega arith
     go false = omega (arith, p.lines_fit)
 
 pub record Totalled (answers corners : List ℕ) (ends : Ends) (total j : ℕ) : Type 0 where
-  pub is-length : total ≡ length (lines_from answers corners ends 0 j)
-  pub in_order : j ≤ line-count ends
+  pub is_length : total ≡ length (lines_from answers corners ends 0 j)
+  pub in_order : j ≤ line_count ends
 
 module _ (answers corners : List ℕ) (ends : Ends) where
-  pub none-totalled : Totalled answers corners ends 0 0
-  none-totalled =
+  pub none_totalled : Totalled answers corners ends 0 0
+  none_totalled =
       record {
-        is-length = sym (ap length (lines_none answers corners ends 0));
+        is_length = sym (ap length (lines_none answers corners ends 0));
         in_order =
             omega arith;
       }
 
-  module _ {total j : ℕ} (t : Totalled answers corners ends total j) (h : j < line-count ends)
-      (r : ℕ) (e : r ≡ length (report-line answers corners ends j)) where
-    pub one-totalled : Totalled answers corners ends (total + r) (j + 1)
-    one-totalled =
+  module _ {total j : ℕ} (t : Totalled answers corners ends total j) (h : j < line_count ends)
+      (r : ℕ) (e : r ≡ length (report_line answers corners ends j)) where
+    pub one_totalled : Totalled answers corners ends (total + r) (j + 1)
+    one_totalled =
         let i : 0 + j ≡ j = omega arith in
         let s : j + 1 ≡ suc j = omega arith in
         record {
-          is-length =
+          is_length =
               omega (
                 arith,
                 ap (λ (k : ℕ). length (lines_from answers corners ends 0 k)) s,
                 ap length (lines_more answers corners ends 0 j),
                 length-append (lines_from answers corners ends 0 j)
-                    (report-line answers corners ends (0 + j)),
-                ap (λ (k : ℕ). length (report-line answers corners ends k)) i,
-                t.is-length,
+                    (report_line answers corners ends (0 + j)),
+                ap (λ (k : ℕ). length (report_line answers corners ends k)) i,
+                t.is_length,
               );
           in_order = omega arith;
         }
 
-    pub total-most : length corners ≤ point-limit → Printable ends →
-        total + r ≤ line-most * (text-limit + 3)
-    total-most few p =
+    pub total_most : length corners ≤ point_limit → Printable ends →
+        total + r ≤ line_most * (text_limit + 3)
+    total_most few p =
         omega (
           arith,
-          one-totalled.is-length,
-          lines-most answers corners ends few (j + 1),
+          one_totalled.is_length,
+          lines_most answers corners ends few (j + 1),
           count_most ends p,
         )
 
-pub totalled-all : {answers corners : List ℕ} {ends : Ends} {total j count : ℕ} →
-    Totalled answers corners ends total j → count ≡ line-count ends → count ≤ j →
-    total ≡ length (lines_from answers corners ends 0 (line-count ends))
-totalled-all {answers} {corners} {ends} {j = j} t c h =
-    let e : j ≡ line-count ends = omega (arith, t.in_order) in
-    t.is-length ∙ ap (λ (k : ℕ). length (lines_from answers corners ends 0 k)) e
+pub totalled_all : {answers corners : List ℕ} {ends : Ends} {total j count : ℕ} →
+    Totalled answers corners ends total j → count ≡ line_count ends → count ≤ j →
+    total ≡ length (lines_from answers corners ends 0 (line_count ends))
+totalled_all {answers} {corners} {ends} {j = j} t c h =
+    let e : j ≡ line_count ends = omega (arith, t.in_order) in
+    t.is_length ∙ ap (λ (k : ℕ). length (lines_from answers corners ends 0 k)) e
 
 -- ---- the loop that writes them
 
@@ -85,11 +85,11 @@ pub record Putting (answers corners : List ℕ) (ends : Ends) (from : ℕ) (lent
   pub further : from ≤ next
   pub inside : end ≤ length lent
   pub long : length now ≡ length lent
-  pub whole : from ≤ line-count ends → next ≤ line-count ends
+  pub whole : from ≤ line_count ends → next ≤ line_count ends
 
 module _ (answers corners : List ℕ) (ends : Ends) (from : ℕ) (lent : List ℕ) where
-  pub none-put : Putting answers corners ends from lent lent from 0
-  none-put =
+  pub none_put : Putting answers corners ends from lent lent from 0
+  none_put =
       let e : from - from ≡ 0 = omega arith in
       record {
         wrote =
@@ -104,7 +104,7 @@ module _ (answers corners : List ℕ) (ends : Ends) (from : ℕ) (lent : List �
 
   module _ {now : List ℕ} {next end : ℕ}
       (p : Putting answers corners ends from lent now next end) where
-    module _ (r : ℕ) (e : r ≡ length (report-line answers corners ends next)) where
+    module _ (r : ℕ) (e : r ≡ length (report_line answers corners ends next)) where
       -- the line does not fit
       pub put_full : length now - end < r →
           PutLines answers corners ends from lent now (record { next = next; length = end })
@@ -118,51 +118,51 @@ module _ (answers corners : List ℕ) (ends : Ends) (from : ℕ) (lent : List �
           }
 
       module _ (fits : r ≤ length now - end) where
-        pub put-room : Room now end (report-line answers corners ends next)
-        put-room = record { room = omega (arith, p.long, p.inside) }
+        pub put_room : Room now end (report_line answers corners ends next)
+        put_room = record { room = omega (arith, p.long, p.inside) }
 
         one_more : lines_from answers corners ends from (next + 1 - from)
             ≡ lines_from answers corners ends from (next - from)
-            ++ report-line answers corners ends next
+            ++ report_line answers corners ends next
         one_more =
             let s : next + 1 - from ≡ suc (next - from) = omega (arith, p.further) in
             let i : from + (next - from) ≡ next = omega (arith, p.further) in
             ap (lines_from answers corners ends from) s
             ∙ lines_more answers corners ends from (next - from)
             ∙ ap (λ (k : ℕ). lines_from answers corners ends from (next - from)
-            ++ report-line answers corners ends k) i
+            ++ report_line answers corners ends k) i
 
-        room-both : Room lent 0
+        room_both : Room lent 0
             (lines_from answers corners ends from (next - from)
-            ++ report-line answers corners ends next)
-        room-both =
+            ++ report_line answers corners ends next)
+        room_both =
             record {
               room =
                   omega (
                     arith,
                     length-append (lines_from answers corners ends from (next - from))
-                        (report-line answers corners ends next),
+                        (report_line answers corners ends next),
                     p.wrote.ends,
                     p.long,
                     p.inside,
                   );
             }
 
-        pub put_next : {after : List ℕ} {end' : ℕ} → next < line-count ends →
-            PutAt now end (report-line answers corners ends next) after end' →
+        pub put_next : {after : List ℕ} {end' : ℕ} → next < line_count ends →
+            PutAt now end (report_line answers corners ends next) after end' →
             Putting answers corners ends from lent after (next + 1) end'
         put_next h w =
-            let both = wrote_then p.wrote room-both w in
+            let both = wrote_then p.wrote room_both w in
             record {
               wrote = wrote_as one_more both;
               further = omega (arith, p.further);
-              inside = omega (arith, both.ends, room-both.room);
-              long = wrote-length both room-both;
+              inside = omega (arith, both.ends, room_both.room);
+              long = wrote_length both room_both;
               whole = λ l. omega arith;
             }
 
     -- no line is left
-    pub put_all : line-count ends ≤ next →
+    pub put_all : line_count ends ≤ next →
         PutLines answers corners ends from lent now (record { next = next; length = end })
     put_all h =
         record {

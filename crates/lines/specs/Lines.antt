@@ -11,38 +11,38 @@ use Rattle.model.specs.declared.Counts.{Counts}
 use Rattle.model.specs.Spelling.{bytes}
 use Rattle.model.specs.Answers.{refused}
 use Rattle.model.specs.Report.{printed}
-use Rattle.printing.specs.Printing.{answer-line, arrival-line}
+use Rattle.printing.specs.Printing.{answer_line, arrival_line}
 use Rattle.lines.specs.declared.positions.Ends.{Ends}
 use Rattle.lines.specs.Packing.{unpacked}
 
 -- the line of the answer that stands at place i
 abbrev pub answer_at : List ℕ → ℕ → List ℕ
-answer_at answers i = arrival-line i (unpacked (get_or answers i 0))
+answer_at answers i = arrival_line i (unpacked (get_or answers i 0))
 
 -- the lines of the first n answers
-unfoldable pub answer-lines : List ℕ → ℕ → List ℕ
-answer-lines answers n = flatten (table n (answer_at answers))
+unfoldable pub answer_lines : List ℕ → ℕ → List ℕ
+answer_lines answers n = flatten (table n (answer_at answers))
 
-abbrev pub counts-values : Counts → List ℕ
-counts-values c = c.darts ∷ c.vertices ∷ c.edges ∷ c.faces ∷ c.parts ∷ []
+abbrev pub counts_values : Counts → List ℕ
+counts_values c = c.darts ∷ c.vertices ∷ c.edges ∷ c.faces ∷ c.parts ∷ []
 
 abbrev pub title : List ℕ
 title = bytes "OUTLINE 1\n"
 
 module _ (answers corners : List ℕ) (ends : Ends) where
   -- the printed line at position j
-  unfoldable pub report-line : ℕ → List ℕ
-  report-line j =
+  unfoldable pub report_line : ℕ → List ℕ
+  report_line j =
       cond (eqb j 0) title
       (cond ends.long (printed (refused Refusal.LongText))
       (cond (ltb (j - 1) ends.lines) (answer_at answers (j - 1))
-      (cond (eqb (j - 1) ends.lines) (answer-line (bytes "corners") corners)
-      (answer-line (bytes "counts") (counts-values ends.counts)))))
+      (cond (eqb (j - 1) ends.lines) (answer_line (bytes "corners") corners)
+      (answer_line (bytes "counts") (counts_values ends.counts)))))
 
   -- the k printed lines from position j on
   unfoldable pub lines_from : ℕ → ℕ → List ℕ
-  lines_from j k = flatten (table k (λ i. report-line (j + i)))
+  lines_from j k = flatten (table k (λ i. report_line (j + i)))
 
 -- how many printed lines there are
-unfoldable pub line-count : Ends → ℕ
-line-count ends = cond ends.long 2 (ends.lines + 3)
+unfoldable pub line_count : Ends → ℕ
+line_count ends = cond ends.long 2 (ends.lines + 3)

@@ -6,20 +6,20 @@ use Rattle.std.specs.Prelude.{cond, ℕ, ◌+◌, ◌-◌, ◌*◌, ◌/◌, ◌
 use Rattle.model.specs.declared.Refusal.{Refusal}
 use Rattle.model.specs.declared.Arrival.{Arrival}
 use Rattle.model.specs.Refusals.{number}
-use Rattle.model.specs.Maps.{point-limit}
+use Rattle.model.specs.Maps.{point_limit}
 
 -- the numbers that a line can get: those of an offered point, 2 to 4, and "text line not in form"
 pub data OfLine : Refusal → Type 0 where
   full : OfLine Refusal.Full
   out_of_range : OfLine Refusal.OutOfRange
   repeated : OfLine Refusal.Repeated
-  bad-line : OfLine Refusal.BadLine
+  bad_line : OfLine Refusal.BadLine
 
 -- point numbers, and as many visible edges as there are points at most
 pub record SmallValues (left right visible : ℕ) : Type 0 where
-  pub left_below : left < point-limit
-  pub right-below : right < point-limit
-  pub visible-most : visible ≤ point-limit
+  pub left_below : left < point_limit
+  pub right_below : right < point_limit
+  pub visible_most : visible ≤ point_limit
 
 pub data Packable : Arrival → Type 0 where
   first : Packable Arrival.First
@@ -33,22 +33,22 @@ packed (Arrival.Refused r) = number r
 packed Arrival.First = 11
 packed Arrival.Second = 12
 packed Arrival.Inside = 13
-packed (Arrival.Outside l r v) = 14 + l + point-limit * (r + point-limit * v)
+packed (Arrival.Outside l r v) = 14 + l + point_limit * (r + point_limit * v)
 
 -- what a line is refused for; a number that no line gets stands for the last
-unfoldable pub refusal-of : ℕ → Refusal
-refusal-of n =
+unfoldable pub refusal_of : ℕ → Refusal
+refusal_of n =
     cond (eqb n 2) Refusal.Full
     (cond (eqb n 3) Refusal.OutOfRange
     (cond (eqb n 4) Refusal.Repeated Refusal.BadLine))
 
 abbrev pub outside_of : ℕ → Arrival
 outside_of n =
-    Arrival.Outside (n % point-limit) (n / point-limit % point-limit)
-    (n / point-limit / point-limit)
+    Arrival.Outside (n % point_limit) (n / point_limit % point_limit)
+    (n / point_limit / point_limit)
 
 unfoldable pub unpacked : ℕ → Arrival
 unpacked n =
-    cond (ltb n 11) (Arrival.Refused (refusal-of n))
+    cond (ltb n 11) (Arrival.Refused (refusal_of n))
     (cond (eqb n 11) Arrival.First
     (cond (eqb n 12) Arrival.Second (cond (eqb n 13) Arrival.Inside (outside_of (n - 14)))))

@@ -1,7 +1,7 @@
 // The answer of a line as one number: a refusal's own number, or one for each arrival.
 
 ghost use Rattle.std.specs.Prelude.{◌≡◌};
-ghost use Rattle.lines.specs.Packing.{Packable, packed, refusal-of, unpacked};
+ghost use Rattle.lines.specs.Packing.{Packable, packed, refusal_of, unpacked};
 
 use model::{Arrival, POINT_LIMIT, Refusal, refusal_number};
 
@@ -59,7 +59,7 @@ pub fn unpacked(number: u32) -> Arrival
 
 // What a line is refused for, by its number; a number that no line gets stands for the last.
 fn refusal_of(number: usize) -> Refusal
-    ensures { result ≡ refusal-of number }
+    ensures { result ≡ refusal_of number }
 {
     if number == 2 {
         return Refusal::Full;

@@ -2,9 +2,9 @@
 // writing as many whole ones as a lent list holds.
 
 ghost use Rattle.std.specs.Prelude.{◌≡◌, ◌≤◌, get_or, length};
-ghost use Rattle.model.specs.Maps.{point-limit};
+ghost use Rattle.model.specs.Maps.{point_limit};
 ghost use Rattle.printing.specs.Writing.{Room, PutAt};
-ghost use Rattle.lines.specs.Lines.{line-count, lines_from, report-line};
+ghost use Rattle.lines.specs.Lines.{line_count, lines_from, report_line};
 ghost use Rattle.lines.specs.Printing.{Printable, PutLines};
 
 use super::packing::unpacked;
@@ -33,15 +33,15 @@ pub struct Piece {
 // How many printed lines a report has.
 pub fn line_count(ends: Ends) -> usize
     requires { Printable ends }
-    ensures { result ≡ line-count ends }
+    ensures { result ≡ line_count ends }
 {
     if ends.long { 2 } else { ends.lines + 3 }
 }
 
 // How many bytes the printed line at position j takes.
 pub fn line_length<'a>(answers: &'a [u32], corners: &'a [usize], ends: Ends, j: usize) -> usize
-    requires { length corners.now ≤ point-limit }
-    ensures { result ≡ length (report-line answers.now corners.now ends j) }
+    requires { length corners.now ≤ point_limit }
+    ensures { result ≡ length (report_line answers.now corners.now ends j) }
 {
     if j == 0 {
         return 10;
@@ -76,9 +76,9 @@ pub fn put_line<'a>(
     ends: Ends,
     j: usize,
 ) -> usize
-    requires { Room lent.old at (report-line answers.now corners.now ends j) }
+    requires { Room lent.old at (report_line answers.now corners.now ends j) }
     ensures { PutAt lent.old at
-        (report-line answers.now corners.now ends j) lent.new result }
+        (report_line answers.now corners.now ends j) lent.new result }
 {
     if j == 0 {
         return put_word(lent, at, b"OUTLINE 1\n");
@@ -113,10 +113,10 @@ fn answer_at(answers: &[u32], i: usize) -> u32
 
 // How many bytes all printed lines take.
 pub fn total_length<'a>(answers: &'a [u32], corners: &'a [usize], ends: Ends) -> usize
-    requires corners_len_bound { length corners.now ≤ point-limit }
+    requires corners_len_bound { length corners.now ≤ point_limit }
     requires printable { Printable ends }
     ensures { result ≡
-        length (lines_from answers.now corners.now ends 0 (line-count ends)) }
+        length (lines_from answers.now corners.now ends 0 (line_count ends)) }
 {
     let count = line_count(ends);
     let mut total = 0;
@@ -134,7 +134,7 @@ pub fn put_lines<'a>(
     ends: Ends,
     from: usize,
 ) -> Piece
-    requires corners_len_bound { length corners.now ≤ point-limit }
+    requires corners_len_bound { length corners.now ≤ point_limit }
     requires printable { Printable ends }
     ensures { PutLines answers.now corners.now ends from
         lent.old lent.new result }

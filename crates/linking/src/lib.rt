@@ -2,11 +2,11 @@
 // made, and how the first two points and every later corner are linked.
 
 ghost use Rattle.std.specs.Prelude.{◌≡◌, true, ◌<◌, set};
-ghost use Rattle.orbits.specs.Sets.{dart-limit};
-ghost use Rattle.orbits.specs.Links.{link-of};
-ghost use Rattle.model.specs.Maps.{helper, own, point-limit};
+ghost use Rattle.orbits.specs.Sets.{dart_limit};
+ghost use Rattle.orbits.specs.Links.{link_of};
+ghost use Rattle.model.specs.Maps.{helper, own, point_limit};
 ghost use Rattle.model.specs.Shape.{Fitting};
-ghost use Rattle.model.specs.Arrival.{cut, freed-by, freeing-by, freeing-none, join};
+ghost use Rattle.model.specs.Arrival.{cut, freed_by, freeing_by, freeing_none, join};
 ghost use Rattle.linking.specs.Requires.{Cuttable, Spliceable};
 
 use model::{NO_DART, Note, POINT_LIMIT, Point};
@@ -23,7 +23,7 @@ pub fn cut(edge: &mut [usize; DART_LIMIT], d: usize)
 
 // Darts a and b are each other's partner.
 pub fn join(edge: &mut [usize; DART_LIMIT], a: usize, b: usize)
-    requires { (a < dart-limit) × (b < dart-limit) }
+    requires { (a < dart_limit) × (b < dart_limit) }
     ensures { edge.new ≡ join a b edge.old }
 {
     edge[a] = b;
@@ -32,7 +32,7 @@ pub fn join(edge: &mut [usize; DART_LIMIT], a: usize, b: usize)
 
 // Point k is p.
 pub fn put_point(xs: &mut [i64; POINT_LIMIT], ys: &mut [i64; POINT_LIMIT], k: usize, p: Point)
-    requires { k < point-limit }
+    requires { k < point_limit }
     ensures { (xs.new ≡ set xs.old k p.x)
         × (ys.new ≡ set ys.old k p.y) }
 {
@@ -50,7 +50,7 @@ pub fn put_note(
     k: usize,
     note: Note,
 )
-    requires { (k < point-limit) × Fitting note }
+    requires { (k < point_limit) × Fitting note }
     ensures { (arrivals.new ≡ set arrivals.old k note.arrival)
         × (lefts.new ≡ set lefts.old k note.left)
         × (rights.new ≡ set rights.old k note.right) }
@@ -65,7 +65,7 @@ pub fn put_note(
 
 // What is noted of an arrival that frees no dart.
 pub fn freeing_none(kind: usize) -> Note
-    ensures { result ≡ freeing-none kind }
+    ensures { result ≡ freeing_none kind }
 {
     Note {
         arrival: kind,
@@ -76,8 +76,8 @@ pub fn freeing_none(kind: usize) -> Note
 
 // What is noted of a point between the corners `left` and `right`, from the links before it.
 pub fn freeing(edge: &[usize], left: usize, right: usize) -> Note
-    requires { (left < point-limit) × (right < point-limit) }
-    ensures { result ≡ freeing-by (link-of edge.now) left right }
+    requires { (left < point_limit) × (right < point_limit) }
+    ensures { result ≡ freeing_by (link_of edge.now) left right }
 {
     let own = 2 * left;
     let helper = 2 * right + 1;
@@ -90,7 +90,7 @@ pub fn freeing(edge: &[usize], left: usize, right: usize) -> Note
 
 // The partner that dart d loses, or none where that is the other dart.
 fn freed(edge: &[usize], d: usize, other: usize) -> usize
-    ensures { result ≡ freed-by (link-of edge.now) d other }
+    ensures { result ≡ freed_by (link_of edge.now) d other }
 {
     let partner = link_of(edge, d);
     if partner == other { NO_DART } else { partner }

@@ -3,12 +3,12 @@
 ghost use Rattle.std.specs.Prelude.{◌≡◌, ◌&&◌, ℕ, ◌*◌, ◌≤◌, T, length};
 ghost use Rattle.finite.specs.Bounded.{table};
 ghost use Rattle.finite.specs.Overwriting.{over};
-ghost use Rattle.model.specs.Plane.{in-range, left-of};
+ghost use Rattle.model.specs.Plane.{in_range, left_of};
 ghost use Rattle.model.specs.Maps.{point_at};
 ghost use Rattle.model.specs.Outlines.{coordinates, listable};
 ghost use Rattle.maps.specs.Places.{PlacesFor};
 ghost use Rattle.polygons.specs.Spellings.{Ready};
-ghost use Rattle.listings.specs.Listings.{CoordinatesWritten, ListingRead, lowest-at, turn_at, turns_at};
+ghost use Rattle.listings.specs.Listings.{CoordinatesWritten, ListingRead, lowest_at, turn_at, turns_at};
 
 use maps::reading::point_at;
 use model::{POINT_LIMIT, Point, Refusal, Written};
@@ -89,7 +89,7 @@ fn write_coordinates<'a>(xs: &'a [i64], ys: &'a [i64], n: usize, lent: &mut [i64
 // Whether some survey lists the first n points: not too many, the lowest first, and all of them beside
 // the edge from each to the next one round. Since the first is the lowest, it is enough that they turn left.
 fn is_listable<'a>(xs: &'a [i64], ys: &'a [i64], n: usize) -> bool
-    requires { (k : ℕ) → T (in-range (point_at xs.now ys.now k)) }
+    requires { (k : ℕ) → T (in_range (point_at xs.now ys.now k)) }
     ensures { result ≡ listable (table n (point_at xs.now ys.now)) }
 {
     n <= POINT_LIMIT && lowest_is_first(xs, ys, n) && turn_left(xs, ys, n)
@@ -97,7 +97,7 @@ fn is_listable<'a>(xs: &'a [i64], ys: &'a [i64], n: usize) -> bool
 
 // Whether the first of n points is lower than every other one.
 fn lowest_is_first<'a>(xs: &'a [i64], ys: &'a [i64], n: usize) -> bool
-    ensures { result ≡ lowest-at xs.now ys.now n }
+    ensures { result ≡ lowest_at xs.now ys.now n }
 {
     let first = point_at(xs, ys, 0);
     for k in 1..n {
@@ -110,7 +110,7 @@ fn lowest_is_first<'a>(xs: &'a [i64], ys: &'a [i64], n: usize) -> bool
 
 // Whether n points turn left all the way, and as the first one sees them: then they go round once.
 fn turn_left<'a>(xs: &'a [i64], ys: &'a [i64], n: usize) -> bool
-    requires { (k : ℕ) → T (in-range (point_at xs.now ys.now k)) }
+    requires { (k : ℕ) → T (in_range (point_at xs.now ys.now k)) }
     ensures { result ≡ turns_at xs.now ys.now n }
 {
     for k in 2..n {
@@ -124,7 +124,7 @@ fn turn_left<'a>(xs: &'a [i64], ys: &'a [i64], n: usize) -> bool
 // Whether point k is reached by a left turn from the two points before it, and from the first point and the
 // one before it.
 fn turns_left_to<'a>(xs: &'a [i64], ys: &'a [i64], k: usize) -> bool
-    requires by_index { (k : ℕ) → T (in-range (point_at xs.now ys.now k)) }
+    requires by_index { (k : ℕ) → T (in_range (point_at xs.now ys.now k)) }
     requires le_k { 2 ≤ k }
     ensures { result ≡ turn_at xs.now ys.now k }
 {
@@ -137,8 +137,8 @@ fn turns_left_to<'a>(xs: &'a [i64], ys: &'a [i64], k: usize) -> bool
 
 // Whether c lies strictly left of the edge from a to b, for points that are in range.
 fn is_left(a: Point, b: Point, c: Point) -> bool
-    requires { T (in-range a && in-range b && in-range c) }
-    ensures { result ≡ left-of a b c }
+    requires { T (in_range a && in_range b && in_range c) }
+    ensures { result ≡ left_of a b c }
 {
     0 < orientation_in_range(a, b, c)
 }

@@ -5,14 +5,14 @@ use mathlib.Core.List.{List, []}
 use Prim.Native.Nat.{ℕ}
 use Rattle.model.specs.Sound.{sound}
 use Rattle.model.specs.Reading.{unsound}
-use Rattle.model.specs.Saved.{map-in}
-use Rattle.model.proofs.Answers.{rule-applies, rule-passes, no-rule}
+use Rattle.model.specs.Saved.{map_in}
+use Rattle.model.proofs.Answers.{rule_applies, rule_passes, no_rule}
 use Rattle.loading.specs.Opening.{served, refused, not_sound, opened}
 
 module _ (s : List ℕ) where
-  pub opened-sound : sound (map-in s) ≡ true → served (map-in s) ≡ opened s
-  opened-sound e =
-      rule-passes refused (unsound (map-in s)) [] (served (map-in s)) (ap not e) (no-rule refused (served (map-in s)))
+  pub opened_sound : sound (map_in s) ≡ true → served (map_in s) ≡ opened s
+  opened_sound e =
+      rule_passes refused (unsound (map_in s)) [] (served (map_in s)) (ap not e) (no_rule refused (served (map_in s)))
 
-  pub opened-unsound : sound (map-in s) ≡ false → not_sound ≡ opened s
-  opened-unsound e = rule-applies refused (unsound (map-in s)) [] (served (map-in s)) (ap not e)
+  pub opened_unsound : sound (map_in s) ≡ false → not_sound ≡ opened s
+  opened_unsound e = rule_applies refused (unsound (map_in s)) [] (served (map_in s)) (ap not e)

@@ -4,10 +4,10 @@
 mod reading;
 
 ghost use Rattle.std.specs.Prelude.{◌≡◌, T, length};
-ghost use Rattle.finite.specs.Lists.{same-list};
-ghost use Rattle.model.specs.Maps.{empty-map, map-lent, no-dart};
+ghost use Rattle.finite.specs.Lists.{same_list};
+ghost use Rattle.model.specs.Maps.{empty_map, map_lent, no_dart};
 ghost use Rattle.model.specs.Shape.{Shaped};
-ghost use Rattle.model.specs.Saved.{count-in-file, file-in-form, saved-in, saved-length};
+ghost use Rattle.model.specs.Saved.{count_in_file, file_in_form, saved_in, saved_length};
 ghost use Rattle.loading.specs.Opening.{Opens, opened};
 
 use crate::reading::put_coordinates;
@@ -26,7 +26,7 @@ const FILE_LIMIT: usize = 9225;
 
 // The map of a file that is in form: number 1 where it is not sound. Each array is made once, and one map of them.
 pub fn map_of(file: &[u8]) -> Loaded
-    requires { T (file-in-form file.now) }
+    requires { T (file_in_form file.now) }
     ensures { result ≡ opened file.now }
 {
     let mut xs = [0i64; POINT_LIMIT];
@@ -83,10 +83,10 @@ fn read(
     lefts: &mut [u16; POINT_LIMIT],
     rights: &mut [u16; POINT_LIMIT],
 ) -> Anew
-    requires t { T (file-in-form file.now) × (count ≡ count-in-file file.now) }
-    requires no_dart_value { map-lent xs ys helpers edge arrivals lefts rights 0 no-dart ≡ empty-map }
+    requires t { T (file_in_form file.now) × (count ≡ count_in_file file.now) }
+    requires no_dart_value { map_lent xs ys helpers edge arrivals lefts rights 0 no_dart ≡ empty_map }
     ensures { Opens file.now result.complete
-        (map-lent xs.exit ys.exit helpers.exit edge.exit arrivals.exit lefts.exit rights.exit
+        (map_lent xs.exit ys.exit helpers.exit edge.exit arrivals.exit lefts.exit rights.exit
         count result.reference) }
 {
     let mut across = [0i64; POINT_LIMIT];
@@ -124,9 +124,9 @@ fn writes<'a>(
     version: usize,
     file: &'a [u8],
 ) -> bool
-    requires shaped { Shaped (map-lent xs ys helpers edge arrivals lefts rights count reference) }
-    requires file_len { length file.now ≡ saved-length version count }
-    ensures { result ≡ same-list (saved-in version (map-lent xs.entry ys.entry helpers.entry edge.entry
+    requires shaped { Shaped (map_lent xs ys helpers edge arrivals lefts rights count reference) }
+    requires file_len { length file.now ≡ saved_length version count }
+    ensures { result ≡ same_list (saved_in version (map_lent xs.entry ys.entry helpers.entry edge.entry
         arrivals.entry lefts.entry rights.entry count reference)) file.now }
 {
     let mut written = [0u8; FILE_LIMIT];

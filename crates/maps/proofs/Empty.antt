@@ -8,92 +8,92 @@ use native.Mathlib.Omega.{arith}
 use lib.Dec.{T}
 use lib.IntN.{pos}
 use lib.ListN.{length-replicate, get_or-eq_default}
-use Rattle.finite.specs.Bounded.{table, lt-or-ge, length-table, getD-table}
-use Rattle.finite.specs.ListLaws.{replicate-at}
-use Rattle.orbits.specs.Sets.{dart-limit}
+use Rattle.finite.specs.Bounded.{table, lt_or_ge, length_table, get_or_table}
+use Rattle.finite.specs.ListLaws.{replicate_at}
+use Rattle.orbits.specs.Sets.{dart_limit}
 use Rattle.model.specs.Plane.{origin}
-use Rattle.model.specs.Maps.{point-limit, no-dart, point, has-helper, is-present, edge-link, note, no_note, empty-map}
+use Rattle.model.specs.Maps.{point_limit, no_dart, point, has_helper, is_present, edge_link, note, no_note, empty_map}
 use Rattle.model.specs.Shape.{ShapedPoints, ShapedLinks, ShapedNotes, Shaped}
-use Rattle.maps.proofs.Darts.{present-owner}
-use Rattle.maps.proofs.Soundness.{sound-without-outline}
+use Rattle.maps.proofs.Darts.{present_owner}
+use Rattle.maps.proofs.Soundness.{sound_without_outline}
 
-empty-count : empty-map.count ≡ 0
-unfolding empty-map
-empty-count = refl
+empty_count : empty_map.count ≡ 0
+unfolding empty_map
+empty_count = refl
 
-no-point : (k : ℕ) → point empty-map k ≡ origin
-unfolding empty-map point
-no-point k =
-    let e = replicate-at point-limit (pos 0) k in
+no_point : (k : ℕ) → point empty_map k ≡ origin
+unfolding empty_map point
+no_point k =
+    let e = replicate_at point_limit (pos 0) k in
     λ i. record { x = e i; y = e i }
 
-no-helper : (k : ℕ) → has-helper empty-map k ≡ false
-unfolding empty-map has-helper
-no-helper k = replicate-at point-limit false k
+no_helper : (k : ℕ) → has_helper empty_map k ≡ false
+unfolding empty_map has_helper
+no_helper k = replicate_at point_limit false k
 
-no_edge : (d : ℕ) → edge-link empty-map d ≡ d
-unfolding empty-map edge-link
+no_edge : (d : ℕ) → edge_link empty_map d ≡ d
+unfolding empty_map edge_link
 no_edge d =
-    ⊎_elim (λ (h : d < dart-limit). getD-table dart-limit (λ e. e) d d h)
-    (λ (h : dart-limit ≤ d).
-    get_or-eq_default (table dart-limit (λ e. e)) d (rw (length-table dart-limit (λ e. e)) h))
-    (lt-or-ge d dart-limit)
+    ⊎_elim (λ (h : d < dart_limit). get_or_table dart_limit (λ e. e) d d h)
+    (λ (h : dart_limit ≤ d).
+    get_or-eq_default (table dart_limit (λ e. e)) d (rw (length_table dart_limit (λ e. e)) h))
+    (lt_or_ge d dart_limit)
 
-none-noted : (k : ℕ) → note empty-map k ≡ no_note
-unfolding empty-map note
-none-noted k =
-    let e = replicate-at {A = ℕ} point-limit 0 k in
-    let f = replicate-at point-limit no-dart k in
+none_noted : (k : ℕ) → note empty_map k ≡ no_note
+unfolding empty_map note
+none_noted k =
+    let e = replicate_at {A = ℕ} point_limit 0 k in
+    let f = replicate_at point_limit no_dart k in
     λ i. record { arrival = e i; left = f i; right = f i }
 
-no-dart-present : (d : ℕ) → ¬ T (is-present empty-map d)
-no-dart-present d t = omega (arith, present-owner empty-map d t, empty-count)
+no_dart_present : (d : ℕ) → ¬ T (is_present empty_map d)
+no_dart_present d t = omega (arith, present_owner empty_map d t, empty_count)
 
-no-helper-there : (k : ℕ) → ¬ T (has-helper empty-map k)
-no-helper-there k t = rw (no-helper k) at t
+no_helper_there : (k : ℕ) → ¬ T (has_helper empty_map k)
+no_helper_there k t = rw (no_helper k) at t
 
-empty-points : ShapedPoints empty-map
-unfolding empty-map
-empty-points =
+empty_points : ShapedPoints empty_map
+unfolding empty_map
+empty_points =
     record {
-      xs-whole = length-replicate point-limit (pos 0);
-      ys-whole = length-replicate point-limit (pos 0);
+      xs_whole = length-replicate point_limit (pos 0);
+      ys_whole = length-replicate point_limit (pos 0);
       ranged = λ k h. absurd (omega arith);
       distinct = λ j k l h. absurd (omega arith);
-      vacant = λ k h. no-point k;
+      vacant = λ k h. no_point k;
     }
 
-empty-links : ShapedLinks empty-map
-unfolding empty-map
-empty-links =
+empty_links : ShapedLinks empty_map
+unfolding empty_map
+empty_links =
     record {
-      helpers-whole = length-replicate point-limit false;
-      edge-whole = length-table dart-limit (λ d. d);
+      helpers_whole = length-replicate point_limit false;
+      edge_whole = length_table dart_limit (λ d. d);
       fits = omega arith;
-      owned = λ k t. absurd (no-helper-there k t);
+      owned = λ k t. absurd (no_helper_there k t);
       absent = λ d none. no_edge d;
-      present = λ d t. absurd (no-dart-present d t);
-      undone = λ d. no_edge (edge-link empty-map d) ∙ no_edge d;
+      present = λ d t. absurd (no_dart_present d t);
+      undone = λ d. no_edge (edge_link empty_map d) ∙ no_edge d;
       crossing = λ d moves. absurd (moves (no_edge d));
       leaving = λ d moves. absurd (moves (no_edge d));
       lone = λ k none. no_edge _;
     }
 
-empty-notes : ShapedNotes empty-map
-unfolding empty-map
-empty-notes =
+empty_notes : ShapedNotes empty_map
+unfolding empty_map
+empty_notes =
     record {
-      arrivals-whole = length-replicate {A = ℕ} point-limit 0;
-      lefts-whole = length-replicate point-limit no-dart;
-      rights-whole = length-replicate point-limit no-dart;
+      arrivals_whole = length-replicate {A = ℕ} point_limit 0;
+      lefts_whole = length-replicate point_limit no_dart;
+      rights_whole = length-replicate point_limit no_dart;
       fitting = λ k.
-          rw (none-noted k)
-          (record { arrival-small = omega arith; left-small = omega arith; right-small = omega arith });
-      unnoted = λ k h. none-noted k;
+          rw (none_noted k)
+          (record { arrival_small = omega arith; left_small = omega arith; right_small = omega arith });
+      unnoted = λ k h. none_noted k;
     }
 
-pub empty-sound : Shaped empty-map
-unfolding empty-map
-empty-sound =
-    sound-without-outline empty-points empty-links empty-notes (omega arith)
-    (record { no-helper = no-helper-there; unreferenced = refl })
+pub empty_sound : Shaped empty_map
+unfolding empty_map
+empty_sound =
+    sound_without_outline empty_points empty_links empty_notes (omega arith)
+    (record { no_helper = no_helper_there; unreferenced = refl })

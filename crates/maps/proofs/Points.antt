@@ -17,112 +17,112 @@ use Rattle.finite.specs.Bounded.{below_suc}
 use Rattle.model.specs.declared.Point.{Point}
 use Rattle.model.specs.declared.Note.{Note}
 use Rattle.model.specs.declared.Map.{Map}
-use Rattle.model.specs.Plane.{in-range}
-use Rattle.model.specs.Maps.{point-limit, no-dart, own, helper, point, is-present, edge-link, note}
-use Rattle.model.specs.Arrival.{freeing-none, freed-by, freeing, with-point}
-use Rattle.model.proofs.Shape.{present-below}
+use Rattle.model.specs.Plane.{in_range}
+use Rattle.model.specs.Maps.{point_limit, no_dart, own, helper, point, is_present, edge_link, note}
+use Rattle.model.specs.Arrival.{freeing_none, freed_by, freeing, with_point}
+use Rattle.model.proofs.Shape.{present_below}
 use Rattle.model.specs.Shape.{Shaped, ShapedPoints, Fitting, ShapedNotes}
 
-module _ {m : Map} (s : Shaped m) (room : m.count < point-limit) (p : Point) (noted : Note)
+module _ {m : Map} (s : Shaped m) (room : m.count < point_limit) (p : Point) (noted : Note)
     (helpers : List Bool) (edge : List ℕ) (reference : ℕ) where
-  pub point-new : point (with-point m p noted helpers edge reference) m.count ≡ p
-  unfolding point with-point
-  point-new =
+  pub point_new : point (with_point m p noted helpers edge reference) m.count ≡ p
+  unfolding point with_point
+  point_new =
       let x : get_or (set m.xs m.count p.x) m.count (pos 0) ≡ p.x =
-      get_or-set_same m.xs m.count p.x (pos 0) (rw s.points.xs-whole room) in
+      get_or-set_same m.xs m.count p.x (pos 0) (rw s.points.xs_whole room) in
       let y : get_or (set m.ys m.count p.y) m.count (pos 0) ≡ p.y =
-      get_or-set_same m.ys m.count p.y (pos 0) (rw s.points.ys-whole room) in
+      get_or-set_same m.ys m.count p.y (pos 0) (rw s.points.ys_whole room) in
       λ i. record { x = x i; y = y i }
 
-  pub point-old : (k : ℕ) → k ≢ m.count → point (with-point m p noted helpers edge reference) k ≡ point m k
-  unfolding point with-point
-  point-old k other =
+  pub point_old : (k : ℕ) → k ≢ m.count → point (with_point m p noted helpers edge reference) k ≡ point m k
+  unfolding point with_point
+  point_old k other =
       let x : get_or (set m.xs m.count p.x) k (pos 0) ≡ get_or m.xs k (pos 0) =
       get_or-set_other m.xs m.count k p.x (pos 0) other in
       let y : get_or (set m.ys m.count p.y) k (pos 0) ≡ get_or m.ys k (pos 0) =
       get_or-set_other m.ys m.count k p.y (pos 0) other in
       λ i. record { x = x i; y = y i }
 
-  pub with-point-sound : T (in-range p) → ((k : ℕ) → k < m.count → point m k ≢ p) →
-      ShapedPoints (with-point m p noted helpers edge reference)
-  unfolding with-point
-  with-point-sound ranged differs =
+  pub with_point_sound : T (in_range p) → ((k : ℕ) → k < m.count → point m k ≢ p) →
+      ShapedPoints (with_point m p noted helpers edge reference)
+  unfolding with_point
+  with_point_sound ranged differs =
       record {
-        xs-whole = length-set m.xs m.count p.x ∙ s.points.xs-whole;
-        ys-whole = length-set m.ys m.count p.y ∙ s.points.ys-whole;
+        xs_whole = length-set m.xs m.count p.x ∙ s.points.xs_whole;
+        ys_whole = length-set m.ys m.count p.y ∙ s.points.ys_whole;
         ranged = λ k h.
             ⊎_elim
-            (λ (l : k < m.count). rw (point-old k (omega arith)) (s.points.ranged k l))
-            (λ (e : k ≡ m.count). rw (e, point-new) ranged)
+            (λ (l : k < m.count). rw (point_old k (omega arith)) (s.points.ranged k l))
+            (λ (e : k ≡ m.count). rw (e, point_new) ranged)
             (below_suc m.count k h);
         distinct = λ j k l h.
             ⊎_elim
-            (λ (b : k < m.count). rw (point-old j (omega arith), point-old k (omega arith)) (s.points.distinct j k l b))
+            (λ (b : k < m.count). rw (point_old j (omega arith), point_old k (omega arith)) (s.points.distinct j k l b))
             (λ (e : k ≡ m.count).
-            rw (point-old j (omega arith), e, point-new) (differs j (omega arith)))
+            rw (point_old j (omega arith), e, point_new) (differs j (omega arith)))
             (below_suc m.count k h);
-        vacant = λ k h. rw (point-old k (omega arith)) (s.points.vacant k (omega arith));
+        vacant = λ k h. rw (point_old k (omega arith)) (s.points.vacant k (omega arith));
       }
 
-  pub note-new : note (with-point m p noted helpers edge reference) m.count ≡ noted
-  unfolding note with-point
-  note-new =
+  pub note_new : note (with_point m p noted helpers edge reference) m.count ≡ noted
+  unfolding note with_point
+  note_new =
       let k = m.count in
       let a : get_or (set m.arrivals k noted.arrival) k 0 ≡ noted.arrival =
-      get_or-set_same m.arrivals k noted.arrival 0 (rw s.notes.arrivals-whole room) in
-      let l : get_or (set m.lefts k noted.left) k no-dart ≡ noted.left =
-      get_or-set_same m.lefts k noted.left no-dart (rw s.notes.lefts-whole room) in
-      let r : get_or (set m.rights k noted.right) k no-dart ≡ noted.right =
-      get_or-set_same m.rights k noted.right no-dart (rw s.notes.rights-whole room) in
+      get_or-set_same m.arrivals k noted.arrival 0 (rw s.notes.arrivals_whole room) in
+      let l : get_or (set m.lefts k noted.left) k no_dart ≡ noted.left =
+      get_or-set_same m.lefts k noted.left no_dart (rw s.notes.lefts_whole room) in
+      let r : get_or (set m.rights k noted.right) k no_dart ≡ noted.right =
+      get_or-set_same m.rights k noted.right no_dart (rw s.notes.rights_whole room) in
       λ i. record { arrival = a i; left = l i; right = r i }
 
-  pub note-old : (k : ℕ) → k ≢ m.count → note (with-point m p noted helpers edge reference) k ≡ note m k
-  unfolding note with-point
-  note-old k other =
+  pub note_old : (k : ℕ) → k ≢ m.count → note (with_point m p noted helpers edge reference) k ≡ note m k
+  unfolding note with_point
+  note_old k other =
       let a : get_or (set m.arrivals m.count noted.arrival) k 0 ≡ get_or m.arrivals k 0 =
       get_or-set_other m.arrivals m.count k noted.arrival 0 other in
-      let l : get_or (set m.lefts m.count noted.left) k no-dart ≡ get_or m.lefts k no-dart =
-      get_or-set_other m.lefts m.count k noted.left no-dart other in
-      let r : get_or (set m.rights m.count noted.right) k no-dart ≡ get_or m.rights k no-dart =
-      get_or-set_other m.rights m.count k noted.right no-dart other in
+      let l : get_or (set m.lefts m.count noted.left) k no_dart ≡ get_or m.lefts k no_dart =
+      get_or-set_other m.lefts m.count k noted.left no_dart other in
+      let r : get_or (set m.rights m.count noted.right) k no_dart ≡ get_or m.rights k no_dart =
+      get_or-set_other m.rights m.count k noted.right no_dart other in
       λ i. record { arrival = a i; left = l i; right = r i }
 
-  pub with-point-noted : Fitting noted → ShapedNotes (with-point m p noted helpers edge reference)
-  unfolding with-point
-  with-point-noted fits =
+  pub with_point_noted : Fitting noted → ShapedNotes (with_point m p noted helpers edge reference)
+  unfolding with_point
+  with_point_noted fits =
       record {
-        arrivals-whole = length-set m.arrivals m.count noted.arrival ∙ s.notes.arrivals-whole;
-        lefts-whole = length-set m.lefts m.count noted.left ∙ s.notes.lefts-whole;
-        rights-whole = length-set m.rights m.count noted.right ∙ s.notes.rights-whole;
+        arrivals_whole = length-set m.arrivals m.count noted.arrival ∙ s.notes.arrivals_whole;
+        lefts_whole = length-set m.lefts m.count noted.left ∙ s.notes.lefts_whole;
+        rights_whole = length-set m.rights m.count noted.right ∙ s.notes.rights_whole;
         fitting = λ k.
-            ⊎_elim (λ (e : k ≡ m.count). rw (e, note-new) fits)
-            (λ (n : k ≢ m.count). rw (note-old k n) (s.notes.fitting k)) (same_or_not k m.count);
-        unnoted = λ k h. note-old k (omega arith) ∙ s.notes.unnoted k (omega arith);
+            ⊎_elim (λ (e : k ≡ m.count). rw (e, note_new) fits)
+            (λ (n : k ≢ m.count). rw (note_old k n) (s.notes.fitting k)) (same_or_not k m.count);
+        unnoted = λ k h. note_old k (omega arith) ∙ s.notes.unnoted k (omega arith);
       }
 
 -- an arrival that frees no dart fits
-pub freeing-none-fits : (kind : ℕ) → kind ≤ 3 → Fitting (freeing-none kind)
-freeing-none-fits kind h = record { arrival-small = h; left-small = omega arith; right-small = omega arith }
+pub freeing_none_fits : (kind : ℕ) → kind ≤ 3 → Fitting (freeing_none kind)
+freeing_none_fits kind h = record { arrival_small = h; left_small = omega arith; right_small = omega arith }
 
 -- so does one that frees darts, which are the map's, or none
 module _ {m : Map} (s : Shaped m) where
-  freed-most : (d other : ℕ) → d < own point-limit → freed-by (edge-link m) d other ≤ no-dart
-  freed-most d other h =
-      let most : edge-link m d ≤ no-dart =
+  freed_most : (d other : ℕ) → d < own point_limit → freed_by (edge_link m) d other ≤ no_dart
+  freed_most d other h =
+      let most : edge_link m d ≤ no_dart =
       ⊎_elim
-      (λ (t : T (is-present m d)).
-      omega (arith, s.links.fits, present-below m (edge-link m d) (s.links.present d t)))
-      (λ (t : T (not (is-present m d))). omega (arith, s.links.absent d (T_not (is-present m d) t)))
-      (decide (is-present m d)) in
+      (λ (t : T (is_present m d)).
+      omega (arith, s.links.fits, present_below m (edge_link m d) (s.links.present d t)))
+      (λ (t : T (not (is_present m d))). omega (arith, s.links.absent d (T_not (is_present m d) t)))
+      (decide (is_present m d)) in
       ⊎_elim
-      (λ (e : edge-link m d ≡ other). rw (eq-eqb (edge-link m d) other e) (omega arith))
-      (λ (n : edge-link m d ≢ other). rw (ne_eqb (edge-link m d) other n) most)
-      (same_or_not (edge-link m d) other)
+      (λ (e : edge_link m d ≡ other). rw (eq-eqb (edge_link m d) other e) (omega arith))
+      (λ (n : edge_link m d ≢ other). rw (ne_eqb (edge_link m d) other n) most)
+      (same_or_not (edge_link m d) other)
 
-  pub freeing-fits : (l r : ℕ) → l < point-limit → r < point-limit → Fitting (freeing m l r)
-  freeing-fits l r h k =
+  pub freeing_fits : (l r : ℕ) → l < point_limit → r < point_limit → Fitting (freeing m l r)
+  freeing_fits l r h k =
       record {
-        arrival-small = omega arith;
-        left-small = freed-most (own l) (helper r) (omega arith);
-        right-small = freed-most (helper r) (own l) (omega arith);
+        arrival_small = omega arith;
+        left_small = freed_most (own l) (helper r) (omega arith);
+        right_small = freed_most (helper r) (own l) (omega arith);
       }

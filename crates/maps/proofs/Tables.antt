@@ -11,110 +11,110 @@ use native.Mathlib.Omega.{arith}
 use borrow.Author.Tests.{le-ltb}
 use mir.Val.{bool_byte}
 use lib.ListN.{length, get_or, set, replicate, get_or-eq_default}
-use Rattle.finite.specs.Bounded.{table, lt-or-ge, length-table, getD-table}
-use Rattle.finite.specs.ListLaws.{replicate-at}
-use Rattle.finite.specs.Loops.{Filled, one-filled}
-use Rattle.orbits.specs.Sets.{dart-limit}
-use Rattle.orbits.specs.Links.{Composable, Permutes, Involutes, Permuted, link-of, test_of}
-use Rattle.orbits.proofs.Permutations.{involution-permutes}
+use Rattle.finite.specs.Bounded.{table, lt_or_ge, length_table, get_or_table}
+use Rattle.finite.specs.ListLaws.{replicate_at}
+use Rattle.finite.specs.Loops.{Filled, one_filled}
+use Rattle.orbits.specs.Sets.{dart_limit}
+use Rattle.orbits.specs.Links.{Composable, Permutes, Involutes, Permuted, link_of, test_of}
+use Rattle.orbits.proofs.Permutations.{involution_permutes}
 use Rattle.model.specs.declared.Map.{Map}
-use Rattle.model.specs.Maps.{point-limit, own, helper, owner, other-dart, present-by, point-link-by, has-helper, is-present, edge-link, point-link, dart-bound}
+use Rattle.model.specs.Maps.{point_limit, own, helper, owner, other_dart, present_by, point_link_by, has_helper, is_present, edge_link, point_link, dart_bound}
 use Rattle.model.specs.Shape.{Shaped}
-use Rattle.maps.proofs.Darts.{owner-own, owner-helper, other-own, other-helper, present-dart}
-use Rattle.maps.proofs.Links.{point-involutes}
+use Rattle.maps.proofs.Darts.{owner_own, owner_helper, other_own, other_helper, present_dart}
+use Rattle.maps.proofs.Links.{point_involutes}
 
 -- ---- a loop that writes the point links, two for each point
 
-own-by : (b : Bool) (k : ℕ) → own k + bool_byte b ≡ cond b (other-dart (own k)) (own k)
-own-by true k = omega (arith, other-own k)
-own-by false k = omega arith
+own_by : (b : Bool) (k : ℕ) → own k + bool_byte b ≡ cond b (other_dart (own k)) (own k)
+own_by true k = omega (arith, other_own k)
+own_by false k = omega arith
 
-helper-by : (b : Bool) (k : ℕ) → helper k - bool_byte b ≡ cond b (other-dart (helper k)) (helper k)
-helper-by true k = omega (arith, other-helper k)
-helper-by false k = omega arith
+helper_by : (b : Bool) (k : ℕ) → helper k - bool_byte b ≡ cond b (other_dart (helper k)) (helper k)
+helper_by true k = omega (arith, other_helper k)
+helper_by false k = omega arith
 
 module _ (helped : ℕ → Bool) (k : ℕ) where
-  own-linked : own k + bool_byte (helped k) ≡ point-link-by helped (own k)
-  own-linked =
-      own-by (helped k) k ∙ ap (λ (j : ℕ). cond (helped j) (other-dart (own k)) (own k)) (sym (owner-own k))
+  own_linked : own k + bool_byte (helped k) ≡ point_link_by helped (own k)
+  own_linked =
+      own_by (helped k) k ∙ ap (λ (j : ℕ). cond (helped j) (other_dart (own k)) (own k)) (sym (owner_own k))
 
-  helper-linked : helper k - bool_byte (helped k) ≡ point-link-by helped (helper k)
-  helper-linked =
-      helper-by (helped k) k ∙ ap (λ (j : ℕ). cond (helped j) (other-dart (helper k)) (helper k)) (sym (owner-helper k))
+  helper_linked : helper k - bool_byte (helped k) ≡ point_link_by helped (helper k)
+  helper_linked =
+      helper_by (helped k) k ∙ ap (λ (j : ℕ). cond (helped j) (other_dart (helper k)) (helper k)) (sym (owner_helper k))
 
-  pub pair-filled : {links : List ℕ} → Filled (point-link-by helped) 0 dart-limit (own k) links → k < point-limit →
-      Filled (point-link-by helped) 0 dart-limit (own (k + 1))
+  pub pair_filled : {links : List ℕ} → Filled (point_link_by helped) 0 dart_limit (own k) links → k < point_limit →
+      Filled (point_link_by helped) 0 dart_limit (own (k + 1))
       (set (set links (own k) (own k + bool_byte (helped k))) (helper k) (helper k - bool_byte (helped k)))
-  pair-filled {links} f l =
-      let first = one-filled (own k) f (omega arith) (own k + bool_byte (helped k)) own-linked in
+  pair_filled {links} f l =
+      let first = one_filled (own k) f (omega arith) (own k + bool_byte (helped k)) own_linked in
       subst
       (λ (n : ℕ).
-      Filled (point-link-by helped) 0 dart-limit n
+      Filled (point_link_by helped) 0 dart_limit n
       (set (set links (own k) (own k + bool_byte (helped k))) (helper k) (helper k - bool_byte (helped k))))
       (let e : helper k + 1 ≡ own (k + 1) = omega arith in e)
-      (one-filled (helper k) first (omega arith) (helper k - bool_byte (helped k)) helper-linked)
+      (one_filled (helper k) first (omega arith) (helper k - bool_byte (helped k)) helper_linked)
 
 -- ---- a loop that asks which darts are present, up to those of the last point
 
 -- a list of no answers holds what is true from there on
-pub none-present : (helped : ℕ → Bool) (count : ℕ) (d : ℕ) → own count ≤ d →
-    get_or (replicate dart-limit false) d false ≡ present-by helped count d
-none-present helped count d h = replicate-at dart-limit false d ∙ sym (rw (le-ltb (owner d) count (omega arith)))
+pub none_present : (helped : ℕ → Bool) (count : ℕ) (d : ℕ) → own count ≤ d →
+    get_or (replicate dart_limit false) d false ≡ present_by helped count d
+none_present helped count d h = replicate_at dart_limit false d ∙ sym (rw (le-ltb (owner d) count (omega arith)))
 
 -- ---- what such lists hold
 
 -- a table of a rule that gives the default past the table
-getD-rule : {A : Type 0} (n : ℕ) (f past : ℕ → A) → ((d : ℕ) → n ≤ d → f d ≡ past d) →
+get_or_rule : {A : Type 0} (n : ℕ) (f past : ℕ → A) → ((d : ℕ) → n ≤ d → f d ≡ past d) →
     (d : ℕ) → get_or (table n f) d (past d) ≡ f d
-getD-rule n f past beyond d =
+get_or_rule n f past beyond d =
     ⊎_elim
-    (λ (l : d < n). getD-table n f d (past d) l)
-    (λ (l : n ≤ d). get_or-eq_default (table n f) (past d) (omega (arith, length-table n f)) ∙ sym (beyond d l))
-    (lt-or-ge d n)
+    (λ (l : d < n). get_or_table n f d (past d) l)
+    (λ (l : n ≤ d). get_or-eq_default (table n f) (past d) (omega (arith, length_table n f)) ∙ sym (beyond d l))
+    (lt_or_ge d n)
 
 module _ (m : Map) where
-  pub point-table : length m.helpers ≡ point-limit → link-of (table dart-limit (point-link m)) ≡ point-link m
-  unfolding point-link has-helper
-  point-table whole =
+  pub point_table : length m.helpers ≡ point_limit → link_of (table dart_limit (point_link m)) ≡ point_link m
+  unfolding point_link has_helper
+  point_table whole =
       λ i d.
-      getD-rule dart-limit (point-link m) (λ k. k)
+      get_or_rule dart_limit (point_link m) (λ k. k)
       (λ e l. rw (get_or-eq_default m.helpers false {n = owner e} (omega arith))) d i
 
-  pub present-table : m.count ≤ point-limit → test_of (table dart-limit (is-present m)) ≡ is-present m
-  unfolding is-present
-  present-table fits =
+  pub present_table : m.count ≤ point_limit → test_of (table dart_limit (is_present m)) ≡ is_present m
+  unfolding is_present
+  present_table fits =
       λ i d.
-      getD-rule dart-limit (is-present m) (λ k. false) (λ e l. rw (le-ltb (owner e) m.count (omega arith))) d i
+      get_or_rule dart_limit (is_present m) (λ k. false) (λ e l. rw (le-ltb (owner e) m.count (omega arith))) d i
 
   -- the edge links and then those of a list: from the darts of the last point on nothing moves
-  pub composable : Shaped m → {points : List ℕ} → length points ≡ dart-limit →
-      Composable m.edge points (dart-bound m) points
-  unfolding edge-link
+  pub composable : Shaped m → {points : List ℕ} → length points ≡ dart_limit →
+      Composable m.edge points (dart_bound m) points
+  unfolding edge_link
   composable s whole =
       record {
-        first-whole = s.links.edge-whole;
-        second-whole = whole;
+        first_whole = s.links.edge_whole;
+        second_whole = whole;
         within = omega (arith, s.links.fits);
-        fixed = λ d h. s.links.absent d (λ t. omega (arith, (present-dart m d t).below));
+        fixed = λ d h. s.links.absent d (λ t. omega (arith, (present_dart m d t).below));
         begun = refl;
       }
 
-  pub tables-permuted : length m.helpers ≡ point-limit → length m.edge ≡ dart-limit → m.count ≤ point-limit →
-      Involutes (dart-bound m) (is-present m) (edge-link m) →
-      Permuted (dart-bound m) (test_of (table dart-limit (is-present m))) m.edge
-      (table dart-limit (point-link m))
-  unfolding edge-link
-  tables-permuted helpers-whole edge-whole fits i =
-      subst (λ (p : ℕ → Bool). Permuted (dart-bound m) p m.edge (table dart-limit (point-link m)))
-      (sym (present-table fits))
+  pub tables_permuted : length m.helpers ≡ point_limit → length m.edge ≡ dart_limit → m.count ≤ point_limit →
+      Involutes (dart_bound m) (is_present m) (edge_link m) →
+      Permuted (dart_bound m) (test_of (table dart_limit (is_present m))) m.edge
+      (table dart_limit (point_link m))
+  unfolding edge_link
+  tables_permuted helpers_whole edge_whole fits i =
+      subst (λ (p : ℕ → Bool). Permuted (dart_bound m) p m.edge (table dart_limit (point_link m)))
+      (sym (present_table fits))
       (record {
         within = omega arith;
-        first = record { whole = edge-whole; permutes = involution-permutes i };
+        first = record { whole = edge_whole; permutes = involution_permutes i };
         second =
             record {
-              whole = length-table dart-limit (point-link m);
+              whole = length_table dart_limit (point_link m);
               permutes =
-                  subst (Permutes (dart-bound m) (is-present m)) (sym (point-table helpers-whole))
-                  (involution-permutes (point-involutes m));
+                  subst (Permutes (dart_bound m) (is_present m)) (sym (point_table helpers_whole))
+                  (involution_permutes (point_involutes m));
             };
       })

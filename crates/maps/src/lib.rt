@@ -1,7 +1,7 @@
 // Maps of darts: the empty map, and in modules what is read from a map.
 
 ghost use Rattle.std.specs.Prelude.{◌≡◌};
-ghost use Rattle.model.specs.Maps.{empty-map};
+ghost use Rattle.model.specs.Maps.{empty_map};
 
 use model::{Map, NO_DART, NONE_FREED, POINT_LIMIT};
 
@@ -13,7 +13,7 @@ pub mod traversal;
 
 // The empty map.
 pub fn empty_map() -> Map
-    ensures { result ≡ empty-map }
+    ensures { result ≡ empty_map }
 {
     let edge = arrays::fixed_links();
     Map {

@@ -2,17 +2,17 @@
 // no length is tested. Whether a point is one of the first points; a point; the partner of a dart.
 
 ghost use Rattle.std.specs.Prelude.{◌≡◌, ◌+◌, ◌<◌, length};
-ghost use Rattle.orbits.specs.Links.{link-of};
+ghost use Rattle.orbits.specs.Links.{link_of};
 ghost use Rattle.model.specs.Plane.{same_point};
 ghost use Rattle.model.specs.Maps.{point_at};
-ghost use Rattle.maps.specs.Places.{PlacesFor, new-at};
+ghost use Rattle.maps.specs.Places.{PlacesFor, new_at};
 
 use model::Point;
 
 // Whether p is none of the first n points.
 pub fn is_new<'a>(xs: &'a [i64], ys: &'a [i64], n: usize, p: Point) -> bool
     requires { PlacesFor xs.now ys.now n }
-    ensures { result ≡ new-at xs.now ys.now n p }
+    ensures { result ≡ new_at xs.now ys.now n p }
 {
     for j in 0..n {
         if is_at(xs, ys, j, p) {
@@ -41,7 +41,7 @@ pub fn point_held<'a>(xs: &'a [i64], ys: &'a [i64], k: usize) -> Point
 // The partner of dart d, for which there is a place.
 pub fn partner(edge: &[usize], d: usize) -> usize
     requires { d < length edge.now }
-    ensures { result ≡ link-of edge.now d }
+    ensures { result ≡ link_of edge.now d }
 {
     edge[d]
 }

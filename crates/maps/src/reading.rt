@@ -2,9 +2,9 @@
 // no dart of the map has no helper, is absent, is left where it is, and lies at 0, 0.
 
 ghost use Rattle.std.specs.Prelude.{◌≡◌, pos, get_or};
-ghost use Rattle.orbits.specs.Links.{link-of, test_of};
-ghost use Rattle.model.specs.Outline.{next-by, previous-by};
-ghost use Rattle.model.specs.Maps.{point_at, present-by};
+ghost use Rattle.orbits.specs.Links.{link_of, test_of};
+ghost use Rattle.model.specs.Outline.{next_by, previous_by};
+ghost use Rattle.model.specs.Maps.{point_at, present_by};
 
 use model::Point;
 use orbits::link_of;
@@ -18,7 +18,7 @@ pub fn has_helper(helpers: &[bool], k: usize) -> bool
 
 // Whether dart d is present in a map of so many points.
 pub fn is_present(helpers: &[bool], count: usize, d: usize) -> bool
-    ensures { result ≡ present-by (test_of helpers.now) count d }
+    ensures { result ≡ present_by (test_of helpers.now) count d }
 {
     if d / 2 < count {
         d % 2 == 0 || has_helper(helpers, d / 2)
@@ -29,7 +29,7 @@ pub fn is_present(helpers: &[bool], count: usize, d: usize) -> bool
 
 // The corner after corner a.
 pub fn next_corner(edge: &[usize], a: usize) -> usize
-    ensures { result ≡ next-by (link-of edge.now) a }
+    ensures { result ≡ next_by (link_of edge.now) a }
 {
     if a < edge.len() {
         link_of(edge, 2 * a) / 2
@@ -40,7 +40,7 @@ pub fn next_corner(edge: &[usize], a: usize) -> usize
 
 // The corner before corner a.
 pub fn previous_corner(edge: &[usize], a: usize) -> usize
-    ensures { result ≡ previous-by (link-of edge.now) a }
+    ensures { result ≡ previous_by (link_of edge.now) a }
 {
     if a < edge.len() {
         link_of(edge, 2 * a + 1) / 2

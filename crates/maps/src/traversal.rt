@@ -3,12 +3,12 @@
 
 ghost use Rattle.std.specs.Prelude.{◌≡◌, ◌≤◌, T};
 ghost use Rattle.finite.specs.Bounded.{count};
-ghost use Rattle.orbits.specs.Walks.{walk, walker-at};
+ghost use Rattle.orbits.specs.Walks.{walk, walker_at};
 ghost use Rattle.orbits.specs.Links.{test_of};
-ghost use Rattle.model.specs.Maps.{point-limit, own, is-present, edge-link, point-link};
+ghost use Rattle.model.specs.Maps.{point_limit, own, is_present, edge_link, point_link};
 ghost use Rattle.model.specs.Shape.{Shaped};
-ghost use Rattle.model.specs.Reading.{along, orbit-set, counts, darts};
-ghost use Rattle.model.specs.Maps.{present-by};
+ghost use Rattle.model.specs.Reading.{along, orbit_set, counts, darts};
+ghost use Rattle.model.specs.Maps.{present_by};
 
 use super::arrays::{present_darts, put_point_links};
 use super::reading::is_present;
@@ -18,8 +18,8 @@ use orbits::{DART_LIMIT, DartSet, Walk, Walker, compose, orbit, orbit_count, par
 
 // The orbit of a present dart: its edge, its vertex, its face, or its connected part.
 pub fn orbit_of(m: Map, kind: Kind, d: usize) -> DartSet
-    requires { Shaped m × T (is-present m d) }
-    ensures { result ≡ orbit-set m kind d }
+    requires { Shaped m × T (is_present m d) }
+    ensures { result ≡ orbit_set m kind d }
 {
     let n = m.count;
     let mut point = [0usize; DART_LIMIT];
@@ -63,8 +63,8 @@ pub fn counts_of(m: Map) -> Counts
 
 // How many darts are present in a map of so many points.
 fn dart_count(helpers: &[bool], points: usize) -> usize
-    requires { points ≤ point-limit }
-    ensures { result ≡ count (own points) (present-by (test_of helpers.now) points) }
+    requires { points ≤ point_limit }
+    ensures { result ≡ count (own points) (present_by (test_of helpers.now) points) }
 {
     let mut darts = 0;
     for d in 0..2 * points {
@@ -75,8 +75,8 @@ fn dart_count(helpers: &[bool], points: usize) -> usize
 
 // The walk from a dart, edge and point in turn.
 pub fn walk_of(m: Map, d: usize) -> Walk
-    requires { m.count ≤ point-limit }
-    ensures { result ≡ walk (edge-link m) (point-link m) (darts m) d }
+    requires { m.count ≤ point_limit }
+    ensures { result ≡ walk (edge_link m) (point_link m) (darts m) d }
 {
     let n = m.count;
     let mut point = [0usize; DART_LIMIT];
@@ -87,7 +87,7 @@ pub fn walk_of(m: Map, d: usize) -> Walk
 
 // A walker moved by a link of the map, or by none.
 pub fn moved(m: Map, link: Link, walker: Walker) -> Walker
-    ensures { result ≡ walker-at (along link m walker.dart) }
+    ensures { result ≡ walker_at (along link m walker.dart) }
 {
     match link {
         Link::None => walker,
@@ -98,14 +98,14 @@ pub fn moved(m: Map, link: Link, walker: Walker) -> Walker
 
 // The walker moved by the edge link.
 fn moved_by_edge(m: Map, walker: Walker) -> Walker
-    ensures { result ≡ walker-at (edge-link m walker.dart) }
+    ensures { result ≡ walker_at (edge_link m walker.dart) }
 {
     walker.moved(&m.edge)
 }
 
 // The walker moved by the point link.
 fn moved_by_point(m: Map, walker: Walker) -> Walker
-    ensures { result ≡ walker-at (point-link m walker.dart) }
+    ensures { result ≡ walker_at (point_link m walker.dart) }
 {
     let mut point = [0usize; DART_LIMIT];
     put_point_links(&m.helpers, &mut point);

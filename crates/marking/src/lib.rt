@@ -5,9 +5,9 @@
 ghost use Rattle.std.specs.Prelude.{◌≡◌, ◌+◌, ◌*◌, ◌<◌, get_or, length};
 ghost use Rattle.model.specs.Answers.{Answered};
 ghost use Rattle.model.specs.Plane.{origin};
-ghost use Rattle.model.specs.Maps.{empty-map};
-ghost use Rattle.model.specs.Marking.{mark-call, points-of};
-ghost use Rattle.marking.specs.Claims.{PointsTaken, RangedPlaces, claim-passes, edge_at};
+ghost use Rattle.model.specs.Maps.{empty_map};
+ghost use Rattle.model.specs.Marking.{mark_call, points_of};
+ghost use Rattle.marking.specs.Claims.{PointsTaken, RangedPlaces, claim_passes, edge_at};
 
 use admission::hashes::{admission_hashed, no_hashes, put_hash};
 use maps::support::is_supporting_edge;
@@ -16,7 +16,7 @@ use model::{Marked, Outcome, POINT_LIMIT, Point};
 // Whether a claim is right or wrong, or the first refusal met among the points: numbers 2, 3 and 4. Points are pairs
 // x, y; an odd last number names no point.
 pub fn mark(points: &[i64], claim: &[usize]) -> Marked
-    ensures { Answered (mark-call (points-of points.now) claim.now) result }
+    ensures { Answered (mark_call (points_of points.now) claim.now) result }
 {
     let mut xs = [0i64; POINT_LIMIT];
     let mut ys = [0i64; POINT_LIMIT];
@@ -35,8 +35,8 @@ pub fn mark(points: &[i64], claim: &[usize]) -> Marked
 // Whether all points of a list are accepted, offered one after another, or the first refusal met. Their coordinates
 // are written into two arrays that are lent empty.
 fn take_points(points: &[i64], xs: &mut [i64; POINT_LIMIT], ys: &mut [i64; POINT_LIMIT]) -> Outcome
-    requires { (xs.old ≡ empty-map.xs) × (ys.old ≡ empty-map.ys) }
-    ensures { PointsTaken (points-of points.now) result xs.new ys.new }
+    requires { (xs.old ≡ empty_map.xs) × (ys.old ≡ empty_map.ys) }
+    ensures { PointsTaken (points_of points.now) result xs.new ys.new }
 {
     let mut hashes = no_hashes();
     for k in 0..points.len() / 2 {
@@ -61,7 +61,7 @@ fn take_points(points: &[i64], xs: &mut [i64; POINT_LIMIT], ys: &mut [i64; POINT
 // Point k of a list of coordinates.
 fn pair_at(points: &[i64], k: usize) -> Point
     requires { 2 * k + 1 < length points.now }
-    ensures { result ≡ get_or (points-of points.now) k origin }
+    ensures { result ≡ get_or (points_of points.now) k origin }
 {
     let x = points[2 * k];
     let y = points[2 * k + 1];
@@ -71,7 +71,7 @@ fn pair_at(points: &[i64], k: usize) -> Point
 // Whether a claim is the corner listing of the first n points, begun at any corner.
 fn is_outline<'a>(xs: &'a [i64], ys: &'a [i64], n: usize, claim: &'a [usize]) -> bool
     requires { RangedPlaces xs.now ys.now n }
-    ensures { result ≡ claim-passes xs.now ys.now n claim.now }
+    ensures { result ≡ claim_passes xs.now ys.now n claim.now }
 {
     if claim.len() == 0 {
         return n == 0;

@@ -10,16 +10,16 @@ use lib.IntN.{ℤ, pos, ◌+ℤ◌, +ℤ_idl, +ℤ_idr, +ℤ_assoc}
 use lib.ListN.{get_or, take, drop, drop_of_length-le}
 use lib.Seq.{take-suc, drop-cons, get_or-take, length-take-le}
 use lib.Signed.{◌≤ℤ◌, ≤ℤ_refl}
-use Rattle.integers.specs.Order.{order, +ℤ-splits}
+use Rattle.integers.specs.Order.{order, +ℤ_splits}
 use Rattle.integers.specs.Sign.{sum_nonneg}
-use Rattle.integers.specs.Range.{Bounded, splits-bounded}
-use Rattle.finite.specs.Cycles.{Chain, Cycle, cycle-rotate}
+use Rattle.integers.specs.Range.{Bounded, splits_bounded}
+use Rattle.finite.specs.Cycles.{Chain, Cycle, cycle_rotate}
 use Rattle.model.specs.declared.Point.{Point}
 use Rattle.model.specs.Plane.{orientation}
 use Rattle.model.specs.Maps.{point_at}
-use Rattle.model.specs.Area.{path-sum, fan, area-limit}
-use Rattle.plane.proofs.Fan.{fan-swap, path-sum-nonneg}
-use Rattle.measures.specs.Areas.{corners-at, Fanned}
+use Rattle.model.specs.Area.{path_sum, fan, area_limit}
+use Rattle.plane.proofs.Fan.{fan_swap, path_sum_nonneg}
+use Rattle.measures.specs.Areas.{corners_at, Fanned}
 
 -- q sees no right turn from a to b
 abbrev NotRight : Point → Point → Point → Type 0
@@ -27,48 +27,48 @@ NotRight q a b = pos 0 ≤ℤ orientation q a b
 
 -- the way round s is at a, and still has to go along the rest
 pub record Summing (q : Point) (s : List Point) (total : ℤ) (a : Point) (rest : List Point) : Type 0 where
-  pub whole : total +ℤ path-sum q a rest ≡ fan q s
+  pub whole : total +ℤ path_sum q a rest ≡ fan q s
   pub so_far : pos 0 ≤ℤ total
   pub ahead : Chain (NotRight q) (a ∷ rest)
 
 module _ (q : Point) where
   -- from the last point, round the whole list
-  summing-first : (s : List Point) (z : Point) → Cycle (NotRight q) (s ++ z ∷ []) →
+  summing_first : (s : List Point) (z : Point) → Cycle (NotRight q) (s ++ z ∷ []) →
       Summing q (s ++ z ∷ []) (pos 0) z (s ++ z ∷ [])
   unfolding fan Cycle
-  summing-first s z c =
+  summing_first s z c =
       record {
-        whole = +ℤ_idl (path-sum q z (s ++ z ∷ [])) ∙ sym (fan-swap q s (z ∷ []));
+        whole = +ℤ_idl (path_sum q z (s ++ z ∷ [])) ∙ sym (fan_swap q s (z ∷ []));
         so_far = ≤ℤ_refl (pos 0);
-        ahead = cycle-rotate (NotRight q) s z [] c;
+        ahead = cycle_rotate (NotRight q) s z [] c;
       }
 
   module _ {s : List Point} {total : ℤ} {a : Point} where
-    summing-more : {b : Point} {rest : List Point} → Summing q s total a (b ∷ rest) →
+    summing_more : {b : Point} {rest : List Point} → Summing q s total a (b ∷ rest) →
         Summing q s (total +ℤ orientation q a b) b rest
-    unfolding path-sum Chain
-    summing-more {b} {rest} h =
+    unfolding path_sum Chain
+    summing_more {b} {rest} h =
         record {
-          whole = +ℤ_assoc total (orientation q a b) (path-sum q b rest) ∙ h.whole;
+          whole = +ℤ_assoc total (orientation q a b) (path_sum q b rest) ∙ h.whole;
           so_far = sum_nonneg h.so_far h.ahead.0;
           ahead = h.ahead.1;
         }
 
-    summing-last : Summing q s total a [] → total ≡ fan q s
-    unfolding path-sum
-    summing-last h = sym (+ℤ_idr total) ∙ h.whole
+    summing_last : Summing q s total a [] → total ≡ fan q s
+    unfolding path_sum
+    summing_last h = sym (+ℤ_idr total) ∙ h.whole
 
     -- no part is larger than the whole
-    summing-bounded : {rest : List Point} → Summing q s total a rest → fan q s ≤ℤ pos area-limit → Bounded area-limit total
-    summing-bounded {rest} h limit =
+    summing_bounded : {rest : List Point} → Summing q s total a rest → fan q s ≤ℤ pos area_limit → Bounded area_limit total
+    summing_bounded {rest} h limit =
         omega (
           arith,
           order,
-          splits-bounded,
+          splits_bounded,
           h.whole,
           h.so_far,
-          +ℤ-splits total (path-sum q a rest),
-          path-sum-nonneg q a rest h.ahead,
+          +ℤ_splits total (path_sum q a rest),
+          path_sum_nonneg q a rest h.ahead,
           limit,
         )
 
@@ -76,15 +76,15 @@ module _ (q : Point) where
 
 -- the way is at corner a, with the corners from place i on ahead
 pub record SummingAt (xs ys : List ℤ) (corners : List ℕ) (n : ℕ) (q : Point) (total : ℤ) (a i : ℕ) : Type 0 where
-  way : Summing q (corners-at xs ys corners n) total (point_at xs ys a) (map (point_at xs ys) (drop i (take n corners)))
+  way : Summing q (corners_at xs ys corners n) total (point_at xs ys a) (map (point_at xs ys) (drop i (take n corners)))
 
 module _ {xs ys : List ℤ} {corners : List ℕ} {n : ℕ} {q : Point} (f : Fanned xs ys corners n q) where
   -- the corners up to the last one, and the last one
-  last_apart : corners-at xs ys corners n ≡
+  last_apart : corners_at xs ys corners n ≡
       map (point_at xs ys) (take (n - 1) corners) ++ point_at xs ys (get_or corners (n - 1) 0) ∷ []
   last_apart =
       let count : n ≡ suc (n - 1) = omega (arith, f.some) in
-      ap (λ (k : ℕ). corners-at xs ys corners k) count
+      ap (λ (k : ℕ). corners_at xs ys corners k) count
       ∙ (ap (map (point_at xs ys)) (take-suc corners (n - 1) 0 (omega (arith, f.some, f.fits)))
       ∙ map-append (point_at xs ys) (take (n - 1) corners) (get_or corners (n - 1) 0 ∷ []))
 
@@ -93,20 +93,20 @@ module _ {xs ys : List ℤ} {corners : List ℕ} {n : ℕ} {q : Point} (f : Fann
       record {
         way =
             subst (λ (s : List Point). Summing q s (pos 0) (point_at xs ys (get_or corners (n - 1) 0)) s) (sym last_apart)
-            (summing-first q (map (point_at xs ys) (take (n - 1) corners)) (point_at xs ys (get_or corners (n - 1) 0))
+            (summing_first q (map (point_at xs ys) (take (n - 1) corners)) (point_at xs ys (get_or corners (n - 1) 0))
             (subst (Cycle (NotRight q)) last_apart f.terms));
       }
 
   module _ {total : ℤ} {a i : ℕ} (h : SummingAt xs ys corners n q total a i) where
-    pub within : Bounded area-limit total
-    within = summing-bounded q h.way f.limit
+    pub within : Bounded area_limit total
+    within = summing_bounded q h.way f.limit
 
     -- the corners ahead are these
-    ahead-are : (t : List ℕ) → drop i (take n corners) ≡ t →
-        Summing q (corners-at xs ys corners n) total (point_at xs ys a) (map (point_at xs ys) t)
-    ahead-are t e =
+    ahead_are : (t : List ℕ) → drop i (take n corners) ≡ t →
+        Summing q (corners_at xs ys corners n) total (point_at xs ys a) (map (point_at xs ys) t)
+    ahead_are t e =
         subst
-        (λ (u : List ℕ). Summing q (corners-at xs ys corners n) total (point_at xs ys a) (map (point_at xs ys) u)) e
+        (λ (u : List ℕ). Summing q (corners_at xs ys corners n) total (point_at xs ys a) (map (point_at xs ys) u)) e
         h.way
 
     pub one_more : i < n →
@@ -116,13 +116,13 @@ module _ {xs ys : List ℤ} {corners : List ℕ} {n : ℕ} {q : Point} (f : Fann
         record {
           way =
               rw add-one
-              (summing-more q
-              (ahead-are (get_or corners i 0 ∷ drop (suc i) (take n corners))
+              (summing_more q
+              (ahead_are (get_or corners i 0 ∷ drop (suc i) (take n corners))
               (drop-cons (take n corners) i 0 (omega (arith, length-take-le n corners f.fits))
               ∙ ap (λ (b : ℕ). b ∷ drop (suc i) (take n corners)) (get_or-take n corners i 0 l))));
         }
 
-    pub at-end : n ≤ i → total ≡ fan q (corners-at xs ys corners n)
-    at-end l =
-        summing-last q
-        (ahead-are [] (drop_of_length-le (take n corners) {i = i} (omega (arith, length-take-le n corners f.fits))))
+    pub at_end : n ≤ i → total ≡ fan q (corners_at xs ys corners n)
+    at_end l =
+        summing_last q
+        (ahead_are [] (drop_of_length-le (take n corners) {i = i} (omega (arith, length-take-le n corners f.fits))))

@@ -1,13 +1,13 @@
 // What is measured of the outline of a sound map: twice its area.
 
 ghost use Rattle.std.specs.Prelude.{◌≡◌};
-ghost use Rattle.model.specs.Answers.{answer-of};
+ghost use Rattle.model.specs.Answers.{answer_of};
 ghost use Rattle.model.specs.Plane.{orientation};
 ghost use Rattle.model.specs.Maps.{point_at};
 ghost use Rattle.model.specs.Shape.{Shaped};
 ghost use Rattle.model.specs.Area.{fan};
 ghost use Rattle.maps.specs.Places.{RangedQuery};
-ghost use Rattle.measures.specs.Areas.{Fanned, corners-at, sound-area-call};
+ghost use Rattle.measures.specs.Areas.{Fanned, corners_at, sound_area_call};
 
 use corners::listing::corners_of;
 use maps::reading::point_at;
@@ -18,7 +18,7 @@ use plane::orientation_in_range;
 // number 6. Fewer than three points give 0 for any place.
 pub fn area_of(map: Map, place: usize) -> Doubled
     requires { Shaped map }
-    ensures { result ≡ answer-of (sound-area-call map place) }
+    ensures { result ≡ answer_of (sound_area_call map place) }
 {
     if map.count < 3 {
         return Doubled::Value(0);
@@ -36,7 +36,7 @@ pub fn area_of(map: Map, place: usize) -> Doubled
 // to the first and so on. No triangle is negative, so no part of the sum is larger than the whole.
 fn fan_from<'a>(xs: &'a [i64], ys: &'a [i64], corners: &'a [usize], count: usize, q: Point) -> i64
     requires { Fanned xs.now ys.now corners.now count q }
-    ensures { result ≡ fan q (corners-at xs.now ys.now corners.now count) }
+    ensures { result ≡ fan q (corners_at xs.now ys.now corners.now count) }
 {
     let mut total = 0i64;
     let mut a = corners[count - 1];

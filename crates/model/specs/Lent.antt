@@ -8,38 +8,38 @@ use Rattle.finite.specs.Overwriting.{over}
 use Rattle.model.specs.declared.Refusal.{Refusal}
 use Rattle.model.specs.declared.Written.{Written}
 use Rattle.model.specs.Refusals.{Rule, ◌when◌, unless}
-use Rattle.model.specs.Answers.{Call, Answered, written-answer}
+use Rattle.model.specs.Answers.{Call, Answered, written_answer}
 
 -- the list is shorter than the result
-abbrev pub is-short : {A : Type 0} → List A → List A → Bool
-is-short result lent = ltb (length lent) (length result)
+abbrev pub is_short : {A : Type 0} → List A → List A → Bool
+is_short result lent = ltb (length lent) (length result)
 
 -- number 10 after the other rules
-abbrev pub and-short : List Rule → Bool → List Rule
-and-short rules short = rules ++ (Refusal.ShortList when short) ∷ []
+abbrev pub and_short : List Rule → Bool → List Rule
+and_short rules short = rules ++ (Refusal.ShortList when short) ∷ []
 
 module _ {A : Type 0} (rules : List Rule) (result lent : List A) where
   -- a call that writes `result` into the list, after the rules that come before 10
   abbrev pub writing : Call Written
   writing =
       record {
-        meaning = written-answer;
+        meaning = written_answer;
         refuse = Written.Refused;
-        rules = and-short rules (is-short result lent);
+        rules = and_short rules (is_short result lent);
         value = Written.Length (length result);
       }
 
 -- what the list holds after a call, by all of its rules, number 10 among them: what it held where
 -- one applies, and otherwise the result over its front
-abbrev pub lent-after : {A : Type 0} → List Rule → List A → List A → List A
-lent-after rules result lent = unless (λ r. lent) rules (over result lent)
+abbrev pub lent_after : {A : Type 0} → List Rule → List A → List A → List A
+lent_after rules result lent = unless (λ r. lent) rules (over result lent)
 
 -- what an entry promises that is lent a list: its answer, and the list as it leaves it
 pub record Wrote {A : Type 0} (rules : List Rule) (result before after : List A) (r : Written) : Type 0 where
   pub answer : Answered (writing rules result before) r
-  pub list : after ≡ lent-after (writing rules result before).rules result before
+  pub list : after ≡ lent_after (writing rules result before).rules result before
 
 -- the same, where `short` says that there is not room for all that is asked, this result and others
 pub record WroteBy {A : Type 0} (rules : List Rule) (short : Bool) (result before after : List A) (r : Written) : Type 0 where
-  pub answer : r ≡ unless Written.Refused (and-short rules short) (Written.Length (length result))
-  pub list : after ≡ lent-after (and-short rules short) result before
+  pub answer : r ≡ unless Written.Refused (and_short rules short) (Written.Length (length result))
+  pub list : after ≡ lent_after (and_short rules short) result before

@@ -7,19 +7,19 @@
 use Rattle.std.specs.Prelude.{Bool, false, cond, ◌&&◌, ◌||◌, List, ℕ, ◌+◌, ◌*◌, ◌/◌, ◌%◌, ltb, eqb, ℤ, pos, get_or, replicate}
 use Rattle.std.specs.Borrow.{Bor}
 use Rattle.finite.specs.Bounded.{table}
-use Rattle.orbits.specs.Sets.{dart-limit}
-use Rattle.orbits.specs.Links.{link-of, test_of}
+use Rattle.orbits.specs.Sets.{dart_limit}
+use Rattle.orbits.specs.Links.{link_of, test_of}
 use Rattle.model.specs.declared.Point.{Point}
 use Rattle.model.specs.declared.Note.{Note}
 use Rattle.model.specs.declared.Map.{Map}
 
 -- "A map has at most 512 points"
-abbrev pub point-limit : ℕ
-point-limit = 512
+abbrev pub point_limit : ℕ
+point_limit = 512
 
 -- "The reference is a dart number; 1,024 means none"
-abbrev pub no-dart : ℕ
-no-dart = dart-limit
+abbrev pub no_dart : ℕ
+no_dart = dart_limit
 
 -- "Point k owns dart 2k and may have the helper dart 2k + 1"
 abbrev pub own : ℕ → ℕ
@@ -32,75 +32,75 @@ helper k = 2 * k + 1
 abbrev pub owner : ℕ → ℕ
 owner d = d / 2
 
-abbrev pub is-own : ℕ → Bool
-is-own d = eqb (d % 2) 0
+abbrev pub is_own : ℕ → Bool
+is_own d = eqb (d % 2) 0
 
 -- the other dart of the same point
-unfoldable pub other-dart : ℕ → ℕ
-other-dart d = cond (is-own d) (helper (owner d)) (own (owner d))
+unfoldable pub other_dart : ℕ → ℕ
+other_dart d = cond (is_own d) (helper (owner d)) (own (owner d))
 
 -- the point numbered k, by its coordinates
 abbrev pub point_at : List ℤ → List ℤ → ℕ → Point
 point_at xs ys k = record { x = get_or xs k (pos 0); y = get_or ys k (pos 0) }
 
 -- "Dart 2k is present for every point k. A helper is present or not. No other dart is present."
-abbrev pub present-by : (ℕ → Bool) → ℕ → ℕ → Bool
-present-by helped count d = ltb (owner d) count && (is-own d || helped (owner d))
+abbrev pub present_by : (ℕ → Bool) → ℕ → ℕ → Bool
+present_by helped count d = ltb (owner d) count && (is_own d || helped (owner d))
 
 -- "The point link joins 2k and 2k + 1 where the helper is present; else it fixes 2k."
-abbrev pub point-link-by : (ℕ → Bool) → ℕ → ℕ
-point-link-by helped d = cond (helped (owner d)) (other-dart d) d
+abbrev pub point_link_by : (ℕ → Bool) → ℕ → ℕ
+point_link_by helped d = cond (helped (owner d)) (other_dart d) d
 
 -- "The map gains for each point its arrival (0 first, 1 second, 2 inside, 3 outside) and the two freed
 -- darts": what is noted of the point numbered k, by the arrays
-abbrev pub note-at : List ℕ → List ℕ → List ℕ → ℕ → Note
-note-at arrivals lefts rights k =
-    record { arrival = get_or arrivals k 0; left = get_or lefts k no-dart; right = get_or rights k no-dart }
+abbrev pub note_at : List ℕ → List ℕ → List ℕ → ℕ → Note
+note_at arrivals lefts rights k =
+    record { arrival = get_or arrivals k 0; left = get_or lefts k no_dart; right = get_or rights k no_dart }
 
 -- "A place without a point holds 0, 1,024, 1,024."
 abbrev pub no_note : Note
-no_note = record { arrival = 0; left = no-dart; right = no-dart }
+no_note = record { arrival = 0; left = no_dart; right = no_dart }
 
 -- the same of a map; both links leave a number that is no dart where it is
 unfoldable pub point : Map → ℕ → Point
 point m = point_at m.xs m.ys
 
-unfoldable pub has-helper : Map → ℕ → Bool
-has-helper m = test_of m.helpers
+unfoldable pub has_helper : Map → ℕ → Bool
+has_helper m = test_of m.helpers
 
-unfoldable pub is-present : Map → ℕ → Bool
-is-present m = present-by (has-helper m) m.count
+unfoldable pub is_present : Map → ℕ → Bool
+is_present m = present_by (has_helper m) m.count
 
-unfoldable pub edge-link : Map → ℕ → ℕ
-edge-link m = link-of m.edge
+unfoldable pub edge_link : Map → ℕ → ℕ
+edge_link m = link_of m.edge
 
-unfoldable pub point-link : Map → ℕ → ℕ
-point-link m = point-link-by (has-helper m)
+unfoldable pub point_link : Map → ℕ → ℕ
+point_link m = point_link_by (has_helper m)
 
 unfoldable pub note : Map → ℕ → Note
-note m = note-at m.arrivals m.lefts m.rights
+note m = note_at m.arrivals m.lefts m.rights
 
 -- "edge link, then point link"
-unfoldable pub face-link : Map → ℕ → ℕ
-face-link m d = point-link m (edge-link m d)
+unfoldable pub face_link : Map → ℕ → ℕ
+face_link m d = point_link m (edge_link m d)
 
 -- the darts of the points lie below this bound
-abbrev pub dart-bound : Map → ℕ
-dart-bound m = own m.count
+abbrev pub dart_bound : Map → ℕ
+dart_bound m = own m.count
 
 -- "the empty map, which is the sound map without points"
-unfoldable pub empty-map : Map
-empty-map =
+unfoldable pub empty_map : Map
+empty_map =
     record {
-      xs = replicate point-limit (pos 0);
-      ys = replicate point-limit (pos 0);
-      helpers = replicate point-limit false;
-      edge = table dart-limit (λ d. d);
-      arrivals = replicate point-limit 0;
-      lefts = replicate point-limit no-dart;
-      rights = replicate point-limit no-dart;
+      xs = replicate point_limit (pos 0);
+      ys = replicate point_limit (pos 0);
+      helpers = replicate point_limit false;
+      edge = table dart_limit (λ d. d);
+      arrivals = replicate point_limit 0;
+      lefts = replicate point_limit no_dart;
+      rights = replicate point_limit no_dart;
       count = 0;
-      reference = no-dart;
+      reference = no_dart;
     }
 
 -- ---- a map by its arrays
@@ -123,21 +123,21 @@ map_of xs ys helpers edge arrivals lefts rights count reference =
     }
 
 -- the map whose arrays are lent
-abbrev pub map-lent : Bor (List ℤ) → Bor (List ℤ) → Bor (List Bool) → Bor (List ℕ) →
+abbrev pub map_lent : Bor (List ℤ) → Bor (List ℤ) → Bor (List Bool) → Bor (List ℕ) →
     Bor (List ℕ) → Bor (List ℕ) → Bor (List ℕ) → ℕ → ℕ → Map
-map-lent xs ys helpers edge arrivals lefts rights =
+map_lent xs ys helpers edge arrivals lefts rights =
     map_of xs.now ys.now helpers.now edge.now arrivals.now lefts.now rights.now
 
 -- where the coordinates alone are lent: the map m with these, and its other fields as they are ..
-abbrev pub with-coordinates : Map → List ℤ → List ℤ → ℕ → Map
-with-coordinates m xs ys count =
+abbrev pub with_coordinates : Map → List ℤ → List ℤ → ℕ → Map
+with_coordinates m xs ys count =
     map_of xs ys m.helpers m.edge m.arrivals m.lefts m.rights count m.reference
 
 -- .. and where the edge links are lent too: the map m with this outline
-abbrev pub with-outline : Map → List ℤ → List ℤ → List ℕ → ℕ → ℕ → Map
-with-outline m xs ys edge count reference =
+abbrev pub with_outline : Map → List ℤ → List ℤ → List ℕ → ℕ → ℕ → Map
+with_outline m xs ys edge count reference =
     map_of xs ys m.helpers edge m.arrivals m.lefts m.rights count reference
 
 -- the points of a map, in their order
-abbrev pub map-points : Map → List Point
-map-points m = table m.count (point m)
+abbrev pub map_points : Map → List Point
+map_points m = table m.count (point m)

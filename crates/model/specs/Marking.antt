@@ -5,36 +5,36 @@
 -- the definition; the code builds none.
 use Rattle.std.specs.Prelude.{Bool, cond, List, [], ◌∷◌, ◌++◌, ℕ, suc, ℤ, length, take, drop}
 use Rattle.finite.specs.Bounded.{any}
-use Rattle.finite.specs.Lists.{same-list}
+use Rattle.finite.specs.Lists.{same_list}
 use Rattle.model.specs.declared.Point.{Point}
 use Rattle.model.specs.declared.Marked.{Marked}
-use Rattle.model.specs.Answers.{Call, marked-answer}
+use Rattle.model.specs.Answers.{Call, marked_answer}
 use Rattle.model.specs.Plane.{at}
-use Rattle.model.specs.Maps.{empty-map}
+use Rattle.model.specs.Maps.{empty_map}
 use Rattle.model.specs.Outline.{corners}
-use Rattle.model.specs.Building.{building-rules, built}
+use Rattle.model.specs.Building.{building_rules, built}
 
 -- x and y in turn; an odd last number names no point
-unfoldable pub points-of : List ℤ → List Point
-points-of [] = []
-points-of (x ∷ []) = []
-points-of (x ∷ y ∷ s) = at x y ∷ points-of s
+unfoldable pub points_of : List ℤ → List Point
+points_of [] = []
+points_of (x ∷ []) = []
+points_of (x ∷ y ∷ s) = at x y ∷ points_of s
 
 -- a listing begun at its place i
-unfoldable pub begun-at : ℕ → List ℕ → List ℕ
-begun-at i s = drop i s ++ take i s
+unfoldable pub begun_at : ℕ → List ℕ → List ℕ
+begun_at i s = drop i s ++ take i s
 
 -- "the claim is the corner listing, begun at any corner"; where there is no corner, the empty claim
-unfoldable pub is-rotation : List ℕ → List ℕ → Bool
-is-rotation claim s = any (suc (length s)) (λ i. same-list claim (begun-at i s))
+unfoldable pub is_rotation : List ℕ → List ℕ → Bool
+is_rotation claim s = any (suc (length s)) (λ i. same_list claim (begun_at i s))
 
 -- "A point list whose offers from empty are not all accepted returns the first refusal met." A claim with a
 -- number beyond the points is no listing.
-abbrev pub mark-call : List Point → List ℕ → Call Marked
-mark-call ps claim =
+abbrev pub mark_call : List Point → List ℕ → Call Marked
+mark_call ps claim =
     record {
-      meaning = marked-answer;
+      meaning = marked_answer;
       refuse = Marked.Refused;
-      rules = building-rules empty-map ps;
-      value = cond (is-rotation claim (corners (built empty-map ps))) Marked.Right Marked.Wrong;
+      rules = building_rules empty_map ps;
+      value = cond (is_rotation claim (corners (built empty_map ps))) Marked.Right Marked.Wrong;
     }

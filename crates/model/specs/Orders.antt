@@ -8,95 +8,95 @@ use Rattle.model.specs.declared.Map.{Map}
 use Rattle.model.specs.declared.Kind.{Kind}
 use Rattle.model.specs.declared.Link.{Link}
 use Rattle.model.specs.Refusals.{number, Rule}
-use Rattle.model.specs.Plane.{orientation-call}
+use Rattle.model.specs.Plane.{orientation_call}
 use Rattle.model.specs.Outline.{corners}
-use Rattle.model.specs.Reading.{unsound, counts-call, orbit-call, walk_call, walker-call}
-use Rattle.model.specs.Offers.{offer-call}
-use Rattle.model.specs.Removal.{remove-call}
-use Rattle.model.specs.Placing.{place-call}
+use Rattle.model.specs.Reading.{unsound, counts_call, orbit_call, walk_call, walker_call}
+use Rattle.model.specs.Offers.{offer_call}
+use Rattle.model.specs.Removal.{remove_call}
+use Rattle.model.specs.Placing.{place_call}
 use Rattle.model.specs.Lent.{writing}
-use Rattle.model.specs.Saved.{saved, load-call}
-use Rattle.model.specs.Text.{line-call}
-use Rattle.model.specs.Report.{report-rules, report}
-use Rattle.model.specs.Outlines.{coordinates, corner-points, corners-spelt, outline-rules, outline-text}
-use Rattle.model.specs.Area.{area-call}
-use Rattle.model.specs.Building.{building-rules}
-use Rattle.model.specs.Marking.{mark-call}
+use Rattle.model.specs.Saved.{saved, load_call}
+use Rattle.model.specs.Text.{line_call}
+use Rattle.model.specs.Report.{report_rules, report}
+use Rattle.model.specs.Outlines.{coordinates, corner_points, corners_spelt, outline_rules, outline_text}
+use Rattle.model.specs.Area.{area_call}
+use Rattle.model.specs.Building.{building_rules}
+use Rattle.model.specs.Marking.{mark_call}
 
 abbrev pub numbers_of : List Rule → List ℕ
 numbers_of rules = map (λ rule. number rule.refusal) rules
 
-module _ (m : Map) (p q r : Point) (kind : Kind) (link : Link) (d : ℕ) (s lent : List ℕ) (coordinates-lent : List ℤ) where
-  pub orientation-order : numbers_of (orientation-call p q r).rules ≡ 3 ∷ []
+module _ (m : Map) (p q r : Point) (kind : Kind) (link : Link) (d : ℕ) (s lent : List ℕ) (coordinates_lent : List ℤ) where
+  pub orientation_order : numbers_of (orientation_call p q r).rules ≡ 3 ∷ []
   unfolding number
-  orientation-order = refl
+  orientation_order = refl
 
-  pub offer-order : numbers_of (offer-call m p).rules ≡ 1 ∷ 2 ∷ 3 ∷ 4 ∷ []
+  pub offer_order : numbers_of (offer_call m p).rules ≡ 1 ∷ 2 ∷ 3 ∷ 4 ∷ []
   unfolding number
-  offer-order = refl
+  offer_order = refl
 
   -- "13, after 1"
-  pub remove-order : numbers_of (remove-call m).rules ≡ 1 ∷ 13 ∷ []
+  pub remove_order : numbers_of (remove_call m).rules ≡ 1 ∷ 13 ∷ []
   unfolding number
-  remove-order = refl
+  remove_order = refl
 
-  pub counts-order : numbers_of (counts-call m).rules ≡ 1 ∷ []
+  pub counts_order : numbers_of (counts_call m).rules ≡ 1 ∷ []
   unfolding number
-  counts-order = refl
+  counts_order = refl
 
-  pub orbit-order : numbers_of (orbit-call m kind d).rules ≡ 1 ∷ 6 ∷ []
+  pub orbit_order : numbers_of (orbit_call m kind d).rules ≡ 1 ∷ 6 ∷ []
   unfolding number
-  orbit-order = refl
+  orbit_order = refl
 
-  pub walk-order : numbers_of (walk_call m d).rules ≡ 1 ∷ 6 ∷ []
+  pub walk_order : numbers_of (walk_call m d).rules ≡ 1 ∷ 6 ∷ []
   unfolding number
-  walk-order = refl
+  walk_order = refl
 
-  pub walker-order : numbers_of (walker-call m link d).rules ≡ 1 ∷ 6 ∷ []
+  pub walker_order : numbers_of (walker_call m link d).rules ≡ 1 ∷ 6 ∷ []
   unfolding number
-  walker-order = refl
+  walker_order = refl
 
-  pub place-order : numbers_of (place-call m p).rules ≡ 1 ∷ 3 ∷ []
+  pub place_order : numbers_of (place_call m p).rules ≡ 1 ∷ 3 ∷ []
   unfolding number
-  place-order = refl
+  place_order = refl
 
-  pub list-order : numbers_of (writing (unsound m ∷ []) (corners m) lent).rules ≡ 1 ∷ 10 ∷ []
+  pub list_order : numbers_of (writing (unsound m ∷ []) (corners m) lent).rules ≡ 1 ∷ 10 ∷ []
   unfolding number
-  list-order = refl
+  list_order = refl
 
-  pub save-order : numbers_of (writing (unsound m ∷ []) (saved m) lent).rules ≡ 1 ∷ 10 ∷ []
+  pub save_order : numbers_of (writing (unsound m ∷ []) (saved m) lent).rules ≡ 1 ∷ 10 ∷ []
   unfolding number
-  save-order = refl
+  save_order = refl
 
-  pub load-order : numbers_of (load-call s).rules ≡ 7 ∷ 1 ∷ []
+  pub load_order : numbers_of (load_call s).rules ≡ 7 ∷ 1 ∷ []
   unfolding number
-  load-order = refl
+  load_order = refl
 
-  pub line-order : numbers_of (line-call s).rules ≡ 8 ∷ []
+  pub line_order : numbers_of (line_call s).rules ≡ 8 ∷ []
   unfolding number
-  line-order = refl
+  line_order = refl
 
-  pub report-order : numbers_of (writing (report-rules s) (report s) lent).rules ≡ 9 ∷ 10 ∷ []
+  pub report_order : numbers_of (writing (report_rules s) (report s) lent).rules ≡ 9 ∷ 10 ∷ []
   unfolding number
-  report-order = refl
+  report_order = refl
 
-  pub write-outline-order :
-      numbers_of (writing (unsound m ∷ []) (outline-text (corner-points m)) lent).rules ≡ 1 ∷ 10 ∷ []
+  pub write_outline_order :
+      numbers_of (writing (unsound m ∷ []) (outline_text (corner_points m)) lent).rules ≡ 1 ∷ 10 ∷ []
   unfolding number
-  write-outline-order = refl
+  write_outline_order = refl
 
   -- "11, after 9 and before 3 ..; 12, after 3 and before 10"
-  pub read-outline-order :
-      numbers_of (writing (outline-rules s) (coordinates (corners-spelt s)) coordinates-lent).rules
+  pub read_outline_order :
+      numbers_of (writing (outline_rules s) (coordinates (corners_spelt s)) coordinates_lent).rules
       ≡ 9 ∷ 11 ∷ 3 ∷ 12 ∷ 10 ∷ []
   unfolding number
-  read-outline-order = refl
+  read_outline_order = refl
 
-  pub area-order : numbers_of (area-call m d).rules ≡ 1 ∷ 6 ∷ []
+  pub area_order : numbers_of (area_call m d).rules ≡ 1 ∷ 6 ∷ []
   unfolding number
-  area-order = refl
+  area_order = refl
 
   -- "the first refusal met": all of a point's before those of the next
-  pub mark-order : numbers_of (mark-call (p ∷ q ∷ []) s).rules ≡ 2 ∷ 3 ∷ 4 ∷ 2 ∷ 3 ∷ 4 ∷ []
-  unfolding number building-rules
-  mark-order = refl
+  pub mark_order : numbers_of (mark_call (p ∷ q ∷ []) s).rules ≡ 2 ∷ 3 ∷ 4 ∷ 2 ∷ 3 ∷ 4 ∷ []
+  unfolding number building_rules
+  mark_order = refl

@@ -6,46 +6,46 @@
 -- it.
 use Rattle.std.specs.Prelude.{Bool, not, cond, List, [], ℕ, ltb}
 use Rattle.finite.specs.Bounded.{table}
-use Rattle.finite.specs.Lists.{all_in, count-in, first-in, ring}
+use Rattle.finite.specs.Lists.{all_in, count_in, first_in, ring}
 use Rattle.model.specs.declared.Point.{Point}
 use Rattle.model.specs.declared.Map.{Map}
-use Rattle.model.specs.Plane.{sees-edge, lower}
-use Rattle.model.specs.Maps.{own, helper, owner, point, edge-link}
+use Rattle.model.specs.Plane.{sees_edge, lower}
+use Rattle.model.specs.Maps.{own, helper, owner, point, edge_link}
 
 -- the end of the edge that leaves a corner, and the start of the edge that enters it, by the edge link
-abbrev pub next-by : (ℕ → ℕ) → ℕ → ℕ
-next-by edge a = owner (edge (own a))
+abbrev pub next_by : (ℕ → ℕ) → ℕ → ℕ
+next_by edge a = owner (edge (own a))
 
-abbrev pub previous-by : (ℕ → ℕ) → ℕ → ℕ
-previous-by edge a = owner (edge (helper a))
+abbrev pub previous_by : (ℕ → ℕ) → ℕ → ℕ
+previous_by edge a = owner (edge (helper a))
 
-unfoldable pub next-corner : Map → ℕ → ℕ
-next-corner m = next-by (edge-link m)
+unfoldable pub next_corner : Map → ℕ → ℕ
+next_corner m = next_by (edge_link m)
 
-unfoldable pub previous-corner : Map → ℕ → ℕ
-previous-corner m = previous-by (edge-link m)
+unfoldable pub previous_corner : Map → ℕ → ℕ
+previous_corner m = previous_by (edge_link m)
 
 -- a, the corner after it, and so on round to the corner before it
-unfoldable pub corners-from : Map → ℕ → List ℕ
-corners-from m a = ring (next-corner m) a m.count a
+unfoldable pub corners_from : Map → ℕ → List ℕ
+corners_from m a = ring (next_corner m) a m.count a
 
 -- the outline from the reference's point: with fewer than two points there is none
 unfoldable pub outline : Map → List ℕ
-outline m = cond (ltb m.count 2) [] (corners-from m (owner m.reference))
+outline m = cond (ltb m.count 2) [] (corners_from m (owner m.reference))
 
 -- p sees the edge that leaves corner a: what an arrival goes by
 unfoldable pub sees : Map → Point → ℕ → Bool
-sees m p a = sees-edge (point m a) (point m (next-corner m a)) p
+sees m p a = sees_edge (point m a) (point m (next_corner m a)) p
 
 -- the number of outline edges visible from p
-unfoldable pub visible-edges : Map → Point → ℕ
-visible-edges m p = count-in (sees m p) (outline m)
+unfoldable pub visible_edges : Map → Point → ℕ
+visible_edges m p = count_in (sees m p) (outline m)
 
 -- the corner with "the smallest y, then the smallest x"
-unfoldable pub lowest-corner : Map → ℕ
-lowest-corner m =
-    first-in (λ a. all_in (λ b. not (lower (point m b) (point m a))) (outline m)) 0 (outline m)
+unfoldable pub lowest_corner : Map → ℕ
+lowest_corner m =
+    first_in (λ a. all_in (λ b. not (lower (point m b) (point m a))) (outline m)) 0 (outline m)
 
 -- the corners in listing order
 unfoldable pub corners : Map → List ℕ
-corners m = cond (ltb m.count 2) (table m.count (λ k. k)) (corners-from m (lowest-corner m))
+corners m = cond (ltb m.count 2) (table m.count (λ k. k)) (corners_from m (lowest_corner m))

@@ -5,22 +5,22 @@
 -- requests 105 and 106. The numbers are whole numbers without a bound: a `Point` of antt holds two of ℤ.
 use Rattle.std.specs.Prelude.{Bool, not, ◌&&◌, ◌||◌, [], ◌∷◌, ℕ, ◌*◌, ℤ, pos, neg_ℤ, ◌+ℤ◌, ◌-ℤ◌, ◌*ℤ◌}
 use Rattle.std.specs.Int.Signed.{lt_z, le_z}
-use Rattle.integers.specs.Order.{eqZ}
+use Rattle.integers.specs.Order.{eq_z}
 use Rattle.model.specs.declared.Refusal.{Refusal}
 use Rattle.model.specs.declared.Point.{Point}
 use Rattle.model.specs.declared.Oriented.{Oriented}
 use Rattle.model.specs.Refusals.{◌when◌}
-use Rattle.model.specs.Answers.{Call, answer-of, oriented-answer}
+use Rattle.model.specs.Answers.{Call, answer_of, oriented_answer}
 
 -- "from -1,000,000,000 to 1,000,000,000"
-abbrev pub coordinate-limit : ℕ
-coordinate-limit = 1_000_000_000
+abbrev pub coordinate_limit : ℕ
+coordinate_limit = 1_000_000_000
 
-unfoldable pub coordinate-in-range : ℤ → Bool
-coordinate-in-range z = le_z (neg_ℤ (pos coordinate-limit)) z && le_z z (pos coordinate-limit)
+unfoldable pub coordinate_in_range : ℤ → Bool
+coordinate_in_range z = le_z (neg_ℤ (pos coordinate_limit)) z && le_z z (pos coordinate_limit)
 
-unfoldable pub in-range : Point → Bool
-in-range p = coordinate-in-range p.x && coordinate-in-range p.y
+unfoldable pub in_range : Point → Bool
+in_range p = coordinate_in_range p.x && coordinate_in_range p.y
 
 -- the point of two coordinates, and the point 0, 0
 abbrev pub at : ℤ → ℤ → Point
@@ -31,56 +31,56 @@ origin = at (pos 0) (pos 0)
 
 -- equal points
 unfoldable pub same_point : Point → Point → Bool
-same_point p q = eqZ p.x q.x && eqZ p.y q.y
+same_point p q = eq_z p.x q.x && eq_z p.y q.y
 
 -- "Orientation of (a, b, c) is (bx - ax) × (cy - ay) - (by - ay) × (cx - ax)"
 unfoldable pub orientation : Point → Point → Point → ℤ
 orientation a b c = (b.x -ℤ a.x) *ℤ (c.y -ℤ a.y) -ℤ (b.y -ℤ a.y) *ℤ (c.x -ℤ a.x)
 
 -- "from -4 × 10^18 to 4 × 10^18"
-abbrev pub orientation-limit : ℕ
-orientation-limit = 4 * (coordinate-limit * coordinate-limit)
+abbrev pub orientation_limit : ℕ
+orientation_limit = 4 * (coordinate_limit * coordinate_limit)
 
 -- "Positive is a left turn": c is strictly left of the edge from a to b
-unfoldable pub left-of : Point → Point → Point → Bool
-left-of a b c = lt_z (pos 0) (orientation a b c)
+unfoldable pub left_of : Point → Point → Point → Bool
+left_of a b c = lt_z (pos 0) (orientation a b c)
 
 -- "negative means edge a to b is visible from c": strictly visible, as a placed point sees it
-unfoldable pub visible-from : Point → Point → Point → Bool
-visible-from a b c = lt_z (orientation a b c) (pos 0)
+unfoldable pub visible_from : Point → Point → Point → Bool
+visible_from a b c = lt_z (orientation a b c) (pos 0)
 
 -- "zero is in line": neither of the two
-unfoldable pub in-line : Point → Point → Point → Bool
-in-line a b c = not (left-of a b c) && not (visible-from a b c)
+unfoldable pub in_line : Point → Point → Point → Bool
+in_line a b c = not (left_of a b c) && not (visible_from a b c)
 
 -- p lies in line with a and b and strictly between them: a and b lie on opposite sides of p
-unfoldable pub strictly-between : Point → Point → Point → Bool
-strictly-between a b p =
-    in-line a b p && lt_z ((a.x -ℤ p.x) *ℤ (b.x -ℤ p.x) +ℤ (a.y -ℤ p.y) *ℤ (b.y -ℤ p.y)) (pos 0)
+unfoldable pub strictly_between : Point → Point → Point → Bool
+strictly_between a b p =
+    in_line a b p && lt_z ((a.x -ℤ p.x) *ℤ (b.x -ℤ p.x) +ℤ (a.y -ℤ p.y) *ℤ (b.y -ℤ p.y)) (pos 0)
 
 -- "positive orientation, or zero and lie between the edge's ends": c lies beside the edge from a to b,
 -- left of it or on it, as all other points of a sound map lie beside each outline edge
 unfoldable pub beside : Point → Point → Point → Bool
-beside a b c = left-of a b c || strictly-between a b c
+beside a b c = left_of a b c || strictly_between a b c
 
 -- "visible also when the point is on its line but not between its ends": a point c that arrives sees the
 -- edge from a to b, which it is not beside
-unfoldable pub sees-edge : Point → Point → Point → Bool
-sees-edge a b c = not (beside a b c)
+unfoldable pub sees_edge : Point → Point → Point → Bool
+sees_edge a b c = not (beside a b c)
 
 -- the orientation of three points, or number 3
-abbrev pub orientation-call : Point → Point → Point → Call Oriented
-orientation-call a b c =
+abbrev pub orientation_call : Point → Point → Point → Call Oriented
+orientation_call a b c =
     record {
-      meaning = oriented-answer;
+      meaning = oriented_answer;
       refuse = Oriented.Refused;
-      rules = (Refusal.OutOfRange when not (in-range a && in-range b && in-range c)) ∷ [];
+      rules = (Refusal.OutOfRange when not (in_range a && in_range b && in_range c)) ∷ [];
       value = Oriented.Value (orientation a b c);
     }
 
 unfoldable pub oriented : Point → Point → Point → Oriented
-oriented a b c = answer-of (orientation-call a b c)
+oriented a b c = answer_of (orientation_call a b c)
 
 -- p comes before q in "the smallest y, then the smallest x"
 unfoldable pub lower : Point → Point → Bool
-lower p q = lt_z p.y q.y || (eqZ p.y q.y && lt_z p.x q.x)
+lower p q = lt_z p.y q.y || (eq_z p.y q.y && lt_z p.x q.x)

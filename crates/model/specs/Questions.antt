@@ -3,31 +3,31 @@
 -- number 5 and its case, (2,2) after four points: what that offer gets now is one of our questions.
 use mathlib.Core.List.{List, [], ◌∷◌, map, flat_map, flatten}
 use Rattle.std.specs.Prelude.{ℕ, ◌+◌, ◌^◌, T, ℤ, pos, neg_ℤ, take, replicate}
-use Rattle.finite.specs.Bounded.{all, any, sum, count, one-if, table-onto, table}
-use Rattle.finite.specs.Lists.{elem, same_by, same-list, all_in, all-places, any-in, count-in, first-in, before, beyond, ring, insert, union}
+use Rattle.finite.specs.Bounded.{all, any, sum, count, one_if, table_onto, table}
+use Rattle.finite.specs.Lists.{elem, same_by, same_list, all_in, all_places, any_in, count_in, first_in, before, beyond, ring, insert, union}
 use Rattle.orbits.specs.Reach.{spread, reached, reaches}
-use Rattle.orbits.specs.Classes.{is-least, classes, is-fixed, is-closed, closed-walks}
-use Rattle.orbits.specs.Walks.{edge-step, point-step, walk}
-use Rattle.orbits.specs.Sets.{bits, set-of}
+use Rattle.orbits.specs.Classes.{is_least, classes, is_fixed, is_closed, closed_walks}
+use Rattle.orbits.specs.Walks.{edge_step, point_step, walk}
+use Rattle.orbits.specs.Sets.{bits, set_of}
 use Rattle.model.specs.declared.Point.{Point}
 use Rattle.model.specs.declared.Map.{Map}
 use Rattle.model.specs.declared.Kind.{Kind}
 use Rattle.model.specs.Spelling.{bytes, decimal, spelt}
 use Rattle.model.specs.Refusals.{number, unless}
-use Rattle.model.specs.Plane.{at, coordinate-in-range, in-range, same_point, orientation, left-of, visible-from, in-line, beside, sees-edge, oriented, strictly-between, lower}
-use Rattle.model.specs.Maps.{note, other-dart, point, has-helper, is-present, edge-link, point-link, face-link, empty-map}
-use Rattle.model.specs.Outline.{next-corner, previous-corner, corners-from, outline, sees, visible-edges, lowest-corner, corners}
-use Rattle.model.specs.Building.{building-rules, built}
+use Rattle.model.specs.Plane.{at, coordinate_in_range, in_range, same_point, orientation, left_of, visible_from, in_line, beside, sees_edge, oriented, strictly_between, lower}
+use Rattle.model.specs.Maps.{note, other_dart, point, has_helper, is_present, edge_link, point_link, face_link, empty_map}
+use Rattle.model.specs.Outline.{next_corner, previous_corner, corners_from, outline, sees, visible_edges, lowest_corner, corners}
+use Rattle.model.specs.Building.{building_rules, built}
 use Rattle.model.specs.Sound.{agree, sound}
-use Rattle.model.specs.Reading.{links-of, number_of, darts, counts, counted, orbit-of, walked}
-use Rattle.model.specs.Answers.{oriented-answer, arrival-answer, counted-answer, walked-answer}
-use Rattle.model.specs.Arrival.{cut, join, turning-left, turning-right, is-farther, is-beyond, farther, left-corner, right-corner}
-use Rattle.model.specs.Arrival.{with-point, alone, pair, spliced, later-point, arrive, is-repeated}
+use Rattle.model.specs.Reading.{links_of, number_of, darts, counts, counted, orbit_of, walked}
+use Rattle.model.specs.Answers.{oriented_answer, arrival_answer, counted_answer, walked_answer}
+use Rattle.model.specs.Arrival.{cut, join, turning_left, turning_right, is_farther, is_beyond, farther, left_corner, right_corner}
+use Rattle.model.specs.Arrival.{with_point, alone, pair, spliced, later_point, arrive, is_repeated}
 use Rattle.model.specs.Offers.{offer}
-use Rattle.model.specs.History.{is-accepted, extended, run-from, run}
-use Rattle.model.specs.Saved.{big_endian, complement, block, coordinate, header, notes-length, packed-note, notes-in, saved-in, saved}
-use Rattle.model.specs.Text.{is_digit, has-minus, digits, value_after, magnitude, is_number, number-value, line_read, in-first-line, lines}
-use Rattle.model.specs.Report.{spaced, printed, offer-line, closing, arrivals, report}
+use Rattle.model.specs.History.{is_accepted, extended, run_from, run}
+use Rattle.model.specs.Saved.{big_endian, complement, block, coordinate, header, notes_length, packed_note, notes_in, saved_in, saved}
+use Rattle.model.specs.Text.{is_digit, has_minus, digits, value_after, magnitude, is_number, number_value, line_read, in_first_line, lines}
+use Rattle.model.specs.Report.{spaced, printed, offer_line, closing, arrivals, report}
 
 -- what the definitions say, and what document 01 says
 pub record Question : Type 0 where
@@ -49,13 +49,13 @@ unfoldable pub after : ℕ → Map
 after n = (run (take n session)).map
 
 offered : Map → ℤ → ℤ → List ℕ
-offered m x y = printed (arrival-answer (offer m (at x y)).arrival)
+offered m x y = printed (arrival_answer (offer m (at x y)).arrival)
 
-orientation-of : Point → Point → Point → List ℕ
-orientation-of a b c = printed (oriented-answer (oriented a b c))
+orientation_of : Point → Point → Point → List ℕ
+orientation_of a b c = printed (oriented_answer (oriented a b c))
 
 counts_of : Map → List ℕ
-counts_of m = printed (counted-answer (counted m))
+counts_of m = printed (counted_answer (counted m))
 
 -- the end of document 01's range, at which its question of the largest orientation stays
 million : ℤ
@@ -69,20 +69,20 @@ questions =
     is bytes
     "OUTLINE 1\n0 first\n1 second\n2 outside 1 0 1\n3 outside 1 2 1\n4 inside\n5 outside 1 2 2\ncorners 0 1 5 2\ncounts 11 6 7 4 3\n")
     -- with edge links 2-11, 10-5, 6 and 7 fixed
-    ∷ (map (edge-link (after 6)) (2 ∷ 11 ∷ 10 ∷ 5 ∷ 6 ∷ 7 ∷ []) is 11 ∷ 2 ∷ 5 ∷ 10 ∷ 6 ∷ 7 ∷ [])
+    ∷ (map (edge_link (after 6)) (2 ∷ 11 ∷ 10 ∷ 5 ∷ 6 ∷ 7 ∷ []) is 11 ∷ 2 ∷ 5 ∷ 10 ∷ 6 ∷ 7 ∷ [])
     -- the inner face, and both walks
-    ∷ ((orbit-of (after 6) Kind.Face 0).darts.words is (2 ^ 0 + 2 ^ 2 + 2 ^ 4 + 2 ^ 10) ∷ replicate 15 0)
-    ∷ ((orbit-of (after 6) Kind.Face 0).darts.size ∷ [] is 4 ∷ [])
-    ∷ (printed (walked-answer (walked (after 6) 0)) is bytes "home 0 8\n")
-    ∷ (printed (walked-answer (walked (after 6) 6)) is bytes "loose 6 0\n")
+    ∷ ((orbit_of (after 6) Kind.Face 0).darts.words is (2 ^ 0 + 2 ^ 2 + 2 ^ 4 + 2 ^ 10) ∷ replicate 15 0)
+    ∷ ((orbit_of (after 6) Kind.Face 0).darts.size ∷ [] is 4 ∷ [])
+    ∷ (printed (walked_answer (walked (after 6) 0)) is bytes "home 0 8\n")
+    ∷ (printed (walked_answer (walked (after 6) 6)) is bytes "loose 6 0\n")
     -- counts of none, one and two points
     ∷ (counts_of (after 0) is bytes "counts 0 0 0 0 0\n")
     ∷ (counts_of (after 1) is bytes "counts 1 1 1 1 1\n")
     ∷ (counts_of (after 2) is bytes "counts 4 2 2 2 1\n")
     -- the three orientations
-    ∷ (orientation-of (at (pos 0) (pos 0)) (at (pos 4) (pos 0)) (at (pos 1) (pos 3)) is bytes "orientation 12\n")
-    ∷ (orientation-of (at (pos 4) (pos 0)) (at (pos 0) (pos 0)) (at (pos 1) (pos 3)) is bytes "orientation -12\n")
-    ∷ (orientation-of (at (neg_ℤ million) (neg_ℤ million)) (at million (neg_ℤ million)) (at million million)
+    ∷ (orientation_of (at (pos 0) (pos 0)) (at (pos 4) (pos 0)) (at (pos 1) (pos 3)) is bytes "orientation 12\n")
+    ∷ (orientation_of (at (pos 4) (pos 0)) (at (pos 0) (pos 0)) (at (pos 1) (pos 3)) is bytes "orientation -12\n")
+    ∷ (orientation_of (at (neg_ℤ million) (neg_ℤ million)) (at million (neg_ℤ million)) (at million million)
     is bytes "orientation 4000000000000\n")
     -- refusals after four points, and at the end of the range, which request 105 has moved
     ∷ (offered (after 4) (pos 4) (pos 0) is bytes "refused 4\n")
@@ -93,18 +93,18 @@ questions =
     ∷ []
 
 -- one check over the list
-pub answers-are-right : T (all_in (λ q. same-list q.said q.right) questions)
-unfolding table-onto all any sum count one-if table elem all_in all-places any-in count-in
-    first-in before beyond ring insert union flat_map flatten spread reached reaches is-least
-    classes is-fixed is-closed closed-walks edge-step point-step walk bits set-of bytes decimal
-    spelt number unless coordinate-in-range in-range same_point orientation left-of visible-from
-    in-line beside sees-edge strictly-between lower other-dart point has-helper is-present
-    edge-link point-link face-link empty-map next-corner previous-corner corners-from outline sees visible-edges
-    lowest-corner corners note agree building-rules built sound links-of number_of darts counts counted
-    orbit-of walked oriented-answer arrival-answer counted-answer walked-answer oriented cut join
-    turning-left turning-right is-farther is-beyond farther left-corner right-corner with-point
-    alone pair spliced later-point arrive is-repeated offer is-accepted extended run-from run
-    big_endian complement block coordinate header notes-length packed-note notes-in saved-in is_digit has-minus digits value_after magnitude is_number number-value line_read in-first-line lines
-    spaced printed offer-line closing arrivals report session after offered orientation-of counts_of million
+pub answers_are_right : T (all_in (λ q. same_list q.said q.right) questions)
+unfolding table_onto all any sum count one_if table elem all_in all_places any_in count_in
+    first_in before beyond ring insert union flat_map flatten spread reached reaches is_least
+    classes is_fixed is_closed closed_walks edge_step point_step walk bits set_of bytes decimal
+    spelt number unless coordinate_in_range in_range same_point orientation left_of visible_from
+    in_line beside sees_edge strictly_between lower other_dart point has_helper is_present
+    edge_link point_link face_link empty_map next_corner previous_corner corners_from outline sees visible_edges
+    lowest_corner corners note agree building_rules built sound links_of number_of darts counts counted
+    orbit_of walked oriented_answer arrival_answer counted_answer walked_answer oriented cut join
+    turning_left turning_right is_farther is_beyond farther left_corner right_corner with_point
+    alone pair spliced later_point arrive is_repeated offer is_accepted extended run_from run
+    big_endian complement block coordinate header notes_length packed_note notes_in saved_in is_digit has_minus digits value_after magnitude is_number number_value line_read in_first_line lines
+    spaced printed offer_line closing arrivals report session after offered orientation_of counts_of million
     questions same_by
-answers-are-right = tt
+answers_are_right = tt

@@ -10,10 +10,10 @@ use Rattle.model.specs.declared.Line.{Line}
 use Rattle.model.specs.declared.Arrival.{Arrival}
 use Rattle.model.specs.declared.Offered.{Offered}
 use Rattle.model.specs.declared.Counted.{Counted}
-use Rattle.model.specs.Spelling.{bytes, line-feed, space, spelt}
+use Rattle.model.specs.Spelling.{bytes, line_feed, space, spelt}
 use Rattle.model.specs.Refusals.{Rule, ◌when◌}
-use Rattle.model.specs.Answers.{Answer, served, refused, arrival-answer, counted-answer}
-use Rattle.model.specs.Maps.{empty-map}
+use Rattle.model.specs.Answers.{Answer, served, refused, arrival_answer, counted_answer}
+use Rattle.model.specs.Maps.{empty_map}
 use Rattle.model.specs.Outline.{corners}
 use Rattle.model.specs.Reading.{counts}
 use Rattle.model.specs.Arrival.{arrived}
@@ -21,8 +21,8 @@ use Rattle.model.specs.Offers.{offer}
 use Rattle.model.specs.Text.{line_read, lines}
 
 -- "text above 65,536 bytes"
-abbrev pub text-limit : ℕ
-text-limit = 65_536
+abbrev pub text_limit : ℕ
+text_limit = 65_536
 
 -- each value after a space
 unfoldable pub spaced : List ℤ → List ℕ
@@ -31,33 +31,33 @@ spaced (z ∷ zs) = space ∷ spelt z ++ spaced zs
 
 -- the word, its values and a line feed
 unfoldable pub printed : Answer → List ℕ
-printed answer = bytes answer.word ++ spaced answer.values ++ line-feed ∷ []
+printed answer = bytes answer.word ++ spaced answer.values ++ line_feed ∷ []
 
 -- a line that is not in form is refused and leaves the map
-unfoldable pub offer-line : Map → Line → Offered
-offer-line m (Line.Named p) = offer m p
-offer-line m (Line.Refused r) = arrived (Arrival.Refused r) m
+unfoldable pub offer_line : Map → Line → Offered
+offer_line m (Line.Named p) = offer m p
+offer_line m (Line.Refused r) = arrived (Arrival.Refused r) m
 
 -- the corners and the counts
 unfoldable pub closing : Map → List ℕ
 closing m =
     printed (served "corners" (map pos (corners m)))
-    ++ printed (counted-answer (Counted.Numbers (counts m)))
+    ++ printed (counted_answer (Counted.Numbers (counts m)))
 
 -- the lines from number n on, offered to a map
 unfoldable pub arrivals : Map → ℕ → List (List ℕ) → List ℕ
 arrivals m n [] = closing m
 arrivals m n (l ∷ ls) =
-    let o = offer-line m (line_read l) in
-    spelt (pos n) ++ space ∷ printed (arrival-answer o.arrival) ++ arrivals o.map (suc n) ls
+    let o = offer_line m (line_read l) in
+    spelt (pos n) ++ space ∷ printed (arrival_answer o.arrival) ++ arrivals o.map (suc n) ls
 
 -- the report: "Number 9 prints the first line and `refused 9`, no more."
 unfoldable pub report : List ℕ → List ℕ
 report text =
-    let lines-reported = arrivals empty-map 0 (lines text) in
+    let lines_reported = arrivals empty_map 0 (lines text) in
     bytes "OUTLINE 1\n"
-    ++ cond (ltb text-limit (length text)) (printed (refused Refusal.LongText)) lines-reported
+    ++ cond (ltb text_limit (length text)) (printed (refused Refusal.LongText)) lines_reported
 
 -- a report that is written into a lent list: number 9 writes nothing there
-abbrev pub report-rules : List ℕ → List Rule
-report-rules text = (Refusal.LongText when ltb text-limit (length text)) ∷ []
+abbrev pub report_rules : List ℕ → List Rule
+report_rules text = (Refusal.LongText when ltb text_limit (length text)) ∷ []

@@ -8,16 +8,16 @@
 -- version 2 file is 9 + 18 × n bytes. Version 1 files are still read, their records rebuilt".
 use Rattle.std.specs.Prelude.{Bool, false, not, cond, ◌&&◌, ◌||◌, ℕ, zero, suc, ◌+◌, ◌-◌, ◌*◌, ◌/◌, ◌%◌, ◌^◌, ◌<◌, ltb, leb, eqb, ℤ, pos, negsuc, length, get_or}
 use mathlib.Core.List.{List, [], ◌∷◌, ◌++◌, flatten}
-use Rattle.finite.specs.Bounded.{one-if, all, table}
-use Rattle.orbits.specs.Sets.{dart-limit}
+use Rattle.finite.specs.Bounded.{one_if, all, table}
+use Rattle.orbits.specs.Sets.{dart_limit}
 use Rattle.model.specs.declared.Refusal.{Refusal}
 use Rattle.model.specs.declared.Point.{Point}
 use Rattle.model.specs.declared.Map.{Map}
 use Rattle.model.specs.declared.Outcome.{Outcome}
 use Rattle.model.specs.declared.Loaded.{Loaded}
 use Rattle.model.specs.Refusals.{◌when◌}
-use Rattle.model.specs.Answers.{Call, answer-of, outcome-answer}
-use Rattle.model.specs.Maps.{point-limit, no-dart, own, point_at, point, has-helper, edge-link, note, empty-map}
+use Rattle.model.specs.Answers.{Call, answer_of, outcome_answer}
+use Rattle.model.specs.Maps.{point_limit, no_dart, own, point_at, point, has_helper, edge_link, note, empty_map}
 use Rattle.model.specs.Building.{built}
 use Rattle.model.specs.Reading.{unsound}
 
@@ -25,8 +25,8 @@ use Rattle.model.specs.Reading.{unsound}
 abbrev pub version : ℕ
 version = 2
 
-abbrev pub old-version : ℕ
-old-version = 1
+abbrev pub old_version : ℕ
+old_version = 1
 
 -- a list of bytes: past its end stands 0, a byte too
 pub record Bytes (s : List ℕ) : Type 0 where
@@ -60,43 +60,43 @@ field s at w i = number_at s (at + w * i) w
 
 -- where the numbers of the header stand, and how long it is: "4 bytes, the length of all that
 -- follows; version byte 1; 2 bytes, the number of points n; 2 bytes reference"
-abbrev pub version-place : ℕ
-version-place = 4
+abbrev pub version_place : ℕ
+version_place = 4
 
-abbrev pub count-place : ℕ
-count-place = 5
+abbrev pub count_place : ℕ
+count_place = 5
 
-abbrev pub reference-place : ℕ
-reference-place = 7
+abbrev pub reference_place : ℕ
+reference_place = 7
 
-abbrev pub header-length : ℕ
-header-length = 9
+abbrev pub header_length : ℕ
+header_length = 9
 
 -- where the blocks begin in a file of n points: "n pairs x, y in 4 bytes each; n helper bytes; 2n
 -- edge links of 2 bytes", and in version 2 what is noted of the points
-abbrev pub coordinates-place : ℕ
-coordinates-place = header-length
+abbrev pub coordinates_place : ℕ
+coordinates_place = header_length
 
-abbrev pub helpers-place : ℕ → ℕ
-helpers-place n = header-length + 8 * n
+abbrev pub helpers_place : ℕ → ℕ
+helpers_place n = header_length + 8 * n
 
-abbrev pub links-place : ℕ → ℕ
-links-place n = header-length + 9 * n
+abbrev pub links_place : ℕ → ℕ
+links_place n = header_length + 9 * n
 
-abbrev pub notes-place : ℕ → ℕ
-notes-place n = header-length + 13 * n
+abbrev pub notes_place : ℕ → ℕ
+notes_place n = header_length + 13 * n
 
 -- "n groups of 1, 2 and 2 bytes", which version 1 does not have
-unfoldable pub notes-length : ℕ → ℕ → ℕ
-notes-length v n = cond (eqb v old-version) 0 (5 * n)
+unfoldable pub notes_length : ℕ → ℕ → ℕ
+notes_length v n = cond (eqb v old_version) 0 (5 * n)
 
 -- "9 + 13 × n bytes" in version 1, "9 + 18 × n bytes" in version 2
-abbrev pub saved-length : ℕ → ℕ → ℕ
-saved-length v n = notes-place n + notes-length v n
+abbrev pub saved_length : ℕ → ℕ → ℕ
+saved_length v n = notes_place n + notes_length v n
 
 -- the length of all that follows the length
 abbrev pub following : ℕ → ℕ → ℕ
-following v n = saved-length v n - version-place
+following v n = saved_length v n - version_place
 
 -- coordinate 2k is x of point k, coordinate 2k + 1 its y
 unfoldable pub coordinate : Map → ℕ → ℤ
@@ -107,65 +107,65 @@ unfoldable pub header : ℕ → ℕ → ℕ → List ℕ
 header v n r = big_endian 4 (following v n) ++ big_endian 1 v ++ big_endian 2 n ++ big_endian 2 r
 
 -- what is noted of point k, as one number of 5 bytes: those of its arrival, 1, and of its freed darts, 2 and 2
--- (`note-groups` of layout/proofs/Notes)
-unfoldable pub packed-note : Map → ℕ → ℕ
-packed-note m k = ((note m k).arrival * 256 ^ 2 + (note m k).left) * 256 ^ 2 + (note m k).right
+-- (`note_groups` of layout/proofs/Notes)
+unfoldable pub packed_note : Map → ℕ → ℕ
+packed_note m k = ((note m k).arrival * 256 ^ 2 + (note m k).left) * 256 ^ 2 + (note m k).right
 
 -- "Version 2 writes these after the edge links"
-unfoldable pub notes-in : ℕ → Map → List ℕ
-notes-in v m = cond (eqb v old-version) [] (block m.count 5 (packed-note m))
+unfoldable pub notes_in : ℕ → Map → List ℕ
+notes_in v m = cond (eqb v old_version) [] (block m.count 5 (packed_note m))
 
 -- the bytes of a map in version v
-unfoldable pub saved-in : ℕ → Map → List ℕ
-saved-in v m =
+unfoldable pub saved_in : ℕ → Map → List ℕ
+saved_in v m =
     let n = m.count in
     header v n m.reference ++ block (2 * n) 4 (λ i. complement (coordinate m i))
-    ++ block n 1 (λ k. one-if (has-helper m k))
-    ++ block (2 * n) 2 (edge-link m)
-    ++ notes-in v m
+    ++ block n 1 (λ k. one_if (has_helper m k))
+    ++ block (2 * n) 2 (edge_link m)
+    ++ notes_in v m
 
 -- the bytes of a map
 abbrev pub saved : Map → List ℕ
-saved = saved-in version
+saved = saved_in version
 
 -- "2 bytes, the number of points n"
-abbrev pub count-in-file : List ℕ → ℕ
-count-in-file s = number_at s count-place 2
+abbrev pub count_in_file : List ℕ → ℕ
+count_in_file s = number_at s count_place 2
 
 -- what stands in a file of n points: coordinate i, the helper byte of point k, the edge link of
 -- dart d, and what is noted of point k
-abbrev pub coordinate-in-file : List ℕ → ℕ → ℤ
-coordinate-in-file s i = signed (field s coordinates-place 4 i)
+abbrev pub coordinate_in_file : List ℕ → ℕ → ℤ
+coordinate_in_file s i = signed (field s coordinates_place 4 i)
 
-abbrev pub helper-in-file : List ℕ → ℕ → ℕ → ℕ
-helper-in-file s n k = field s (helpers-place n) 1 k
+abbrev pub helper_in_file : List ℕ → ℕ → ℕ → ℕ
+helper_in_file s n k = field s (helpers_place n) 1 k
 
-abbrev pub link-in-file : List ℕ → ℕ → ℕ → ℕ
-link-in-file s n d = field s (links-place n) 2 d
+abbrev pub link_in_file : List ℕ → ℕ → ℕ → ℕ
+link_in_file s n d = field s (links_place n) 2 d
 
-abbrev pub arrival-in-file : List ℕ → ℕ → ℕ → ℕ
-arrival-in-file s n k = number_at s (notes-place n + 5 * k) 1
+abbrev pub arrival_in_file : List ℕ → ℕ → ℕ → ℕ
+arrival_in_file s n k = number_at s (notes_place n + 5 * k) 1
 
-abbrev pub left-in-file : List ℕ → ℕ → ℕ → ℕ
-left-in-file s n k = number_at s (notes-place n + 5 * k + 1) 2
+abbrev pub left_in_file : List ℕ → ℕ → ℕ → ℕ
+left_in_file s n k = number_at s (notes_place n + 5 * k + 1) 2
 
-abbrev pub right-in-file : List ℕ → ℕ → ℕ → ℕ
-right-in-file s n k = number_at s (notes-place n + 5 * k + 3) 2
+abbrev pub right_in_file : List ℕ → ℕ → ℕ → ℕ
+right_in_file s n k = number_at s (notes_place n + 5 * k + 3) 2
 
 -- not number 7: "file under 9 bytes, length not matching n and the bytes lent, n above 512, version
 -- not 1, or helper byte above 1", for any version v; "An arrival above 3 gives 7"
-unfoldable pub file-in-form-of : ℕ → List ℕ → Bool
-file-in-form-of v s =
-    let n = count-in-file s in
-    leb header-length (length s) && leb n point-limit && eqb (length s) (saved-length v n)
+unfoldable pub file_in_form_of : ℕ → List ℕ → Bool
+file_in_form_of v s =
+    let n = count_in_file s in
+    leb header_length (length s) && leb n point_limit && eqb (length s) (saved_length v n)
     && eqb (number_at s 0 4) (following v n)
-    && eqb (number_at s version-place 1) v
-    && all n (λ k. leb (helper-in-file s n k) 1)
-    && (eqb v old-version || all n (λ k. leb (arrival-in-file s n k) 3))
+    && eqb (number_at s version_place 1) v
+    && all n (λ k. leb (helper_in_file s n k) 1)
+    && (eqb v old_version || all n (λ k. leb (arrival_in_file s n k) 3))
 
 -- of one of the two versions
-unfoldable pub file-in-form : List ℕ → Bool
-file-in-form s = file-in-form-of old-version s || file-in-form-of version s
+unfoldable pub file_in_form : List ℕ → Bool
+file_in_form s = file_in_form_of old_version s || file_in_form_of version s
 
 -- f before n, and g from n on
 abbrev pub until : {A : Type 0} → ℕ → (ℕ → A) → (ℕ → A) → ℕ → A
@@ -174,64 +174,64 @@ until n f g k = cond (ltb k n) (f k) (g k)
 -- the arrays of a file of n points: the coordinates in direction d, 0 for x and 1 for y; which
 -- points have helpers; the edge links; what is noted. A place without a point holds 0, 0, no helper and
 -- 0, 1,024, 1,024, and a dart without a point is left where it is.
-abbrev pub coordinates-in-file : List ℕ → ℕ → ℕ → List ℤ
-coordinates-in-file s n d =
-    table point-limit (until n (λ k. coordinate-in-file s (2 * k + d)) (λ k. pos 0))
+abbrev pub coordinates_in_file : List ℕ → ℕ → ℕ → List ℤ
+coordinates_in_file s n d =
+    table point_limit (until n (λ k. coordinate_in_file s (2 * k + d)) (λ k. pos 0))
 
-abbrev pub helpers-in-file : List ℕ → ℕ → List Bool
-helpers-in-file s n = table point-limit (until n (λ k. eqb (helper-in-file s n k) 1) (λ k. false))
+abbrev pub helpers_in_file : List ℕ → ℕ → List Bool
+helpers_in_file s n = table point_limit (until n (λ k. eqb (helper_in_file s n k) 1) (λ k. false))
 
-abbrev pub links-in-file : List ℕ → ℕ → List ℕ
-links-in-file s n = table dart-limit (until (own n) (link-in-file s n) (λ d. d))
+abbrev pub links_in_file : List ℕ → ℕ → List ℕ
+links_in_file s n = table dart_limit (until (own n) (link_in_file s n) (λ d. d))
 
-abbrev pub arrivals-in-file : List ℕ → ℕ → List ℕ
-arrivals-in-file s n = table point-limit (until n (arrival-in-file s n) (λ k. 0))
+abbrev pub arrivals_in_file : List ℕ → ℕ → List ℕ
+arrivals_in_file s n = table point_limit (until n (arrival_in_file s n) (λ k. 0))
 
-abbrev pub lefts-in-file : List ℕ → ℕ → List ℕ
-lefts-in-file s n = table point-limit (until n (left-in-file s n) (λ k. no-dart))
+abbrev pub lefts_in_file : List ℕ → ℕ → List ℕ
+lefts_in_file s n = table point_limit (until n (left_in_file s n) (λ k. no_dart))
 
-abbrev pub rights-in-file : List ℕ → ℕ → List ℕ
-rights-in-file s n = table point-limit (until n (right-in-file s n) (λ k. no-dart))
+abbrev pub rights_in_file : List ℕ → ℕ → List ℕ
+rights_in_file s n = table point_limit (until n (right_in_file s n) (λ k. no_dart))
 
 -- the points of a file, and the map that they build
-abbrev pub points-in-file : List ℕ → List Point
-points-in-file s =
-    let n = count-in-file s in
-    table n (point_at (coordinates-in-file s n 0) (coordinates-in-file s n 1))
+abbrev pub points_in_file : List ℕ → List Point
+points_in_file s =
+    let n = count_in_file s in
+    table n (point_at (coordinates_in_file s n 0) (coordinates_in_file s n 1))
 
-abbrev pub built-in-file : List ℕ → Map
-built-in-file s = built empty-map (points-in-file s)
+abbrev pub built_in_file : List ℕ → Map
+built_in_file s = built empty_map (points_in_file s)
 
 -- one of two by the version of a file
-abbrev pub by-version : {A : Type 0} → List ℕ → A → A → A
-by-version s old new = cond (eqb (number_at s version-place 1) old-version) old new
+abbrev pub by_version : {A : Type 0} → List ℕ → A → A → A
+by_version s old new = cond (eqb (number_at s version_place 1) old_version) old new
 
 -- the map whose fields stand in the file; "their records rebuilt", in version 1
-unfoldable pub map-in : List ℕ → Map
-map-in s =
-    let n = count-in-file s in
+unfoldable pub map_in : List ℕ → Map
+map_in s =
+    let n = count_in_file s in
     record {
-      xs = coordinates-in-file s n 0;
-      ys = coordinates-in-file s n 1;
-      helpers = helpers-in-file s n;
-      edge = links-in-file s n;
-      arrivals = by-version s (built-in-file s).arrivals (arrivals-in-file s n);
-      lefts = by-version s (built-in-file s).lefts (lefts-in-file s n);
-      rights = by-version s (built-in-file s).rights (rights-in-file s n);
+      xs = coordinates_in_file s n 0;
+      ys = coordinates_in_file s n 1;
+      helpers = helpers_in_file s n;
+      edge = links_in_file s n;
+      arrivals = by_version s (built_in_file s).arrivals (arrivals_in_file s n);
+      lefts = by_version s (built_in_file s).lefts (lefts_in_file s n);
+      rights = by_version s (built_in_file s).rights (rights_in_file s n);
       count = n;
-      reference = number_at s reference-place 2;
+      reference = number_at s reference_place 2;
     }
 
 -- "loading looks at 7 before 1"
-abbrev pub load-call : List ℕ → Call Loaded
-load-call s =
+abbrev pub load_call : List ℕ → Call Loaded
+load_call s =
     record {
-      meaning = λ l. outcome-answer l.outcome;
-      refuse = λ r. record { outcome = Outcome.Refused r; map = empty-map };
-      rules = (Refusal.BadFile when not (file-in-form s)) ∷ unsound (map-in s) ∷ [];
-      value = record { outcome = Outcome.Served; map = map-in s };
+      meaning = λ l. outcome_answer l.outcome;
+      refuse = λ r. record { outcome = Outcome.Refused r; map = empty_map };
+      rules = (Refusal.BadFile when not (file_in_form s)) ∷ unsound (map_in s) ∷ [];
+      value = record { outcome = Outcome.Served; map = map_in s };
     }
 
 unfoldable pub loaded : List ℕ → Loaded
 loaded s =
-    answer-of (load-call s)
+    answer_of (load_call s)

@@ -1,28 +1,28 @@
 -- A sound map. Document 02, request 107: "A sound map is from here on one that its points, offered in order,
--- build, records included." Document 01's own sentences on sound maps hold of every such map: `sound-shaped` of
--- hull/proofs/Sound, with model/specs/Shape. That these are the maps that offers lead to is `sound-reachable` of
+-- build, records included." Document 01's own sentences on sound maps hold of every such map: `sound_shaped` of
+-- hull/proofs/Sound, with model/specs/Shape. That these are the maps that offers lead to is `sound_reachable` of
 -- hull/proofs/Runs.
 use Rattle.std.specs.Prelude.{Bool, false, ◌&&◌, eqb}
 use Rattle.std.specs.Bool.{beq}
-use Rattle.integers.specs.Order.{eqZ}
-use Rattle.finite.specs.Lists.{same-list, same_by}
+use Rattle.integers.specs.Order.{eq_z}
+use Rattle.finite.specs.Lists.{same_list, same_by}
 use Rattle.model.specs.declared.Map.{Map}
 use Rattle.model.specs.Refusals.{unless}
-use Rattle.model.specs.Maps.{empty-map, map-points}
-use Rattle.model.specs.Building.{building-rules, built}
+use Rattle.model.specs.Maps.{empty_map, map_points}
+use Rattle.model.specs.Building.{building_rules, built}
 
 -- two maps have the same fields
 unfoldable pub agree : Map → Map → Bool
 agree m n =
-    eqb m.count n.count && eqb m.reference n.reference && same_by eqZ m.xs n.xs
-    && same_by eqZ m.ys n.ys
+    eqb m.count n.count && eqb m.reference n.reference && same_by eq_z m.xs n.xs
+    && same_by eq_z m.ys n.ys
     && same_by beq m.helpers n.helpers
-    && same-list m.edge n.edge
-    && same-list m.arrivals n.arrivals
-    && same-list m.lefts n.lefts
-    && same-list m.rights n.rights
+    && same_list m.edge n.edge
+    && same_list m.arrivals n.arrivals
+    && same_list m.lefts n.lefts
+    && same_list m.rights n.rights
 
 -- none of its points is refused, and the map is the one that they build
 unfoldable pub sound : Map → Bool
 sound m =
-    unless (λ r. false) (building-rules empty-map (map-points m)) (agree m (built empty-map (map-points m)))
+    unless (λ r. false) (building_rules empty_map (map_points m)) (agree m (built empty_map (map_points m)))

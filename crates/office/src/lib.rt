@@ -7,10 +7,10 @@ ghost use Rattle.std.specs.Prelude.{[], ◌∷◌};
 ghost use Rattle.model.specs.Reading.{unsound};
 ghost use Rattle.model.specs.Answers.{Answered};
 ghost use Rattle.model.specs.Lent.{Wrote};
-ghost use Rattle.model.specs.Outlines.{coordinates, corner-points, corners-spelt, outline-rules, outline-text};
-ghost use Rattle.model.specs.Area.{area-call};
-ghost use Rattle.model.specs.Removal.{remove-call};
-ghost use Rattle.model.specs.Marking.{mark-call, points-of};
+ghost use Rattle.model.specs.Outlines.{coordinates, corner_points, corners_spelt, outline_rules, outline_text};
+ghost use Rattle.model.specs.Area.{area_call};
+ghost use Rattle.model.specs.Removal.{remove_call};
+ghost use Rattle.model.specs.Marking.{mark_call, points_of};
 
 use corners::listing::corners_of;
 use drawings::{text_length, write_text};
@@ -22,7 +22,7 @@ use soundness::is_sound;
 // The text of a map's outline, written into a lent list: numbers 1 and 10. A longer list keeps its tail,
 // and a refused call writes nothing.
 pub fn write_outline(map: Map, lent: &mut [u8]) -> Written
-    ensures { Wrote (unsound map ∷ []) (outline-text (corner-points map))
+    ensures { Wrote (unsound map ∷ []) (outline_text (corner_points map))
         lent.old lent.new result }
 {
     if !is_sound(map) {
@@ -41,8 +41,8 @@ pub fn write_outline(map: Map, lent: &mut [u8]) -> Written
 // The corners of an outline's text, their coordinates x and y in turn written into a lent list: numbers 9,
 // 11, 3, 12 and 10. A longer list keeps its tail, and a refused call writes nothing.
 pub fn read_outline(text: &[u8], lent: &mut [i64]) -> Written
-    ensures { Wrote (outline-rules text.now)
-        (coordinates (corners-spelt text.now)) lent.old lent.new result }
+    ensures { Wrote (outline_rules text.now)
+        (coordinates (corners_spelt text.now)) lent.old lent.new result }
 {
     listings::read_outline(text, lent, true)
 }
@@ -50,7 +50,7 @@ pub fn read_outline(text: &[u8], lent: &mut [i64]) -> Written
 // Twice the area of a map's outline, as a fan of triangles from the corner at a place of the listing: numbers 1
 // and 6. Fewer than three points give 0 for any place.
 pub fn area(map: Map, place: usize) -> Doubled
-    ensures { Answered (area-call map place) result }
+    ensures { Answered (area_call map place) result }
 {
     if !is_sound(map) {
         return Doubled::Refused(Refusal::NotSound);
@@ -62,14 +62,14 @@ pub fn area(map: Map, place: usize) -> Doubled
 // refusal met when the points are offered to the empty map: numbers 2, 3 and 4. Points are pairs x, y; an odd last
 // number names no point.
 pub fn mark(points: &[i64], claim: &[usize]) -> Marked
-    ensures { Answered (mark-call (points-of points.now) claim.now) result }
+    ensures { Answered (mark_call (points_of points.now) claim.now) result }
 {
     marking::mark(points, claim)
 }
 
 // The map before its last point: numbers 1 and 13. Where the call is refused, the map is as it was.
 pub fn remove_last(map: Map) -> Removed
-    ensures { Answered (remove-call map) result }
+    ensures { Answered (remove_call map) result }
 {
     if !is_sound(map) {
         return Removed {

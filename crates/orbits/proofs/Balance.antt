@@ -2,7 +2,7 @@
 -- vertices + edges + faces = darts + 2 × parts, where faces are the orbits of f and then g.
 -- Build f from an involution that moves no dart by transpositions, each of a dart x that is not moved
 -- yet with a dart y (Building). If x and y lie in one part, they lie in one face, for the face of x is
--- its whole part (`part-is-face`): the face goes along the part to its other end and back.
+-- its whole part (`part_is_face`): the face goes along the part to its other end and back.
 -- So the genus stays 0 (Genus).
 use mathlib.Core.Path.{◌≡◌, ◌∙◌, ap, subst}
 use mathlib.Core.Logic.{⊎_elim, ◌≢◌}
@@ -12,61 +12,61 @@ use native.Mathlib.Omega.{arith}
 use Rattle.finite.specs.Bounded.{count}
 use Rattle.orbits.specs.Reach.{Reach, here, by_one, by_two}
 use Rattle.orbits.specs.Classes.{classes}
-use Rattle.orbits.proofs.Reach.{Dart, reach-dart, reach-trans, reach-sym, decide-reach, by-one-link}
-use Rattle.orbits.proofs.Permutations.{Permutes, Involutes, ◌then◌, involution-permutes, compose-permutes, transposed, fixed-reach, orbit-keeps, orbit-symmetric, orbit-holds, part-keeps, part-holds}
-use Rattle.orbits.proofs.Building.{built-by-transpositions, released-involutes}
-use Rattle.orbits.proofs.Genus.{Genus, genus-two-parts, genus-one-face, genus-unmoved}
+use Rattle.orbits.proofs.Reach.{Dart, reach_dart, reach_trans, reach_sym, decide_reach, by_one_link}
+use Rattle.orbits.proofs.Permutations.{Permutes, Involutes, ◌then◌, involution_permutes, compose_permutes, transposed, fixed_reach, orbit_keeps, orbit_symmetric, orbit_holds, part_keeps, part_holds}
+use Rattle.orbits.proofs.Building.{built_by_transpositions, released_involutes}
+use Rattle.orbits.proofs.Genus.{Genus, genus_two_parts, genus_one_face, genus_unmoved}
 
 -- ---- the face of a dart that f leaves where it is
 
 module _ {n : ℕ} {present : ℕ → Bool} {f g : ℕ → ℕ} (i : Involutes n present f) (j : Involutes n present g) where
   p : Permutes n present f
-  p = involution-permutes i
+  p = involution_permutes i
 
   q : Permutes n present g
-  q = involution-permutes j
+  q = involution_permutes j
 
   face : Permutes n present (f then g)
-  face = compose-permutes p q
+  face = compose_permutes p q
 
   -- the dart before w in its face
-  face-back : {w : ℕ} → Dart n present w → Reach (by_one (f then g)) w (f (g w))
-  face-back {w} h =
-      reach-sym (orbit-symmetric face) (i.stays (j.stays h))
+  face_back : {w : ℕ} → Dart n present w → Reach (by_one (f then g)) w (f (g w))
+  face_back {w} h =
+      reach_sym (orbit_symmetric face) (i.stays (j.stays h))
       (subst (Reach (by_one (f then g)) (f (g w))) (ap g (i.twice (j.stays h)) ∙ j.twice h)
-      (by-one-link (f then g) (f (g w))))
+      (by_one_link (f then g) (f (g w))))
 
   module _ {a : ℕ} (h : Dart n present a) (fixed : f a ≡ a) where
     -- the face is closed under f: where f z = w lies in it, so does f of the dart after z, f (g w)
-    face-first : {z : ℕ} → Reach (by_one (f then g)) a z → Reach (by_one (f then g)) a (f z)
-    face-first r =
-        orbit-holds face (λ z. Reach (by_one (f then g)) a (f z)) h (λ d k t. reach-trans t (face-back (i.stays k))) r
+    face_first : {z : ℕ} → Reach (by_one (f then g)) a z → Reach (by_one (f then g)) a (f z)
+    face_first r =
+        orbit_holds face (λ z. Reach (by_one (f then g)) a (f z)) h (λ d k t. reach_trans t (face_back (i.stays k))) r
         (rw fixed here)
 
     -- and under g: g z is the dart after f z
-    face-second : {z : ℕ} → Reach (by_one (f then g)) a z → Reach (by_one (f then g)) a (g z)
-    face-second {z} r =
-        reach-trans (face-first r)
-        (subst (Reach (by_one (f then g)) (f z)) (ap g (i.twice (reach-dart (orbit-keeps face) h r)))
-        (by-one-link (f then g) (f z)))
+    face_second : {z : ℕ} → Reach (by_one (f then g)) a z → Reach (by_one (f then g)) a (g z)
+    face_second {z} r =
+        reach_trans (face_first r)
+        (subst (Reach (by_one (f then g)) (f z)) (ap g (i.twice (reach_dart (orbit_keeps face) h r)))
+        (by_one_link (f then g) (f z)))
 
-    pub part-is-face : {b : ℕ} → Reach (by_two f g) a b → Reach (by_one (f then g)) a b
-    part-is-face r =
-        part-holds p q (Reach (by_one (f then g)) a) h (λ d k t. face-first t) (λ d k t. face-second t) r here
+    pub part_is_face : {b : ℕ} → Reach (by_two f g) a b → Reach (by_one (f then g)) a b
+    part_is_face r =
+        part_holds p q (Reach (by_one (f then g)) a) h (λ d k t. face_first t) (λ d k t. face_second t) r here
 
 -- ---- the theorem
 
 module _ {n : ℕ} {present : ℕ → Bool} {g : ℕ → ℕ} (j : Involutes n present g) where
-  balance-step : (f : ℕ → ℕ) (x y : ℕ) → Involutes n present f → Dart n present x → Dart n present y → f x ≡ x →
+  balance_step : (f : ℕ → ℕ) (x y : ℕ) → Involutes n present f → Dart n present x → Dart n present y → f x ≡ x →
       x ≢ y → Genus n present f g 0 → Genus n present (transposed x y f) g 0
-  balance-step f x y i h k fixed differ balanced =
+  balance_step f x y i h k fixed differ balanced =
       ⊎_elim
-      (λ r. genus-one-face (p i j) (q i j) h k apart 0 (part-is-face i j h fixed r) balanced)
-      (λ two. genus-two-parts (p i j) (q i j) h k apart 0 two balanced)
-      (decide-reach (part-keeps (p i j) (q i j)) y h)
+      (λ r. genus_one_face (p i j) (q i j) h k apart 0 (part_is_face i j h fixed r) balanced)
+      (λ two. genus_two_parts (p i j) (q i j) h k apart 0 two balanced)
+      (decide_reach (part_keeps (p i j) (q i j)) y h)
     where
       apart : ¬ Reach (by_one f) x y
-      apart r = differ (fixed-reach f x y fixed r)
+      apart r = differ (fixed_reach f x y fixed r)
 
 -- vertices + edges + faces = darts + 2 × parts
 pub balance : {n : ℕ} {present : ℕ → Bool} {f g : ℕ → ℕ} → Involutes n present f → Involutes n present g →
@@ -75,7 +75,7 @@ pub balance : {n : ℕ} {present : ℕ → Bool} {f g : ℕ → ℕ} → Involut
 balance {n} {present} {f} {g} i j =
     omega (
       arith,
-      built-by-transpositions (Involutes n present) (λ e. Genus n present e g 0) (λ e r. involution-permutes r)
-          (λ e a r h. released-involutes r h)
-          (λ e r u. genus-unmoved (involution-permutes r) (involution-permutes j) u) (balance-step j) f i,
+      built_by_transpositions (Involutes n present) (λ e. Genus n present e g 0) (λ e r. involution_permutes r)
+          (λ e a r h. released_involutes r h)
+          (λ e r u. genus_unmoved (involution_permutes r) (involution_permutes j) u) (balance_step j) f i,
     )

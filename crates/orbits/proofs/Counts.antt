@@ -12,64 +12,64 @@ use native.Mathlib.Omega.{arith}
 use mir.Val.{bool_byte}
 use lib.Dec.{T, T_not, not_T}
 use lib.ListN.{replicate}
-use Rattle.finite.specs.Tests.{and_left, and_right, and_both, of-true, decide}
-use Rattle.finite.specs.Bounded.{one-if, sum, count, lt-or-ge}
-use Rattle.finite.specs.Counting.{count_small, one-if-passes, one-if-fails}
+use Rattle.finite.specs.Tests.{and_left, and_right, and_both, of_true, decide}
+use Rattle.finite.specs.Bounded.{one_if, sum, count, lt_or_ge}
+use Rattle.finite.specs.Counting.{count_small, one_if_passes, one_if_fails}
 use Rattle.orbits.specs.Reach.{Reach, by_one, by_two}
-use Rattle.orbits.specs.Classes.{is-least, classes}
-use Rattle.orbits.specs.Sets.{dart-limit}
-use Rattle.orbits.specs.Links.{Dart, Permutes, link-of, test_of, Permuted}
+use Rattle.orbits.specs.Classes.{is_least, classes}
+use Rattle.orbits.specs.Sets.{dart_limit}
+use Rattle.orbits.specs.Links.{Dart, Permutes, link_of, test_of, Permuted}
 use Rattle.orbits.specs.Queue.{Queue, Closed, Ready, Visited}
-use Rattle.orbits.proofs.Reach.{Symmetric, double-to-single, single-to-double}
-use Rattle.orbits.proofs.Permutations.{orbit-keeps, part-keeps, part-symmetric}
-use Rattle.orbits.proofs.Classes.{least-iff-first, same-classes}
-use Rattle.orbits.proofs.Queue.{lengthened-seen, lengthened-cases}
-use Rattle.orbits.proofs.Parts.{none_seen, queue-none, closed_none, closed-reach, part-within}
+use Rattle.orbits.proofs.Reach.{Symmetric, double_to_single, single_to_double}
+use Rattle.orbits.proofs.Permutations.{orbit_keeps, part_keeps, part_symmetric}
+use Rattle.orbits.proofs.Classes.{least_iff_first, same_classes}
+use Rattle.orbits.proofs.Queue.{lengthened_seen, lengthened_cases}
+use Rattle.orbits.proofs.Parts.{none_seen, queue_none, closed_none, closed_reach, part_within}
 
 -- a is the first dart of its part
 abbrev first : List ℕ → List ℕ → ℕ → (ℕ → Bool) → ℕ → Bool
-first f g n present a = present a && is-least (by_two (link-of f) (link-of g)) n a
+first f g n present a = present a && is_least (by_two (link_of f) (link_of g)) n a
 
 -- The darts below a have been passed: what they reach is in the queue, and nothing else; their parts
 -- are counted.
 pub record Counting (f g : List ℕ) (n : ℕ) (present : ℕ → Bool) (order : List ℕ) (seen : List Bool)
     (end parts a : ℕ) : Type 0 where
   pub queue : Queue order seen end
-  pub links : Closed (link-of f) (link-of g) seen
+  pub links : Closed (link_of f) (link_of g) seen
   pub from : (e : ℕ) → T (test_of seen e) →
-      (b : ℕ) × (b < a) × Dart n present b × Reach (by_two (link-of f) (link-of g)) b e
+      (b : ℕ) × (b < a) × Dart n present b × Reach (by_two (link_of f) (link_of g)) b e
   pub passed : (b : ℕ) → b < a → Dart n present b → T (test_of seen b)
   pub within : a ≤ n
-  pub parts-counted : parts ≡ count a (first f g n present)
+  pub parts_counted : parts ≡ count a (first f g n present)
 
-pub counting-none : (f g : List ℕ) (n : ℕ) (present : ℕ → Bool) →
-    Counting f g n present (replicate dart-limit 0) (replicate dart-limit false) 0 0 0
+pub counting_none : (f g : List ℕ) (n : ℕ) (present : ℕ → Bool) →
+    Counting f g n present (replicate dart_limit 0) (replicate dart_limit false) 0 0 0
 unfolding count sum
-counting-none f g n present =
+counting_none f g n present =
     record {
-      queue = queue-none;
-      links = closed_none (link-of f) (link-of g);
-      from = λ e t. absurd (none_seen dart-limit e t);
+      queue = queue_none;
+      links = closed_none (link_of f) (link_of g);
+      from = λ e t. absurd (none_seen dart_limit e t);
       passed = λ b l h. absurd (not-suc-le-zero l);
       within = zero-le;
-      parts-counted = refl;
+      parts_counted = refl;
     }
 
 -- the same numbers under other names, as where two ways through the code meet
-pub counting-same : {f g : List ℕ} {n : ℕ} {present : ℕ → Bool} {order order₁ : List ℕ} {seen seen₁ : List Bool}
+pub counting_same : {f g : List ℕ} {n : ℕ} {present : ℕ → Bool} {order order₁ : List ℕ} {seen seen₁ : List Bool}
     {end end₁ parts parts₁ a : ℕ} → order₁ ≡ order → seen₁ ≡ seen → end₁ ≡ end → parts₁ ≡ parts →
     Counting f g n present order seen end parts a → Counting f g n present order₁ seen₁ end₁ parts₁ a
-counting-same o s e p c = rw (o, s, e, p) c
+counting_same o s e p c = rw (o, s, e, p) c
 
-pub counting-ends : {f g : List ℕ} {n : ℕ} {present : ℕ → Bool} {order : List ℕ} {seen : List Bool}
+pub counting_ends : {f g : List ℕ} {n : ℕ} {present : ℕ → Bool} {order : List ℕ} {seen : List Bool}
     {end parts a : ℕ} → Counting f g n present order seen end parts a → n ≤ a →
-    parts ≡ classes (by_two (link-of f) (link-of g)) n present
+    parts ≡ classes (by_two (link_of f) (link_of g)) n present
 unfolding classes
-counting-ends {f} {g} {n} {present} {a = a} c l =
+counting_ends {f} {g} {n} {present} {a = a} c l =
     let e : a ≡ n = omega (arith, c.within) in
-    c.parts-counted ∙ ap (λ (k : ℕ). count k (first f g n present)) e
+    c.parts_counted ∙ ap (λ (k : ℕ). count k (first f g n present)) e
 
-pub count_next : (a : ℕ) (p : ℕ → Bool) → count (a + 1) p ≡ count a p + one-if (p a)
+pub count_next : (a : ℕ) (p : ℕ → Bool) → count (a + 1) p ≡ count a p + one_if (p a)
 unfolding count sum
 count_next a p = ap (λ (k : ℕ). count k p) (add-one a)
 
@@ -77,35 +77,35 @@ pub byte_small : (b : Bool) → bool_byte b ≤ 1
 byte_small true = omega arith
 byte_small false = omega arith
 
-pub one-if-byte : (b : Bool) → bool_byte b ≡ one-if b
-unfolding one-if
-one-if-byte true = refl
-one-if-byte false = refl
+pub one_if_byte : (b : Bool) → bool_byte b ≡ one_if b
+unfolding one_if
+one_if_byte true = refl
+one_if_byte false = refl
 
 -- there are no more parts than darts passed
-pub counting-small : {f g : List ℕ} {n : ℕ} {present : ℕ → Bool} {order : List ℕ} {seen : List Bool}
+pub counting_small : {f g : List ℕ} {n : ℕ} {present : ℕ → Bool} {order : List ℕ} {seen : List Bool}
     {end parts a : ℕ} → Counting f g n present order seen end parts a → parts ≤ a
-counting-small {f} {g} {n} {present} {a = a} c =
-    omega (arith, c.parts-counted, count_small a (first f g n present))
+counting_small {f} {g} {n} {present} {a = a} c =
+    omega (arith, c.parts_counted, count_small a (first f g n present))
 
 module _ {f g : List ℕ} {n : ℕ} {present : ℕ → Bool} (p : Permuted n present f g) where
-  symmetric : Symmetric n present (by_two (link-of f) (link-of g))
-  symmetric = part-symmetric p.first.permutes p.second.permutes
+  symmetric : Symmetric n present (by_two (link_of f) (link_of g))
+  symmetric = part_symmetric p.first.permutes p.second.permutes
 
   module _ {order : List ℕ} {seen : List Bool} {end parts a : ℕ} (c : Counting f g n present order seen end parts a)
       (l : a < n) where
     -- a dart that is in the queue is reached from one before it
-    old-not-first : T (test_of seen a) → ¬ T (first f g n present a)
-    old-not-first t u =
+    old_not_first : T (test_of seen a) → ¬ T (first f g n present a)
+    old_not_first t u =
         let b = c.from a t in
-        (least-iff-first symmetric
-        (record { below = l; is-present = and_left (present a) _ u })).0
+        (least_iff_first symmetric
+        (record { below = l; is_present = and_left (present a) _ u })).0
         (and_right (present a) _ u) b.0 b.1 b.2 b.3
 
     -- past a dart that is absent or in the queue
-    pub counting-skip : present a && not (test_of seen a) ≡ false →
+    pub counting_skip : present a && not (test_of seen a) ≡ false →
         Counting f g n present order seen end parts (a + 1)
-    counting-skip old =
+    counting_skip old =
         record {
           queue = c.queue;
           links = c.links;
@@ -115,20 +115,20 @@ module _ {f g : List ℕ} {n : ℕ} {present : ℕ → Bool} (p : Permuted n pre
               (λ (m : b < a). c.passed b m d)
               (λ (m : a ≤ b).
               let e : b ≡ a = omega arith in
-              rw e (in-queue (subst (λ (x : ℕ). T (present x)) e d.is-present)))
-              (lt-or-ge b a);
+              rw e (in_queue (subst (λ (x : ℕ). T (present x)) e d.is_present)))
+              (lt_or_ge b a);
           within = omega arith;
-          parts-counted =
+          parts_counted =
               omega (
                 arith,
-                c.parts-counted,
+                c.parts_counted,
                 count_next a (first f g n present),
-                one-if-fails (first f g n present a) (not_T (first f g n present a) not_first),
+                one_if_fails (first f g n present a) (not_T (first f g n present a) not_first),
               );
         }
       where
-        in-queue : T (present a) → T (test_of seen a)
-        in-queue t =
+        in_queue : T (present a) → T (test_of seen a)
+        in_queue t =
             ⊎_elim
             (λ s. s)
             (λ (s : T (not (test_of seen a))).
@@ -136,62 +136,62 @@ module _ {f g : List ℕ} {n : ℕ} {present : ℕ → Bool} (p : Permuted n pre
             (decide (test_of seen a))
 
         not_first : ¬ T (first f g n present a)
-        not_first u = old-not-first (in-queue (and_left (present a) _ u)) u
+        not_first u = old_not_first (in_queue (and_left (present a) _ u)) u
 
     -- a dart that is not in the queue is the first of its part
     module _ (new : present a && not (test_of seen a) ≡ true) where
-      is-unseen : T (present a && not (test_of seen a))
-      is-unseen = of-true (present a && not (test_of seen a)) new
+      is_unseen : T (present a && not (test_of seen a))
+      is_unseen = of_true (present a && not (test_of seen a)) new
 
-      a-present : T (present a)
-      a-present = and_left (present a) (not (test_of seen a)) is-unseen
+      a_present : T (present a)
+      a_present = and_left (present a) (not (test_of seen a)) is_unseen
 
       not_seen : ¬ T (test_of seen a)
-      not_seen = T_not (test_of seen a) (and_right (present a) (not (test_of seen a)) is-unseen)
+      not_seen = T_not (test_of seen a) (and_right (present a) (not (test_of seen a)) is_unseen)
 
-      a-dart : Dart n present a
-      a-dart = record { below = l; is-present = a-present }
+      a_dart : Dart n present a
+      a_dart = record { below = l; is_present = a_present }
 
-      a-least : T (is-least (by_two (link-of f) (link-of g)) n a)
-      a-least =
-          (least-iff-first symmetric a-dart).1
-          (λ b h d r. not_seen (closed-reach seen c.links r (c.passed b h d)))
+      a_least : T (is_least (by_two (link_of f) (link_of g)) n a)
+      a_least =
+          (least_iff_first symmetric a_dart).1
+          (λ b h d r. not_seen (closed_reach seen c.links r (c.passed b h d)))
 
       -- its part can be visited
-      pub counting-ready : Ready f g a order seen end
-      counting-ready = record { within = part-within p a-dart; queue = c.queue; closed = c.links }
+      pub counting_ready : Ready f g a order seen end
+      counting_ready = record { within = part_within p a_dart; queue = c.queue; closed = c.links }
 
       -- past it, with its part counted
-      pub counting-part : {order₁ : List ℕ} {seen₁ : List Bool} {end₁ : ℕ} → Visited f g a order end order₁ seen₁ end₁ →
+      pub counting_part : {order₁ : List ℕ} {seen₁ : List Bool} {end₁ : ℕ} → Visited f g a order end order₁ seen₁ end₁ →
           Counting f g n present order₁ seen₁ end₁ (parts + 1) (a + 1)
-      counting-part v =
+      counting_part v =
           record {
             queue = v.lengthened.queue;
             links = v.closed;
             from = λ e t.
                 ⊎_elim
                 (λ (o : T (test_of seen e)). let b = c.from e o in (b.0, omega (arith, b.1), b.2, b.3))
-                (λ (s : Reach (by_two (link-of f) (link-of g)) a e). (a, omega arith, a-dart, s))
-                (lengthened-cases v.lengthened c.queue e t);
+                (λ (s : Reach (by_two (link_of f) (link_of g)) a e). (a, omega arith, a_dart, s))
+                (lengthened_cases v.lengthened c.queue e t);
             passed = λ b h d.
                 ⊎_elim
-                (λ (m : b < a). lengthened-seen v.lengthened c.queue b (c.passed b m d))
+                (λ (m : b < a). lengthened_seen v.lengthened c.queue b (c.passed b m d))
                 (λ (m : a ≤ b). let e : b ≡ a = omega arith in rw e v.start)
-                (lt-or-ge b a);
+                (lt_or_ge b a);
             within = omega arith;
-            parts-counted =
+            parts_counted =
                 omega (
                   arith,
-                  c.parts-counted,
+                  c.parts_counted,
                   count_next a (first f g n present),
-                  one-if-passes (first f g n present a) (and_both (present a) _ a-present a-least),
+                  one_if_passes (first f g n present a) (and_both (present a) _ a_present a_least),
                 );
           }
 
 -- ---- one link
 
 -- the parts under a link taken twice over are its orbits
-pub orbits-counted : {n : ℕ} {present : ℕ → Bool} {f : ℕ → ℕ} → Permutes n present f →
+pub orbits_counted : {n : ℕ} {present : ℕ → Bool} {f : ℕ → ℕ} → Permutes n present f →
     classes (by_two f f) n present ≡ classes (by_one f) n present
-orbits-counted p =
-    same-classes (part-keeps p p) (orbit-keeps p) (λ a b h r. double-to-single r) (λ a b h r. single-to-double r)
+orbits_counted p =
+    same_classes (part_keeps p p) (orbit_keeps p) (λ a b h r. double_to_single r) (λ a b h r. single_to_double r)

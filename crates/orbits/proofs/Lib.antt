@@ -1,7 +1,7 @@
 -- The theory of orbits, and the laws that the functions of this crate cite. Nothing is assumed.
---     Reach             the list of what is reached is right: `reaches-iff`
+--     Reach             the list of what is reached is right: `reaches_iff`
 --     Permutations      transpositions; iterates; every dart comes back; orbits are symmetric
---     Classes           classes by least members: `classes-represented`, `join-lowers-classes`
+--     Classes           classes by least members: `classes_represented`, `join_lowers_classes`
 --     Transpositions    a transposition joins two orbits, or cuts one
 --     Building          every permutation is built by transpositions
 --     Genus             the genus of two permutations (for free maps: request #113)

@@ -11,140 +11,140 @@ use native.Mathlib.Omega.{arith}
 use lib.Dec.{T}
 use lib.ListN.{get_or, set, length-set}
 use lib.Seq.{get_or-set_same, get_or-set_other}
-use Rattle.finite.specs.Tests.{of-true, same_or_not}
-use Rattle.finite.specs.Bounded.{any, lt-or-ge}
-use Rattle.finite.specs.Counting.{count_small, count_less, count-one-more}
+use Rattle.finite.specs.Tests.{of_true, same_or_not}
+use Rattle.finite.specs.Bounded.{any, lt_or_ge}
+use Rattle.finite.specs.Counting.{count_small, count_less, count_one_more}
 use Rattle.orbits.specs.Reach.{Reach, here, by_two}
-use Rattle.orbits.specs.Sets.{dart-limit, set-of, no-darts, with-dart}
-use Rattle.orbits.specs.Links.{link-of, test_of, Followable}
+use Rattle.orbits.specs.Sets.{dart_limit, set_of, no_darts, with_dart}
+use Rattle.orbits.specs.Links.{link_of, test_of, Followable}
 use Rattle.orbits.specs.Queue.{Queue, Lengthened, LinksSeen, Ready, Visited, Put, queued}
-use Rattle.orbits.proofs.Links.{link-read}
-use Rattle.orbits.proofs.Sets.{no-darts-set, with-set-of}
-use Rattle.orbits.proofs.Reach.{reach-trans, by-first-link, by-second-link}
+use Rattle.orbits.proofs.Links.{link_read}
+use Rattle.orbits.proofs.Sets.{no_darts_set, with_set_of}
+use Rattle.orbits.proofs.Reach.{reach_trans, by_first_link, by_second_link}
 
-pub queue-small : {order : List ℕ} {seen : List Bool} {end : ℕ} → Queue order seen end → end ≤ dart-limit
-queue-small {seen = seen} q = omega (arith, q.size, count_small dart-limit (test_of seen))
+pub queue_small : {order : List ℕ} {seen : List Bool} {end : ℕ} → Queue order seen end → end ≤ dart_limit
+queue_small {seen = seen} q = omega (arith, q.size, count_small dart_limit (test_of seen))
 
 -- ---- one dart more
 
-module _ {order : List ℕ} {seen : List Bool} {end : ℕ} (q : Queue order seen end) {d : ℕ} (h : d < dart-limit)
+module _ {order : List ℕ} {seen : List Bool} {end : ℕ} (q : Queue order seen end) {d : ℕ} (h : d < dart_limit)
     (new : test_of seen d ≡ false) where
   not_seen : T (not (test_of seen d))
-  not_seen = of-true (not (test_of seen d)) (ap not new)
+  not_seen = of_true (not (test_of seen d)) (ap not new)
 
-  pub queue-room : end < dart-limit
-  queue-room =
+  pub queue_room : end < dart_limit
+  queue_room =
       omega (
         arith,
         q.size,
-        count_less dart-limit d (test_of seen) (λ e. true) (λ e l t. tt) h not_seen tt,
-        count_small dart-limit (λ e. true),
+        count_less dart_limit d (test_of seen) (λ e. true) (λ e l t. tt) h not_seen tt,
+        count_small dart_limit (λ e. true),
       )
 
   seen_at : test_of (set seen d true) d ≡ true
-  seen_at = get_or-set_same seen d true false (omega (arith, q.seen-whole))
+  seen_at = get_or-set_same seen d true false (omega (arith, q.seen_whole))
 
-  order-at : get_or (set order end d) end 0 ≡ d
-  order-at = get_or-set_same order end d 0 (omega (arith, q.order-whole, queue-room))
+  order_at : get_or (set order end d) end 0 ≡ d
+  order_at = get_or-set_same order end d 0 (omega (arith, q.order_whole, queue_room))
 
-  order-before : (i : ℕ) → i < end → get_or (set order end d) i 0 ≡ get_or order i 0
-  order-before i l = get_or-set_other order end i d 0 (omega arith)
+  order_before : (i : ℕ) → i < end → get_or (set order end d) i 0 ≡ get_or order i 0
+  order_before i l = get_or-set_other order end i d 0 (omega arith)
 
-  put-seen : (e : ℕ) → T (test_of seen e) → T (test_of (set seen d true) e)
-  put-seen e t =
+  put_seen : (e : ℕ) → T (test_of seen e) → T (test_of (set seen d true) e)
+  put_seen e t =
       ⊎_elim
-      (λ (i : e ≡ d). of-true (test_of (set seen d true) e) (ap (test_of (set seen d true)) i ∙ seen_at))
+      (λ (i : e ≡ d). of_true (test_of (set seen d true) e) (ap (test_of (set seen d true)) i ∙ seen_at))
       (λ (n : e ≢ d). rw (get_or-set_other seen d e true false n) t)
       (same_or_not e d)
 
-  put-queue : Queue (set order end d) (set seen d true) (end + 1)
-  put-queue =
+  put_queue : Queue (set order end d) (set seen d true) (end + 1)
+  put_queue =
       record {
-        order-whole = length-set order end d ∙ q.order-whole;
-        seen-whole = length-set seen d true ∙ q.seen-whole;
+        order_whole = length-set order end d ∙ q.order_whole;
+        seen_whole = length-set seen d true ∙ q.seen_whole;
         held = λ i l.
             ⊎_elim
-            (λ (m : i < end). rw (order-before i m) (put-seen (get_or order i 0) (q.held i m)))
+            (λ (m : i < end). rw (order_before i m) (put_seen (get_or order i 0) (q.held i m)))
             (λ (m : end ≤ i).
             let e : i ≡ end = omega arith in
-            rw (e, order-at) (of-true (test_of (set seen d true) d) seen_at))
-            (lt-or-ge i end);
+            rw (e, order_at) (of_true (test_of (set seen d true) d) seen_at))
+            (lt_or_ge i end);
         place = λ e t.
             ⊎_elim
-            (λ (i : e ≡ d). (end, omega arith, order-at ∙ sym i))
+            (λ (i : e ≡ d). (end, omega arith, order_at ∙ sym i))
             (λ (n : e ≢ d).
             let at = q.place e (rw (get_or-set_other seen d e true false n) at t) in
-            (at.0, omega arith, order-before at.0 at.1 ∙ at.2))
+            (at.0, omega arith, order_before at.0 at.1 ∙ at.2))
             (same_or_not e d);
         size =
             omega (
               arith,
               q.size,
-              count-one-more dart-limit d (test_of (set seen d true)) (test_of seen) h
-                  (of-true (test_of (set seen d true) d) seen_at)
+              count_one_more dart_limit d (test_of (set seen d true)) (test_of seen) h
+                  (of_true (test_of (set seen d true) d) seen_at)
                   not_seen
                   (λ e l n. get_or-set_other seen d e true false n),
             );
       }
 
-  pub put-new : Put d order end (set order end d) (set seen d true) (end + 1)
-  put-new =
+  pub put_new : Put d order end (set order end d) (set seen d true) (end + 1)
+  put_new =
       record {
         lengthened = record {
-          queue = put-queue;
+          queue = put_queue;
           longer = omega arith;
-          same = order-before;
-          added = λ i l m. let e : i ≡ end = omega arith in rw e order-at;
+          same = order_before;
+          added = λ i l m. let e : i ≡ end = omega arith in rw e order_at;
         };
-        start = of-true (test_of (set seen d true) d) seen_at;
+        start = of_true (test_of (set seen d true) d) seen_at;
       }
 
 -- a dart that was seen
-pub put-old : {order : List ℕ} {seen : List Bool} {end : ℕ} {d : ℕ} → Queue order seen end → test_of seen d ≡ true →
+pub put_old : {order : List ℕ} {seen : List Bool} {end : ℕ} {d : ℕ} → Queue order seen end → test_of seen d ≡ true →
     Put d order end order seen end
-put-old {seen = seen} {d = d} q old =
+put_old {seen = seen} {d = d} q old =
     record {
       lengthened =
           record { queue = q; longer = le_refl _; same = λ i l. refl; added = λ i l m. absurd (omega arith) };
-      start = of-true (test_of seen d) old;
+      start = of_true (test_of seen d) old;
     }
 
 -- ---- growing
 
-module _ {Q : ℕ → Type 0} {order : List ℕ} {end : ℕ} {order-after : List ℕ} {seen-after : List Bool} {end_after : ℕ}
-    (r : Lengthened Q order end order-after seen-after end_after) where
+module _ {Q : ℕ → Type 0} {order : List ℕ} {end : ℕ} {order_after : List ℕ} {seen_after : List Bool} {end_after : ℕ}
+    (r : Lengthened Q order end order_after seen_after end_after) where
   -- what was seen is seen
-  pub lengthened-seen : {seen : List Bool} → Queue order seen end → (d : ℕ) → T (test_of seen d) → T (test_of seen-after d)
-  lengthened-seen q d t =
+  pub lengthened_seen : {seen : List Bool} → Queue order seen end → (d : ℕ) → T (test_of seen d) → T (test_of seen_after d)
+  lengthened_seen q d t =
       let at = q.place d t in
-      subst (λ (e : ℕ). T (test_of seen-after e)) (r.same at.0 at.1 ∙ at.2)
+      subst (λ (e : ℕ). T (test_of seen_after e)) (r.same at.0 at.1 ∙ at.2)
       (r.queue.held at.0 (omega (arith, r.longer)))
 
   -- what is seen was seen, or is new
-  pub lengthened-cases : {seen : List Bool} → Queue order seen end → (d : ℕ) → T (test_of seen-after d) →
+  pub lengthened_cases : {seen : List Bool} → Queue order seen end → (d : ℕ) → T (test_of seen_after d) →
       T (test_of seen d) ⊎ Q d
-  lengthened-cases {seen} q d t =
+  lengthened_cases {seen} q d t =
       let at = r.queue.place d t in
       ⊎_elim
       (λ (l : at.0 < end).
       inl (subst (λ (e : ℕ). T (test_of seen e)) (sym (r.same at.0 l) ∙ at.2) (q.held at.0 l)))
       (λ (l : end ≤ at.0). inr (subst Q at.2 (r.added at.0 l at.1)))
-      (lt-or-ge at.0 end)
+      (lt_or_ge at.0 end)
 
   -- what holds of the new darts
-  pub lengthened-map : {P : ℕ → Type 0} → ((d : ℕ) → Q d → P d) → Lengthened P order end order-after seen-after end_after
-  lengthened-map to =
+  pub lengthened_map : {P : ℕ → Type 0} → ((d : ℕ) → Q d → P d) → Lengthened P order end order_after seen_after end_after
+  lengthened_map to =
       record {
         queue = r.queue;
         longer = r.longer;
         same = r.same;
-        added = λ i l m. to (get_or order-after i 0) (r.added i l m);
+        added = λ i l m. to (get_or order_after i 0) (r.added i l m);
       }
 
   -- growing once more
-  pub lengthened-on : {order-last : List ℕ} {Seen-last : List Bool} {end-last : ℕ} →
-      Lengthened Q order-after end_after order-last Seen-last end-last → Lengthened Q order end order-last Seen-last end-last
-  lengthened-on s =
+  pub lengthened_on : {order_last : List ℕ} {Seen-last : List Bool} {end_last : ℕ} →
+      Lengthened Q order_after end_after order_last Seen-last end_last → Lengthened Q order end order_last Seen-last end_last
+  lengthened_on s =
       record {
         queue = s.queue;
         longer = omega (arith, r.longer, s.longer);
@@ -153,7 +153,7 @@ module _ {Q : ℕ → Type 0} {order : List ℕ} {end : ℕ} {order-after : List
             ⊎_elim
             (λ (k : i < end_after). subst Q (sym (s.same i k)) (r.added i l k))
             (λ (k : end_after ≤ i). s.added i k m)
-            (lt-or-ge i end_after);
+            (lt_or_ge i end_after);
       }
 
 -- ---- a visit
@@ -162,82 +162,82 @@ module _ {Q : ℕ → Type 0} {order : List ℕ} {end : ℕ} {order-after : List
 -- `head` has its links in the queue.
 pub record Visiting (f g : List ℕ) (d : ℕ) (order₀ : List ℕ) (end₀ : ℕ) (order : List ℕ) (seen : List Bool)
     (end head : ℕ) : Type 0 where
-  pub lengthened : Lengthened (Reach (by_two (link-of f) (link-of g)) d) order₀ end₀ order seen end
+  pub lengthened : Lengthened (Reach (by_two (link_of f) (link_of g)) d) order₀ end₀ order seen end
   pub start : T (test_of seen d)
   pub begun : end₀ ≤ head
   pub within : head ≤ end
-  pub done : (i : ℕ) → i < head → LinksSeen (link-of f) (link-of g) seen (get_or order i 0)
+  pub done : (i : ℕ) → i < head → LinksSeen (link_of f) (link_of g) seen (get_or order i 0)
 
 -- it begins with d, before which all links are in the queue
-pub visit-begins : {f g : List ℕ} {d : ℕ} {order₀ : List ℕ} {seen₀ : List Bool} {end₀ : ℕ} {order : List ℕ}
+pub visit_begins : {f g : List ℕ} {d : ℕ} {order₀ : List ℕ} {seen₀ : List Bool} {end₀ : ℕ} {order : List ℕ}
     {seen : List Bool} {end : ℕ} → Ready f g d order₀ seen₀ end₀ → Put d order₀ end₀ order seen end →
     Visiting f g d order₀ end₀ order seen end end₀
-visit-begins {f} {g} {d} {order₀} {seen = seen} ready put =
+visit_begins {f} {g} {d} {order₀} {seen = seen} ready put =
     record {
-      lengthened = lengthened-map put.lengthened (λ e i. rw i here);
+      lengthened = lengthened_map put.lengthened (λ e i. rw i here);
       start = put.start;
       begun = le_refl _;
       within = put.lengthened.longer;
       done = λ i l.
           let old = ready.closed (get_or order₀ i 0) (ready.queue.held i l) in
           rw (put.lengthened.same i l) (
-            lengthened-seen put.lengthened ready.queue (link-of f (get_or order₀ i 0)) old.0,
-            lengthened-seen put.lengthened ready.queue (link-of g (get_or order₀ i 0)) old.1,
+            lengthened_seen put.lengthened ready.queue (link_of f (get_or order₀ i 0)) old.0,
+            lengthened_seen put.lengthened ready.queue (link_of g (get_or order₀ i 0)) old.1,
           );
     }
 
 -- it ends when every dart of the queue has been passed
-pub visit-ends : {f g : List ℕ} {d : ℕ} {order₀ : List ℕ} {end₀ : ℕ} {order : List ℕ} {seen : List Bool}
+pub visit_ends : {f g : List ℕ} {d : ℕ} {order₀ : List ℕ} {end₀ : ℕ} {order : List ℕ} {seen : List Bool}
     {end head : ℕ} → Visiting f g d order₀ end₀ order seen end head → end ≤ head →
     Visited f g d order₀ end₀ order seen end
-visit-ends {f} {g} {seen = seen} v h =
+visit_ends {f} {g} {seen = seen} v h =
     record {
       lengthened = v.lengthened;
       start = v.start;
       closed = λ e t.
           let at = v.lengthened.queue.place e t in
-          subst (LinksSeen (link-of f) (link-of g) seen) at.2 (v.done at.0 (omega arith));
+          subst (LinksSeen (link_of f) (link_of g) seen) at.2 (v.done at.0 (omega arith));
     }
 
 -- until then there is a dart at `head`, reached from d
 module _ {f g : List ℕ} {d : ℕ} {order₀ : List ℕ} {end₀ : ℕ} {order : List ℕ} {seen : List Bool} {end head : ℕ}
     (w : Followable f g d) (v : Visiting f g d order₀ end₀ order seen end head) (h : head < end) where
-  head-reached : Reach (by_two (link-of f) (link-of g)) d (get_or order head 0)
-  head-reached = v.lengthened.added head v.begun h
+  head_reached : Reach (by_two (link_of f) (link_of g)) d (get_or order head 0)
+  head_reached = v.lengthened.added head v.begun h
 
-  first-reached : Reach (by_two (link-of f) (link-of g)) d (link-of f (get_or order head 0))
-  first-reached = reach-trans head-reached (by-first-link (link-of f) (link-of g) (get_or order head 0))
+  first_reached : Reach (by_two (link_of f) (link_of g)) d (link_of f (get_or order head 0))
+  first_reached = reach_trans head_reached (by_first_link (link_of f) (link_of g) (get_or order head 0))
 
-  second-reached : Reach (by_two (link-of f) (link-of g)) d (link-of g (get_or order head 0))
-  second-reached = reach-trans head-reached (by-second-link (link-of f) (link-of g) (get_or order head 0))
+  second_reached : Reach (by_two (link_of f) (link_of g)) d (link_of g (get_or order head 0))
+  second_reached = reach_trans head_reached (by_second_link (link_of f) (link_of g) (get_or order head 0))
 
-  pub head-below : get_or order head 0 < dart-limit
-  head-below = w.below (get_or order head 0) head-reached
+  pub head_below : get_or order head 0 < dart_limit
+  head_below = w.below (get_or order head 0) head_reached
 
-  first_read : get_or f (get_or order head 0) 0 ≡ link-of f (get_or order head 0)
-  first_read = link-read f w.first-whole (get_or order head 0) head-below
+  first_read : get_or f (get_or order head 0) 0 ≡ link_of f (get_or order head 0)
+  first_read = link_read f w.first_whole (get_or order head 0) head_below
 
-  second-read : get_or g (get_or order head 0) 0 ≡ link-of g (get_or order head 0)
-  second-read = link-read g w.second-whole (get_or order head 0) head-below
+  second_read : get_or g (get_or order head 0) 0 ≡ link_of g (get_or order head 0)
+  second_read = link_read g w.second_whole (get_or order head 0) head_below
 
-  pub first_below : get_or f (get_or order head 0) 0 < dart-limit
-  first_below = rw first_read (w.below (link-of f (get_or order head 0)) first-reached)
+  pub first_below : get_or f (get_or order head 0) 0 < dart_limit
+  first_below = rw first_read (w.below (link_of f (get_or order head 0)) first_reached)
 
-  pub second_below : get_or g (get_or order head 0) 0 < dart-limit
-  second_below = rw second-read (w.below (link-of g (get_or order head 0)) second-reached)
+  pub second_below : get_or g (get_or order head 0) 0 < dart_limit
+  second_below = rw second_read (w.below (link_of g (get_or order head 0)) second_reached)
 
   -- a step puts its two links
-  pub visit-step : {order₁ order₂ : List ℕ} {seen₁ seen₂ : List Bool} {end₁ end₂ : ℕ} →
+  pub visit_step : {order₁ order₂ : List ℕ} {seen₁ seen₂ : List Bool} {end₁ end₂ : ℕ} →
       Put (get_or f (get_or order head 0) 0) order end order₁ seen₁ end₁ →
       Put (get_or g (get_or order head 0) 0) order₁ end₁ order₂ seen₂ end₂ →
       Visiting f g d order₀ end₀ order₂ seen₂ end₂ (head + 1)
-  visit-step {order₂ = order₂} {seen₂ = seen₂} p q =
+  visit_step {order₂ = order₂} {seen₂ = seen₂} p q =
       record {
         lengthened =
-            lengthened-on v.lengthened
-            (lengthened-on
-            (lengthened-map p.lengthened (λ e i. rw (i ∙ first_read) first-reached))
-            (lengthened-map q.lengthened (λ e i. rw (i ∙ second-read) second-reached)));
+            lengthened_on v.lengthened
+            (lengthened_on
+            (lengthened_map p.lengthened (λ e i. rw (i ∙ first_read) first_reached))
+            (lengthened_map q.lengthened (λ e i. rw (i ∙ second_read) second_reached)));
         start = later d v.start;
         begun = omega (arith, v.begun);
         within = omega (arith, p.lengthened.longer, q.lengthened.longer);
@@ -246,12 +246,12 @@ module _ {f g : List ℕ} {d : ℕ} {order₀ : List ℕ} {end₀ : ℕ} {order 
             (λ (m : i < head).
             let old = v.done i m in
             rw (same i (omega arith))
-            (later (link-of f (get_or order i 0)) old.0, later (link-of g (get_or order i 0)) old.1))
+            (later (link_of f (get_or order i 0)) old.0, later (link_of g (get_or order i 0)) old.1))
             (λ (m : head ≤ i).
             let e : i ≡ head = omega arith in
-            rw (ap (λ (k : ℕ). get_or order₂ k 0) e ∙ same head h) (rw (← first_read, ← second-read)
-            (lengthened-seen q.lengthened p.lengthened.queue (get_or f (get_or order head 0) 0) p.start, q.start)))
-            (lt-or-ge i head);
+            rw (ap (λ (k : ℕ). get_or order₂ k 0) e ∙ same head h) (rw (← first_read, ← second_read)
+            (lengthened_seen q.lengthened p.lengthened.queue (get_or f (get_or order head 0) 0) p.start, q.start)))
+            (lt_or_ge i head);
       }
     where
       same : (i : ℕ) → i < end → get_or order₂ i 0 ≡ get_or order i 0
@@ -259,16 +259,16 @@ module _ {f g : List ℕ} {d : ℕ} {order₀ : List ℕ} {end₀ : ℕ} {order 
 
       later : (e : ℕ) → T (test_of seen e) → T (test_of seen₂ e)
       later e t =
-          lengthened-seen q.lengthened p.lengthened.queue e (lengthened-seen p.lengthened v.lengthened.queue e t)
+          lengthened_seen q.lengthened p.lengthened.queue e (lengthened_seen p.lengthened v.lengthened.queue e t)
 
 -- ---- the darts of the queue as a set
 
-pub queued-none : (order : List ℕ) → no-darts ≡ set-of (queued order 0)
+pub queued_none : (order : List ℕ) → no_darts ≡ set_of (queued order 0)
 unfolding queued any
-queued-none order = no-darts-set
+queued_none order = no_darts_set
 
-pub queued-more : (order : List ℕ) (i : ℕ) →
-    with-dart (set-of (queued order i)) (get_or order i 0) ≡ set-of (queued order (i + 1))
+pub queued_more : (order : List ℕ) (i : ℕ) →
+    with_dart (set_of (queued order i)) (get_or order i 0) ≡ set_of (queued order (i + 1))
 unfolding queued any
-queued-more order i =
-    with-set-of (queued order i) (get_or order i 0) ∙ ap (λ (k : ℕ). set-of (queued order k)) (sym (add-one i))
+queued_more order i =
+    with_set_of (queued order i) (get_or order i 0) ∙ ap (λ (k : ℕ). set_of (queued order k)) (sym (add-one i))

@@ -9,25 +9,25 @@ use Rattle.finite.specs.Lists.{elem, all_in}
 use Rattle.orbits.specs.Reach.{by_two, reached}
 
 -- a is the least of the darts that it reaches, so it stands for its class
-unfoldable pub is-least : (ℕ → List ℕ) → ℕ → ℕ → Bool
+unfoldable pub is_least : (ℕ → List ℕ) → ℕ → ℕ → Bool
 unfolding all reached elem
-is-least next n a = let s = reached next n a in all a (λ b. not (elem b s))
+is_least next n a = let s = reached next n a in all a (λ b. not (elem b s))
 
 -- the number of orbits (next by one link) or of connected parts (by two) of the present darts
 unfoldable pub classes : (ℕ → List ℕ) → ℕ → (ℕ → Bool) → ℕ
-unfolding count is-least
-classes next n present = count n (λ a. present a && is-least next n a)
+unfolding count is_least
+classes next n present = count n (λ a. present a && is_least next n a)
 
 -- a dart that the link leaves where it is
-unfoldable pub is-fixed : (ℕ → ℕ) → ℕ → Bool
-is-fixed f d = eqb (f d) d
+unfoldable pub is_fixed : (ℕ → ℕ) → ℕ → Bool
+is_fixed f d = eqb (f d) d
 
 -- the part of a is a closed walk: neither link fixes a dart of it
-unfoldable pub is-closed : (ℕ → ℕ) → (ℕ → ℕ) → ℕ → ℕ → Bool
-unfolding all_in reached is-fixed
-is-closed f g n a = all_in (λ d. not (is-fixed f d) && not (is-fixed g d)) (reached (by_two f g) n a)
+unfoldable pub is_closed : (ℕ → ℕ) → (ℕ → ℕ) → ℕ → ℕ → Bool
+unfolding all_in reached is_fixed
+is_closed f g n a = all_in (λ d. not (is_fixed f d) && not (is_fixed g d)) (reached (by_two f g) n a)
 
 -- the number of closed walks among the present darts
-unfoldable pub closed-walks : (ℕ → ℕ) → (ℕ → ℕ) → ℕ → (ℕ → Bool) → ℕ
-unfolding classes is-closed
-closed-walks f g n present = classes (by_two f g) n (λ a. present a && is-closed f g n a)
+unfoldable pub closed_walks : (ℕ → ℕ) → (ℕ → ℕ) → ℕ → (ℕ → Bool) → ℕ
+unfolding classes is_closed
+closed_walks f g n present = classes (by_two f g) n (λ a. present a && is_closed f g n a)

@@ -6,9 +6,9 @@ mod visits;
 ghost use Rattle.std.specs.Prelude.{◌≡◌, length};
 ghost use Rattle.orbits.specs.Reach.{by_one, by_two, reaches, StaysBelow};
 ghost use Rattle.orbits.specs.Classes.{classes};
-ghost use Rattle.orbits.specs.Sets.{dart-limit, set-of, no-darts, has, with-dart};
-ghost use Rattle.orbits.specs.Walks.{walker-at};
-ghost use Rattle.orbits.specs.Links.{link-of, test_of, Composable, Composed, Followable, Permuted};
+ghost use Rattle.orbits.specs.Sets.{dart_limit, set_of, no_darts, has, with_dart};
+ghost use Rattle.orbits.specs.Walks.{walker_at};
+ghost use Rattle.orbits.specs.Links.{link_of, test_of, Composable, Composed, Followable, Permuted};
 
 // Darts are numbered 0 to 1,023.
 pub const DART_LIMIT: usize = 1024;
@@ -23,7 +23,7 @@ pub struct DartSet {
 impl DartSet {
     // The set of no dart.
     pub fn empty() -> Self
-        ensures { result ≡ no-darts }
+        ensures { result ≡ no_darts }
     {
         DartSet {
             words: [0u64; 16],
@@ -46,7 +46,7 @@ impl DartSet {
     // The set with one dart more: the same set where d is a member, or no dart. The size of a set that
     // no call made may be any number: one that is no number of darts stays, so that nothing wraps.
     pub fn with_dart(self, d: usize) -> Self
-        ensures { result ≡ with-dart self d }
+        ensures { result ≡ with_dart self d }
     {
         if DART_LIMIT <= d {
             return self;
@@ -90,14 +90,14 @@ pub struct Walker {
 impl Walker {
     // A walker that starts at dart d.
     pub fn starting_at(d: usize) -> Self
-        ensures { result ≡ walker-at d }
+        ensures { result ≡ walker_at d }
     {
         Walker { dart: d }
     }
 
     // The walker moved along a link. At a number past the list it stays.
     pub fn moved(self, link: &[usize]) -> Self
-        ensures { result ≡ walker-at (link-of link.now self.dart) }
+        ensures { result ≡ walker_at (link_of link.now self.dart) }
     {
         let d = self.dart;
         if d < link.len() {
@@ -117,7 +117,7 @@ impl Walker {
 
 // Where the link that a list holds leads from d; a number past the list stays.
 pub fn link_of(links: &[usize], d: usize) -> usize
-    ensures { result ≡ link-of links.now d }
+    ensures { result ≡ link_of links.now d }
 {
     if d < links.len() { links[d] } else { d }
 }
@@ -141,7 +141,7 @@ pub fn compose(
 pub fn part(f: &[usize; DART_LIMIT], g: &[usize; DART_LIMIT], d: usize) -> DartSet
     requires { Followable f.now g.now d }
     ensures { result ≡
-        set-of (reaches (by_two (link-of f.now) (link-of g.now)) dart-limit d) }
+        set_of (reaches (by_two (link_of f.now) (link_of g.now)) dart_limit d) }
 {
     let mut order = [0usize; DART_LIMIT];
     let mut seen = [false; DART_LIMIT];
@@ -151,8 +151,8 @@ pub fn part(f: &[usize; DART_LIMIT], g: &[usize; DART_LIMIT], d: usize) -> DartS
 
 // The orbit of dart d: all that is reached from it by the link f.
 pub fn orbit(f: &[usize; DART_LIMIT], d: usize) -> DartSet
-    requires { (length f.now ≡ dart-limit) × StaysBelow dart-limit (by_one (link-of f.now)) d }
-    ensures { result ≡ set-of (reaches (by_one (link-of f.now)) dart-limit d) }
+    requires { (length f.now ≡ dart_limit) × StaysBelow dart_limit (by_one (link_of f.now)) d }
+    ensures { result ≡ set_of (reaches (by_one (link_of f.now)) dart_limit d) }
 {
     part(f, f, d)
 }
@@ -167,7 +167,7 @@ pub fn part_count(
 ) -> usize
     requires { Permuted n (test_of present.now) f.now g.now }
     ensures { result ≡
-        classes (by_two (link-of f.now) (link-of g.now)) n (test_of present.now) }
+        classes (by_two (link_of f.now) (link_of g.now)) n (test_of present.now) }
 {
     let mut order = [0usize; DART_LIMIT];
     let mut seen = [false; DART_LIMIT];
@@ -187,7 +187,7 @@ pub fn part_count(
 // How many orbits the present darts below n have under the link f.
 pub fn orbit_count(f: &[usize; DART_LIMIT], n: usize, present: &[bool; DART_LIMIT]) -> usize
     requires { Permuted n (test_of present.now) f.now f.now }
-    ensures { result ≡ classes (by_one (link-of f.now)) n (test_of present.now) }
+    ensures { result ≡ classes (by_one (link_of f.now)) n (test_of present.now) }
 {
     part_count(f, f, n, present)
 }

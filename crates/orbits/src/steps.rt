@@ -2,14 +2,14 @@
 // less left at each call. The links are lent as slices, and any number may stand in them.
 
 ghost use Rattle.std.specs.Prelude.{◌≡◌, ◌+◌, ◌<◌, ◌^◌};
-ghost use Rattle.orbits.specs.Walks.{ends, edge-step, point-step, walk};
-ghost use Rattle.orbits.specs.Links.{link-of};
+ghost use Rattle.orbits.specs.Walks.{ends, edge_step, point_step, walk};
+ghost use Rattle.orbits.specs.Links.{link_of};
 
 use crate::{Ending, Walk, Walker};
 
 // The walk from dart d along the links f and g in turn, of at most n moves.
 pub fn walk<'a>(f: &'a [usize], g: &'a [usize], n: usize, d: usize) -> Walk
-    ensures { result ≡ walk (link-of f.now) (link-of g.now) n d }
+    ensures { result ≡ walk (link_of f.now) (link_of g.now) n d }
 {
     edge_step(f, g, d, n, Walker::starting_at(d), 0)
 }
@@ -26,7 +26,7 @@ fn edge_step<'a>(
 ) -> Walk
     requires { left + moves < 2 ^ 64 }
     ensures { result ≡
-        edge-step (link-of f.now) (link-of g.now) start left walker.dart moves }
+        edge_step (link_of f.now) (link_of g.now) start left walker.dart moves }
 {
     if left == 0 {
         return ended(Ending::Loose, walker, moves);
@@ -50,7 +50,7 @@ fn point_step<'a>(
 ) -> Walk
     requires { left + moves < 2 ^ 64 }
     ensures { result ≡
-        point-step (link-of f.now) (link-of g.now) start left walker.dart moves }
+        point_step (link_of f.now) (link_of g.now) start left walker.dart moves }
 {
     if left == 0 {
         return ended(Ending::Loose, walker, moves);

@@ -1,6 +1,6 @@
 // The queue by which darts are visited: `order` up to `end`, with `seen` marking the darts in it.
 ghost use Rattle.std.specs.Prelude.{◌≡◌, ◌&&◌, not, ◌<◌, ◌≤◌};
-ghost use Rattle.orbits.specs.Sets.{dart-limit, set-of};
+ghost use Rattle.orbits.specs.Sets.{dart_limit, set_of};
 ghost use Rattle.orbits.specs.Links.{test_of};
 ghost use Rattle.orbits.specs.Queue.{Queue, Put, Ready, Visited, queued};
 
@@ -13,7 +13,7 @@ pub(crate) fn put(
     end: usize,
     d: usize,
 ) -> usize
-    requires { Queue order.old seen.old end × (d < dart-limit) }
+    requires { Queue order.old seen.old end × (d < dart_limit) }
     ensures { Put d order.old end order.new seen.new result }
 {
     if seen[d] {
@@ -50,8 +50,8 @@ pub(crate) fn visit(
 
 // The darts of the queue as a set.
 pub(crate) fn set_of(order: &[usize; DART_LIMIT], end: usize) -> DartSet
-    requires { end ≤ dart-limit }
-    ensures { result ≡ set-of (queued order.now end) }
+    requires { end ≤ dart_limit }
+    ensures { result ≡ set_of (queued order.now end) }
 {
     let mut darts = DartSet::empty();
     let mut i = 0;
@@ -64,7 +64,7 @@ pub(crate) fn set_of(order: &[usize; DART_LIMIT], end: usize) -> DartSet
 
 // Whether dart a is present and not in the queue.
 pub(crate) fn is_unseen(present: &[bool; DART_LIMIT], seen: &[bool; DART_LIMIT], a: usize) -> bool
-    requires { a < dart-limit }
+    requires { a < dart_limit }
     ensures { result ≡ test_of present.now a && not (test_of seen.now a) }
 {
     if present[a] { !seen[a] } else { false }

@@ -9,62 +9,62 @@ use native.Mathlib.Omega.{arith}
 use lib.ListN.{length}
 use Rattle.reports.specs.declared.Summary.{Summary}
 use Rattle.lines.specs.declared.positions.Piece.{Piece}
-use Rattle.lines.specs.Lines.{line-count}
+use Rattle.lines.specs.Lines.{line_count}
 use Rattle.reports.specs.Summaries.{Fits, Decides}
 use Rattle.reports.specs.Pieces.{WroteLines, Pieces, begun, continued}
-use Rattle.reports.proofs.Wholes.{piece-whole, piece-last, piece-further, pieces-are-the-report}
+use Rattle.reports.proofs.Wholes.{piece_whole, piece_last, piece_further, pieces_are_the_report}
 use Rattle.outline.specs.declared.Printed.{Printed}
 use Rattle.outline.specs.Printing.{PrintsLines, PrintsReport}
 
 -- as many bytes as the kit's large buffer has
-abbrev pub buffer-length : ℕ
-buffer-length = 65_536
+abbrev pub buffer_length : ℕ
+buffer_length = 65_536
 
 -- before each piece: the pieces so far, and a whole buffer
 pub record Printing (answers : List ℕ) (d : Summary) (buffer : List ℕ) (from : ℕ) : Type 0 where
   pub bytes : List ℕ
   pub pieces : Pieces answers d from bytes
-  pub inside : from ≤ line-count d.ends
-  pub long : length buffer ≡ buffer-length
+  pub inside : from ≤ line_count d.ends
+  pub long : length buffer ≡ buffer_length
 
-pub none-printed : (answers : List ℕ) (d : Summary) {buffer : List ℕ} →
-    buffer-length ≡ length buffer → Printing answers d buffer 0
-none-printed answers d e =
+pub none_printed : (answers : List ℕ) (d : Summary) {buffer : List ℕ} →
+    buffer_length ≡ length buffer → Printing answers d buffer 0
+none_printed answers d e =
     record { bytes = []; pieces = begun; inside = omega arith; long = omega arith }
 
 module _ {answers : List ℕ} {d : Summary} {buffer after : List ℕ} {from : ℕ} {r : Piece}
     (p : Printing answers d buffer from)
     (w : WroteLines answers d from buffer after r) where
-  pub buffer-whole : length after ≡ buffer-length
-  buffer-whole = piece-whole answers d w ∙ p.long
+  pub buffer_whole : length after ≡ buffer_length
+  buffer_whole = piece_whole answers d w ∙ p.long
 
-  pub one-printed : Printing answers d after r.next
-  one-printed =
+  pub one_printed : Printing answers d after r.next
+  one_printed =
       record {
         bytes = _;
         pieces = continued p.pieces w;
         inside = w.whole p.inside;
-        long = buffer-whole;
+        long = buffer_whole;
       }
 
-  pub goes_further : r.length ≢ 0 → (from < r.next) × (r.next ≤ line-count d.ends)
-  goes_further some = (piece-further answers d w some, one-printed.inside)
+  pub goes_further : r.length ≢ 0 → (from < r.next) × (r.next ≤ line_count d.ends)
+  goes_further some = (piece_further answers d w some, one_printed.inside)
 
   -- a piece that has no bytes is the last
-  pub all-printed : Fits d → r.length ≡ 0 →
+  pub all_printed : Fits d → r.length ≡ 0 →
       PrintsLines answers d (record { next = r.next; failed = false })
-  all-printed f none =
+  all_printed f none =
       record {
-        bytes = one-printed.bytes;
-        pieces = one-printed.pieces;
-        whole = λ e. piece-last answers d w f (omega (arith, p.long)) p.inside none;
+        bytes = one_printed.bytes;
+        pieces = one_printed.pieces;
+        whole = λ e. piece_last answers d w f (omega (arith, p.long)) p.inside none;
       }
 
 -- a piece that cannot be written is not counted
-pub print-failed : {answers : List ℕ} {d : Summary} {buffer : List ℕ} {from : ℕ} →
+pub print_failed : {answers : List ℕ} {d : Summary} {buffer : List ℕ} {from : ℕ} →
     Printing answers d buffer from →
     PrintsLines answers d (record { next = from; failed = true })
-print-failed p =
+print_failed p =
     record {
       bytes = p.bytes;
       pieces = p.pieces;
@@ -72,14 +72,14 @@ print-failed p =
     }
 
 -- pieces to the end are the report
-pub report-printed : {text answers : List ℕ} {d : Summary} {r : Printed} →
+pub report_printed : {text answers : List ℕ} {d : Summary} {r : Printed} →
     Decides text answers d → PrintsLines answers d r → PrintsReport text r
-report-printed {text} {answers} {d} decides p =
+report_printed {text} {answers} {d} decides p =
     record {
       answers = answers;
       decided = d;
       prints = p;
-      is-report =
-          λ e. pieces-are-the-report decides
+      is_report =
+          λ e. pieces_are_the_report decides
           (rw (p.whole e) at p.pieces);
     }

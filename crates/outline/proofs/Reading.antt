@@ -15,16 +15,16 @@ use Rattle.outline.specs.Reading.{ReadMore, Reads, begun, continued, ReadText}
 -- the list with its rest from `filled` on replaced, as the system left it
 module _ {before : List ℕ} {filled : ℕ} (last : List ℕ) (inside : filled ≤ length before)
     (as_long : length (put_mid filled (length before - filled) before last) ≡ length before) where
-  pub read-failed :
+  pub read_failed :
       ReadMore before filled (put_mid filled (length before - filled) before last)
       (record { length = filled; ended = false; failed = true })
-  read-failed =
+  read_failed =
       record {
         kept = take_put filled (length before - filled) before last inside;
         as_long = as_long;
         not_back = omega arith;
         inside = inside;
-        nothing-more = λ e. absurd (let z : ◌≡◌ {A = ℕ} 0 1 = cc in omega arith);
+        nothing_more = λ e. absurd (let z : ◌≡◌ {A = ℕ} 0 1 = cc in omega arith);
         goes_on = λ e. absurd (let z : ◌≡◌ {A = ℕ} 0 1 = cc in omega arith);
       }
 
@@ -37,7 +37,7 @@ module _ {before : List ℕ} {filled : ℕ} (last : List ℕ) (inside : filled �
         as_long = as_long;
         not_back = omega arith;
         inside = fits;
-        nothing-more = λ none. omega (arith, eqb-true more 0 none);
+        nothing_more = λ none. omega (arith, eqb-true more 0 none);
         goes_on = λ e some. let n = eqb-false more 0 some in positive more n;
       }
     where
@@ -55,8 +55,8 @@ none_read lent = record { reads = begun; inside = omega arith; as_long = refl }
 
 module _ {lent before after : List ℕ} {filled : ℕ} {r : Input} (f : Filling lent before filled)
     (m : ReadMore before filled after r) where
-  pub one-read : Filling lent after r.length
-  one-read =
+  pub one_read : Filling lent after r.length
+  one_read =
       record {
         reads = continued f.reads m;
         inside = omega (arith, m.inside, f.as_long);
@@ -64,15 +64,15 @@ module _ {lent before after : List ℕ} {filled : ℕ} {r : Input} (f : Filling 
       }
 
   -- a read that fails, or that comes to the end of the input, is the last
-  pub read-ends : (r.failed ≡ false → r.ended ≡ false → ⊥) → ReadText lent after r
-  read-ends last =
+  pub read_ends : (r.failed ≡ false → r.ended ≡ false → ⊥) → ReadText lent after r
+  read_ends last =
       record {
-        reads = one-read.reads;
-        inside = one-read.inside;
-        as_long = one-read.as_long;
+        reads = one_read.reads;
+        inside = one_read.inside;
+        as_long = one_read.as_long;
         told = λ e. (
           before,
-          subst (λ (k : ℕ). ReadMore before k after r) (sym (m.nothing-more e)) m,
+          subst (λ (k : ℕ). ReadMore before k after r) (sym (m.nothing_more e)) m,
         );
         whole = λ e h. absurd (last e h);
       }

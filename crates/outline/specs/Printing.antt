@@ -3,7 +3,7 @@
 use Rattle.std.specs.Prelude.{◌≡◌, false, List, ℕ}
 use Rattle.model.specs.Report.{report}
 use Rattle.reports.specs.declared.Summary.{Summary}
-use Rattle.lines.specs.Lines.{line-count}
+use Rattle.lines.specs.Lines.{line_count}
 use Rattle.reports.specs.Pieces.{Pieces}
 use Rattle.outline.specs.declared.Printed.{Printed}
 
@@ -12,11 +12,11 @@ use Rattle.outline.specs.declared.Printed.{Printed}
 pub record PrintsLines (answers : List ℕ) (d : Summary) (r : Printed) : Type 0 where
   pub bytes : List ℕ
   pub pieces : Pieces answers d r.next bytes
-  pub whole : r.failed ≡ false → r.next ≡ line-count d.ends
+  pub whole : r.failed ≡ false → r.next ≡ line_count d.ends
 
 -- so where nothing failed their bytes are the report on the text
 pub record PrintsReport (text : List ℕ) (r : Printed) : Type 0 where
   pub answers : List ℕ
   pub decided : Summary
   pub prints : PrintsLines answers decided r
-  pub is-report : r.failed ≡ false → prints.bytes ≡ report text
+  pub is_report : r.failed ≡ false → prints.bytes ≡ report text

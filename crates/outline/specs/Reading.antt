@@ -10,7 +10,7 @@ pub record ReadMore (before : List ℕ) (filled : ℕ) (after : List ℕ) (r : I
   pub as_long : length after ≡ length before
   pub not_back : filled ≤ r.length
   pub inside : r.length ≤ length before
-  pub nothing-more : r.ended ≡ true → r.length ≡ filled
+  pub nothing_more : r.ended ≡ true → r.length ≡ filled
   pub goes_on : r.failed ≡ false → r.ended ≡ false → filled < r.length
 
 -- reads that bring from an empty list to so many bytes, each from where the one before it ended

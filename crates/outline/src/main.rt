@@ -11,7 +11,7 @@
 // of one, with a message on standard error, is a failure. Arguments are ignored.
 
 ghost use Rattle.std.specs.Prelude.{◌≡◌, ◌+◌, ◌≤◌, length};
-ghost use Rattle.model.specs.Report.{text-limit};
+ghost use Rattle.model.specs.Report.{text_limit};
 ghost use Rattle.reports.specs.Summaries.{Fits};
 ghost use Rattle.outline.specs.Reading.{ReadMore, ReadText};
 ghost use Rattle.outline.specs.Printing.{PrintsLines, PrintsReport};
@@ -56,7 +56,7 @@ fn main() {
 }
 
 fn empty_text() -> [u8; READ_LIMIT]
-    ensures { text-limit + 1 ≡ length result }
+    ensures { text_limit + 1 ≡ length result }
 {
     [0u8; READ_LIMIT]
 }

@@ -12,46 +12,46 @@ use lib.Signed.{◌≤ℤ◌, ◌<ℤ◌}
 use mir.Syntax.{w64}
 use mir.Val.{to_z, of_z, SFits}
 use mir.ValLaws.{to_z-of_z}
-use Rattle.integers.specs.Order.{<ℤ-≢, signs}
-use Rattle.integers.specs.Range.{Bounded, +ℤ-bounded, -ℤ-bounded, *ℤ-bounded, bounded-fits}
+use Rattle.integers.specs.Order.{<ℤ_≢, signs}
+use Rattle.integers.specs.Range.{Bounded, +ℤ_bounded, -ℤ_bounded, *ℤ_bounded, bounded_fits}
 use Rattle.finite.specs.Tests.{and_both, same_or_not}
-use Rattle.finite.specs.Bounded.{lt-or-ge}
+use Rattle.finite.specs.Bounded.{lt_or_ge}
 use Rattle.finite.specs.Lists.{elem}
 use Rattle.model.specs.declared.Point.{Point}
-use Rattle.model.specs.Plane.{at, orientation, left-of, visible-from, in-line, strictly-between, beside}
+use Rattle.model.specs.Plane.{at, orientation, left_of, visible_from, in_line, strictly_between, beside}
 use Rattle.plane.specs.OrientedAnswer.{RangedCoordinates}
 use Rattle.plane.specs.Between.{dot, opposite}
-use Rattle.plane.proofs.Orientation.{orientation-cyclic, orientation-twice, left-positive, positive-left, negative-visible, zero-in-line}
-use Rattle.plane.proofs.Bounds.{span, read_back, read-point}
-use Rattle.plane.proofs.Betweenness.{Between, between-symmetric, between_left, beside-left, beside-between}
-use Rattle.plane.proofs.Betweenness.{one-between, beyond-end, beyond-start}
-use Rattle.plane.proofs.Convex.{Convex, next-member, prev-member, prev-next, next-prev, next-differs, next-not-prev, corners-strict, turns-left, not_right}
-use Rattle.plane.proofs.Beyond.{next-twice, two-corners}
+use Rattle.plane.proofs.Orientation.{orientation_cyclic, orientation_twice, left_positive, positive_left, negative_visible, zero_in_line}
+use Rattle.plane.proofs.Bounds.{span, read_back, read_point}
+use Rattle.plane.proofs.Betweenness.{Between, between_symmetric, between_left, beside_left, beside_between}
+use Rattle.plane.proofs.Betweenness.{one_between, beyond_end, beyond_start}
+use Rattle.plane.proofs.Convex.{Convex, next_member, prev_member, prev_next, next_prev, next_differs, next_not_prev, corners_strict, turns_left, not_right}
+use Rattle.plane.proofs.Beyond.{next_twice, two_corners}
 
 module _ (a b p : Point) (near : RangedCoordinates a.x a.y b.x b.y p.x p.y) where
-  dot-bounded : Bounded (span * span + span * span) (dot a b p)
-  dot-bounded =
-      +ℤ-bounded
-      (*ℤ-bounded (-ℤ-bounded near.ax-near near.cx-near) (-ℤ-bounded near.bx-near near.cx-near))
-      (*ℤ-bounded (-ℤ-bounded near.ay-near near.cy-near) (-ℤ-bounded near.by_near near.cy-near))
+  dot_bounded : Bounded (span * span + span * span) (dot a b p)
+  dot_bounded =
+      +ℤ_bounded
+      (*ℤ_bounded (-ℤ_bounded near.ax_near near.cx_near) (-ℤ_bounded near.bx_near near.cx_near))
+      (*ℤ_bounded (-ℤ_bounded near.ay_near near.cy_near) (-ℤ_bounded near.by_near near.cy_near))
 
   -- what `dot` ensures at a call, with all that is read back from its bits
-  pub read-dot : (z : ℤ) → z ≡ dot (read_back a) (read_back b) (read_back p) → to_z w64 (of_z w64 z) ≡ dot a b p
-  read-dot z e =
-      let ea = read-point a near.ax-near near.ay-near in
-      let eb = read-point b near.bx-near near.by_near in
-      let ep = read-point p near.cx-near near.cy-near in
+  pub read_dot : (z : ℤ) → z ≡ dot (read_back a) (read_back b) (read_back p) → to_z w64 (of_z w64 z) ≡ dot a b p
+  read_dot z e =
+      let ea = read_point a near.ax_near near.ay_near in
+      let eb = read_point b near.bx_near near.by_near in
+      let ep = read_point p near.cx_near near.cy_near in
       let value : z ≡ dot a b p = e ∙ (λ i. dot (ea i) (eb i) (ep i)) in
-      to_z-of_z w64 z (subst (SFits w64) (sym value) (bounded-fits w64 tt dot-bounded)) ∙ value
+      to_z-of_z w64 z (subst (SFits w64) (sym value) (bounded_fits w64 tt dot_bounded)) ∙ value
 
 -- ---- the same round an outline
 
 -- a point that sees no edge of three or more, and is neither a corner nor strictly between the ends of
 -- an edge, lies strictly left of every edge: else it were in line with an edge and beyond an end of it
 module _ {n : ℕ} {P : ℕ → Point} {next prev : ℕ → ℕ} {s : List ℕ} (C : Convex n P next prev s) (three : 3 ≤ length s)
-    (q : Point) (no-corner : (a : ℕ) → T (elem a s) → P a ≢ q)
-    (no_edge : (a : ℕ) → T (elem a s) → ¬ T (strictly-between (P a) (P (next a)) q))
-    (no-sight : (a : ℕ) → T (elem a s) → ¬ T (visible-from (P a) (P (next a)) q)) where
+    (q : Point) (no_corner : (a : ℕ) → T (elem a s) → P a ≢ q)
+    (no_edge : (a : ℕ) → T (elem a s) → ¬ T (strictly_between (P a) (P (next a)) q))
+    (no_sight : (a : ℕ) → T (elem a s) → ¬ T (visible_from (P a) (P (next a)) q)) where
   module _ (a : ℕ) (m : T (elem a s)) (line : orientation (P a) (P (next a)) q ≡ pos 0) where
     abbrev b : ℕ
     b = next a
@@ -59,44 +59,44 @@ module _ {n : ℕ} {P : ℕ → Point} {next prev : ℕ → ℕ} {s : List ℕ} 
     abbrev c : ℕ
     c = next b
 
-    b-on : T (elem b s)
-    b-on = next-member C a m
+    b_on : T (elem b s)
+    b_on = next_member C a m
 
     -- the corner after the next one is another one
     third : c ≢ a
-    third e = next-not-prev C three a m (sym (prev-next C b b-on) ∙ ap prev e)
+    third e = next_not_prev C three a m (sym (prev_next C b b_on) ∙ ap prev e)
 
-    third-left : pos 0 <ℤ orientation (P a) (P b) (P c)
-    third-left =
-        left-positive (P a) (P b) (P c) (corners-strict C a c m (next-member C b b-on) third (next-differs C b b-on))
+    third_left : pos 0 <ℤ orientation (P a) (P b) (P c)
+    third_left =
+        left_positive (P a) (P b) (P c) (corners_strict C a c m (next_member C b b_on) third (next_differs C b b_on))
 
-    ends-differ : P a ≢ P b
-    ends-differ e = <ℤ-≢ (rw e at third-left) (sym (orientation-twice (P b) (P c)))
+    ends_differ : P a ≢ P b
+    ends_differ e = <ℤ_≢ (rw e at third_left) (sym (orientation_twice (P b) (P c)))
 
     entering : pos 0 <ℤ orientation (P (prev a)) (P a) (P b)
-    entering = left-positive (P (prev a)) (P a) (P b) (turns-left C three a m)
+    entering = left_positive (P (prev a)) (P a) (P b) (turns_left C three a m)
 
-    not-in-line : ⊥
-    unfolding strictly-between
-    not-in-line =
+    not_in_line : ⊥
+    unfolding strictly_between
+    not_in_line =
         ⊎_elim
         (λ h.
         no_edge a m
-        (and_both (in-line (P a) (P b) q) (opposite (P a) (P b) q) (zero-in-line (P a) (P b) q line) h.lt))
+        (and_both (in_line (P a) (P b) q) (opposite (P a) (P b) q) (zero_in_line (P a) (P b) q line) h.lt))
         (⊎_elim
-        (λ h. no-sight b b-on (negative-visible (P b) (P c) q (beyond-end (P a) (P b) (P c) q line h third-left)))
+        (λ h. no_sight b b_on (negative_visible (P b) (P c) q (beyond_end (P a) (P b) (P c) q line h third_left)))
         (λ h.
-        no-sight (prev a) (prev-member C a m)
-        (rw (next-prev C a m)
-        (negative-visible (P (prev a)) (P a) q (beyond-start (P a) (P b) (P (prev a)) q line h entering)))))
-        (one-between (P a) (P b) q ends-differ (λ e. no-corner a m (sym e)) (λ e. no-corner b b-on (sym e)) line)
+        no_sight (prev a) (prev_member C a m)
+        (rw (next_prev C a m)
+        (negative_visible (P (prev a)) (P a) q (beyond_start (P a) (P b) (P (prev a)) q line h entering)))))
+        (one_between (P a) (P b) q ends_differ (λ e. no_corner a m (sym e)) (λ e. no_corner b b_on (sym e)) line)
 
-  pub left-of-all : (a : ℕ) → T (elem a s) → T (left-of (P a) (P (next a)) q)
-  left-of-all a m =
-      ⊎_elim (positive-left (P a) (P (next a)) q)
+  pub left_of_all : (a : ℕ) → T (elem a s) → T (left_of (P a) (P (next a)) q)
+  left_of_all a m =
+      ⊎_elim (positive_left (P a) (P (next a)) q)
       (⊎_elim
-      (λ (e : orientation (P a) (P (next a)) q ≡ pos 0). absurd (not-in-line a m e))
-      (λ h. absurd (no-sight a m (negative-visible (P a) (P (next a)) q h))))
+      (λ (e : orientation (P a) (P (next a)) q ≡ pos 0). absurd (not_in_line a m e))
+      (λ h. absurd (no_sight a m (negative_visible (P a) (P (next a)) q h))))
       (signs (orientation (P a) (P (next a)) q))
 
 -- ---- a point on an edge is beside every edge
@@ -106,39 +106,39 @@ module _ {n : ℕ} {P : ℕ → Point} {next prev : ℕ → ℕ} {s : List ℕ} 
 module _ {n : ℕ} {P : ℕ → Point} {next prev : ℕ → ℕ} {s : List ℕ} (C : Convex n P next prev s) (q : Point)
     (a : ℕ) (m : T (elem a s)) (between : Between (P a) (P (next a)) q) where
   module _ (three : 3 ≤ length s) (c : ℕ) (k : T (elem c s)) (other : c ≢ a) where
-    end-nonneg : (x : ℕ) → T (elem x s) → pos 0 ≤ℤ orientation (P c) (P (next c)) (P x)
-    end-nonneg x i = rw orientation-cyclic at (not_right C x c (C.below x i) k)
+    end_nonneg : (x : ℕ) → T (elem x s) → pos 0 ≤ℤ orientation (P c) (P (next c)) (P x)
+    end_nonneg x i = rw orientation_cyclic at (not_right C x c (C.below x i) k)
 
-    end-left : (x : ℕ) → T (elem x s) → x ≢ c → x ≢ next c → pos 0 <ℤ orientation (P c) (P (next c)) (P x)
-    end-left x i d e = left-positive (P c) (P (next c)) (P x) (corners-strict C c x k i d e)
+    end_left : (x : ℕ) → T (elem x s) → x ≢ c → x ≢ next c → pos 0 <ℤ orientation (P c) (P (next c)) (P x)
+    end_left x i d e = left_positive (P c) (P (next c)) (P x) (corners_strict C c x k i d e)
 
-    one-end-left : (pos 0 <ℤ orientation (P c) (P (next c)) (P a)) ⊎ (pos 0 <ℤ orientation (P c) (P (next c)) (P (next a)))
-    one-end-left =
+    one_end_left : (pos 0 <ℤ orientation (P c) (P (next c)) (P a)) ⊎ (pos 0 <ℤ orientation (P c) (P (next c)) (P (next a)))
+    one_end_left =
         ⊎_elim
         (λ (e : a ≡ next c).
         inr
-        (end-left (next a) (next-member C a m)
-        (λ f. next-not-prev C three a m (f ∙ sym (ap prev e ∙ prev-next C c k)))
-        (λ f. next-differs C a m (f ∙ sym e))))
-        (λ (e : a ≢ next c). inl (end-left a m (λ f. other (sym f)) e))
+        (end_left (next a) (next_member C a m)
+        (λ f. next_not_prev C three a m (f ∙ sym (ap prev e ∙ prev_next C c k)))
+        (λ f. next_differs C a m (f ∙ sym e))))
+        (λ (e : a ≢ next c). inl (end_left a m (λ f. other (sym f)) e))
         (same_or_not a (next c))
 
-    left-of-other : pos 0 <ℤ orientation (P c) (P (next c)) q
-    left-of-other =
-        between_left (P a) (P (next a)) q (P c) (P (next c)) between (end-nonneg a m)
-        (end-nonneg (next a) (next-member C a m)) one-end-left
+    left_of_other : pos 0 <ℤ orientation (P c) (P (next c)) q
+    left_of_other =
+        between_left (P a) (P (next a)) q (P c) (P (next c)) between (end_nonneg a m)
+        (end_nonneg (next a) (next_member C a m)) one_end_left
 
-  pub on-edge-beside : (c : ℕ) → T (elem c s) → T (beside (P c) (P (next c)) q)
-  on-edge-beside c k =
-      ⊎_elim (λ (e : c ≡ a). rw e (beside-between (P a) (P (next a)) q between))
+  pub on_edge_beside : (c : ℕ) → T (elem c s) → T (beside (P c) (P (next c)) q)
+  on_edge_beside c k =
+      ⊎_elim (λ (e : c ≡ a). rw e (beside_between (P a) (P (next a)) q between))
       (λ (other : c ≢ a).
       ⊎_elim
       (λ (few : length s < 3).
       ⊎_elim (λ (e : c ≡ a). absurd (other e))
       (λ (e : c ≡ next a).
-      rw (e, next-twice C q few a m)
-      (beside-between (P (next a)) (P a) q (between-symmetric (P a) (P (next a)) q between)))
-      (two-corners C q few a c m k))
-      (λ (three : 3 ≤ length s). beside-left (P c) (P (next c)) q (left-of-other three c k other))
-      (lt-or-ge (length s) 3))
+      rw (e, next_twice C q few a m)
+      (beside_between (P (next a)) (P a) q (between_symmetric (P a) (P (next a)) q between)))
+      (two_corners C q few a c m k))
+      (λ (three : 3 ≤ length s). beside_left (P c) (P (next c)) q (left_of_other three c k other))
+      (lt_or_ge (length s) 3))
       (same_or_not c a)

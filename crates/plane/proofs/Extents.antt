@@ -11,31 +11,31 @@ use native.Mathlib.Omega.{arith}
 use lib.Dec.{T, T_not}
 use lib.IntN.{ℤ, pos, ◌+ℤ◌, ◌-ℤ◌, ◌*ℤ◌, *ℤ_comm}
 use lib.Signed.{◌<ℤ◌, ◌≤ℤ◌, ≤ℤ_refl}
-use Rattle.integers.specs.Order.{order, +ℤ-splits, -ℤ-splits, ≤ℤ-trans, +ℤ-mono-≤, ≤-difference, ≤ℤ-total}
-use Rattle.integers.specs.Sign.{nonneg-nonneg, nonpos-nonneg, second-pos-nonneg, *ℤ-mono-≤, sum_nonneg}
+use Rattle.integers.specs.Order.{order, +ℤ_splits, -ℤ_splits, ≤ℤ_trans, +ℤ_mono_≤, ≤_difference, ≤ℤ_total}
+use Rattle.integers.specs.Sign.{nonneg_nonneg, nonpos_nonneg, second_pos_nonneg, *ℤ_mono_≤, sum_nonneg}
 use Rattle.integers.specs.Solver.{◌⊕◌, ◌⊖◌, ◌⊗◌, ◌≐◌, identity}
 use Rattle.integers.specs.Range.{Bounded, machine}
 use Rattle.finite.specs.Tests.{and_left}
 use Rattle.finite.specs.Lists.{elem, distinct}
-use Rattle.finite.specs.ListLaws.{elem-head, elem-tail}
+use Rattle.finite.specs.ListLaws.{elem_head, elem_tail}
 use Rattle.finite.specs.Cycles.{Chain, Cycle}
 use Rattle.model.specs.declared.Point.{Point}
 use Rattle.model.specs.Plane.{orientation}
 use Rattle.model.specs.Area.{fan}
-use Rattle.plane.proofs.Orientation.{orientation-expr, orientation-cyclic, left-positive}
-use Rattle.plane.proofs.Fan.{along, fan-along, fan-fixed, terms-nonneg}
-use Rattle.plane.proofs.Convex.{Link, Convex, next-member, corners-strict, not_right, points-round, fan-terms}
+use Rattle.plane.proofs.Orientation.{orientation_expr, orientation_cyclic, left_positive}
+use Rattle.plane.proofs.Fan.{along, fan_along, fan_fixed, terms_nonneg}
+use Rattle.plane.proofs.Convex.{Link, Convex, next_member, corners_strict, not_right, points_round, fan_terms}
 
 -- ---- the sign
 
 module _ {n : ℕ} {P : ℕ → Point} {next prev : ℕ → ℕ} where
   -- not less than nothing, as seen from a corner
-  pub fan-nonneg : {s : List ℕ} → Convex n P next prev s → (q : Point) → pos 0 ≤ℤ fan q (map P s)
+  pub fan_nonneg : {s : List ℕ} → Convex n P next prev s → (q : Point) → pos 0 ≤ℤ fan q (map P s)
   unfolding fan
-  fan-nonneg {s = []} C q = ≤ℤ_refl (pos 0)
-  fan-nonneg {s = c ∷ t} C q =
-      rw (fan-fixed (P c) q (map P (c ∷ t)))
-      (terms-nonneg (P c) (map P (c ∷ t)) (fan-terms C c (C.below c (elem-head c t))))
+  fan_nonneg {s = []} C q = ≤ℤ_refl (pos 0)
+  fan_nonneg {s = c ∷ t} C q =
+      rw (fan_fixed (P c) q (map P (c ∷ t)))
+      (terms_nonneg (P c) (map P (c ∷ t)) (fan_terms C c (C.below c (elem_head c t))))
 
 -- ---- on down
 
@@ -48,8 +48,8 @@ unfolding orientation
 heights o a b c =
     identity 8
     (λ ox oy ax ay bx by cx cy.
-    orientation-expr ox oy ax ay bx by ⊗ (by ⊖ cy)
-    ≐ (ay ⊖ by) ⊗ orientation-expr ox oy bx by cx cy ⊕ (by ⊖ oy) ⊗ orientation-expr ax ay bx by cx cy)
+    orientation_expr ox oy ax ay bx by ⊗ (by ⊖ cy)
+    ≐ (ay ⊖ by) ⊗ orientation_expr ox oy bx by cx cy ⊕ (by ⊖ oy) ⊗ orientation_expr ax ay bx by cx cy)
     tt
     o.x o.y a.x a.y b.x b.y c.x c.y
 
@@ -57,16 +57,16 @@ heights o a b c =
 abbrev Falls : Point → Point → Type 0
 Falls a b = b.y ≤ℤ a.y
 
-falls-on : (o a b c : Point) → o.y ≤ℤ b.y →
+falls_on : (o a b c : Point) → o.y ≤ℤ b.y →
     pos 0 <ℤ orientation o a b → pos 0 ≤ℤ orientation o b c → pos 0 ≤ℤ orientation a b c →
     Falls a b → Falls b c
-falls-on o a b c above first second turn down =
-    (≤-difference c.y b.y).1
-    (second-pos-nonneg first
+falls_on o a b c above first second turn down =
+    (≤_difference c.y b.y).1
+    (second_pos_nonneg first
     (rw heights
     (sum_nonneg
-    (nonneg-nonneg ((≤-difference b.y a.y).0 down) second)
-    (nonneg-nonneg ((≤-difference o.y b.y).0 above) turn))))
+    (nonneg_nonneg ((≤_difference b.y a.y).0 down) second)
+    (nonneg_nonneg ((≤_difference o.y b.y).0 above) turn))))
 
 -- ---- up from a lowest corner, then down to it
 
@@ -83,54 +83,54 @@ module _
   -- no other corner is c
   differs : (a : ℕ) → T (elem a t) → c ≢ a
   unfolding distinct
-  differs a m e = T_not (elem c t) (and_left (not (elem c t)) (distinct t) C.all-distinct) (rw e m)
+  differs a m e = T_not (elem c t) (and_left (not (elem c t)) (distinct t) C.all_distinct) (rw e m)
 
   -- after an edge that falls to another corner than c
-  next-falls : (a : ℕ) → T (elem a t) → T (elem (next a) t) →
+  next_falls : (a : ℕ) → T (elem a t) → T (elem (next a) t) →
       Falls (P a) (P (next a)) → Falls (P (next a)) (P (next (next a)))
-  next-falls a m k =
-      let i = elem-tail a c t m in
-      let j = elem-tail (next a) c t k in
-      falls-on (P c) (P a) (P (next a)) (P (next (next a))) (lowest (next a) k)
-      (rw orientation-cyclic
-      (left-positive (P a) (P (next a)) (P c)
-      (corners-strict C a c i (elem-head c t) (differs a m) (differs (next a) k))))
-      (not_right C c (next a) (C.below c (elem-head c t)) j)
+  next_falls a m k =
+      let i = elem_tail a c t m in
+      let j = elem_tail (next a) c t k in
+      falls_on (P c) (P a) (P (next a)) (P (next (next a))) (lowest (next a) k)
+      (rw orientation_cyclic
+      (left_positive (P a) (P (next a)) (P c)
+      (corners_strict C a c i (elem_head c t) (differs a m) (differs (next a) k))))
+      (not_right C c (next a) (C.below c (elem_head c t)) j)
       (not_right C a (next a) (C.below a i) j)
 
   -- from another corner x on, with the corners u after it, where the edge that leaves x falls
-  all-fall : (x : ℕ) (u : List ℕ) → ((a : ℕ) → T (elem a (x ∷ u)) → T (elem a t)) →
+  all_fall : (x : ℕ) (u : List ℕ) → ((a : ℕ) → T (elem a (x ∷ u)) → T (elem a t)) →
       Chain (Link next prev) (x ∷ u ++ c ∷ []) → Falls (P x) (P (next x)) →
       Chain Falls (P x ∷ map P u ++ P c ∷ [])
   unfolding Chain
-  all-fall x [] k l h = (rw l.0.0 at h, tt)
-  all-fall x (y ∷ u) k l h =
-      let m = k x (elem-head x (y ∷ u)) in
-      let after : T (elem (next x) t) = rw l.0.0 (k y (elem-tail y x (y ∷ u) (elem-head y u))) in (
+  all_fall x [] k l h = (rw l.0.0 at h, tt)
+  all_fall x (y ∷ u) k l h =
+      let m = k x (elem_head x (y ∷ u)) in
+      let after : T (elem (next x) t) = rw l.0.0 (k y (elem_tail y x (y ∷ u) (elem_head y u))) in (
         rw l.0.0 at h,
-        all-fall y u (λ a i. k a (elem-tail a x (y ∷ u) i)) l.1 (rw l.0.0 at (next-falls x m after h)),
+        all_fall y u (λ a i. k a (elem_tail a x (y ∷ u) i)) l.1 (rw l.0.0 at (next_falls x m after h)),
       )
 
   -- .. and where it may rise
-  rise-and-fall : (x : ℕ) (u : List ℕ) → ((a : ℕ) → T (elem a (x ∷ u)) → T (elem a t)) →
+  rise_and_fall : (x : ℕ) (u : List ℕ) → ((a : ℕ) → T (elem a (x ∷ u)) → T (elem a t)) →
       Chain (Link next prev) (x ∷ u ++ c ∷ []) → Unimodal (P x) (map P u ++ P c ∷ [])
   unfolding Chain
-  rise-and-fall x [] k l = falling {s = P c ∷ []} (lowest x (k x (elem-head x [])), tt)
-  rise-and-fall x (y ∷ u) k l =
+  rise_and_fall x [] k l = falling {s = P c ∷ []} (lowest x (k x (elem_head x [])), tt)
+  rise_and_fall x (y ∷ u) k l =
       ⊎_elim
-      (λ (h : Falls (P x) (P (next x))). falling (all-fall x (y ∷ u) k l h))
+      (λ (h : Falls (P x) (P (next x))). falling (all_fall x (y ∷ u) k l h))
       (λ (h : Falls (P (next x)) (P x)).
-      rising (rw l.0.0 at h) (rise-and-fall y u (λ a i. k a (elem-tail a x (y ∷ u) i)) l.1))
-      (≤ℤ-total (P (next x)).y (P x).y)
+      rising (rw l.0.0 at h) (rise_and_fall y u (λ a i. k a (elem_tail a x (y ∷ u) i)) l.1))
+      (≤ℤ_total (P (next x)).y (P x).y)
 
 -- from c itself
-outline-unimodal : {n : ℕ} {P : ℕ → Point} {next prev : ℕ → ℕ} (c : ℕ) (t : List ℕ) →
+outline_unimodal : {n : ℕ} {P : ℕ → Point} {next prev : ℕ → ℕ} (c : ℕ) (t : List ℕ) →
     Convex n P next prev (c ∷ t) → ((a : ℕ) → T (elem a t) → (P c).y ≤ℤ (P a).y) →
     Unimodal (P c) (map P t ++ P c ∷ [])
 unfolding Cycle Chain
-outline-unimodal {P} c [] C lowest = falling {s = P c ∷ []} (≤ℤ_refl (P c).y, tt)
-outline-unimodal c (y ∷ t) C lowest =
-    rising (lowest y (elem-head y t)) (rise-and-fall c (y ∷ t) C lowest y t (λ a m. m) C.round.1)
+outline_unimodal {P} c [] C lowest = falling {s = P c ∷ []} (≤ℤ_refl (P c).y, tt)
+outline_unimodal c (y ∷ t) C lowest =
+    rising (lowest y (elem_head y t)) (rise_and_fall c (y ∷ t) C lowest y t (λ a m. m) C.round.1)
 
 -- ---- the fan as a sum of strips
 
@@ -143,14 +143,14 @@ abbrev strip : ℕ → Point → Point → ℤ
 strip L a b = (b.y -ℤ a.y) *ℤ width L a b
 
 -- what an edge's term differs from its strip by comes to nothing round the list
-fan-strips : (L : ℕ) (q a : Point) (s : List Point) → fan q (a ∷ s) ≡ along (strip L) a (s ++ a ∷ [])
+fan_strips : (L : ℕ) (q a : Point) (s : List Point) → fan q (a ∷ s) ≡ along (strip L) a (s ++ a ∷ [])
 unfolding orientation
-fan-strips L q =
-    fan-along q (strip L) (λ p. q.y *ℤ p.x -ℤ width L q p *ℤ p.y)
+fan_strips L q =
+    fan_along q (strip L) (λ p. q.y *ℤ p.x -ℤ width L q p *ℤ p.y)
     (λ a b.
     identity 7
     (λ l qx qy ax ay bx by.
-    orientation-expr qx qy ax ay bx by
+    orientation_expr qx qy ax ay bx by
     ≐ (by ⊖ ay) ⊗ (ax ⊕ bx ⊕ l) ⊕ (qy ⊗ bx ⊖ (qx ⊕ bx ⊕ l) ⊗ by ⊖ (qy ⊗ ax ⊖ (qx ⊕ ax ⊕ l) ⊗ ay)))
     tt
     (pos (2 * L)) q.x q.y a.x a.y b.x b.y)
@@ -170,8 +170,8 @@ module _ (L : ℕ) where
   abbrev widest : ℤ
   widest = pos (4 * L)
 
-  widest-nonneg : pos 0 ≤ℤ widest
-  widest-nonneg = omega (arith, order)
+  widest_nonneg : pos 0 ≤ℤ widest
+  widest_nonneg = omega (arith, order)
 
   widths : (a b : Point) → BothNear a b → (pos 0 ≤ℤ width L a b) × (width L a b ≤ℤ widest)
   widths a b h =
@@ -180,52 +180,52 @@ module _ (L : ℕ) where
         machine,
         h.0.0,
         h.1.0,
-        +ℤ-splits a.x b.x,
-        +ℤ-splits (a.x +ℤ b.x) (pos (2 * L)),
+        +ℤ_splits a.x b.x,
+        +ℤ_splits (a.x +ℤ b.x) (pos (2 * L)),
       )
 
   -- the height that is left above a point
-  abbrev left-above : Point → ℤ
-  left-above a = pos L -ℤ a.y
+  abbrev left_above : Point → ℤ
+  left_above a = pos L -ℤ a.y
 
-  heights-left : (a : Point) → Near a → (pos 0 ≤ℤ left-above a) × (left-above a ≤ℤ pos (2 * L))
-  heights-left a h = omega (arith, machine, h.1, -ℤ-splits (pos L) a.y)
+  heights_left : (a : Point) → Near a → (pos 0 ≤ℤ left_above a) × (left_above a ≤ℤ pos (2 * L))
+  heights_left a h = omega (arith, machine, h.1, -ℤ_splits (pos L) a.y)
 
-  strips-falling : (a : Point) (s : List Point) → Chain BothNear (a ∷ s) → Chain Falls (a ∷ s) →
+  strips_falling : (a : Point) (s : List Point) → Chain BothNear (a ∷ s) → Chain Falls (a ∷ s) →
       along (strip L) a s ≤ℤ pos 0
   unfolding along Chain
-  strips-falling a [] n f = ≤ℤ_refl (pos 0)
-  strips-falling a (b ∷ s) n f =
-      let down : (b.y -ℤ a.y) ≤ℤ pos 0 = omega (arith, order, f.0, -ℤ-splits b.y a.y) in
-      +ℤ-mono-≤ (nonpos-nonneg down (widths a b n.0).0) (strips-falling b s n.1 f.1)
+  strips_falling a [] n f = ≤ℤ_refl (pos 0)
+  strips_falling a (b ∷ s) n f =
+      let down : (b.y -ℤ a.y) ≤ℤ pos 0 = omega (arith, order, f.0, -ℤ_splits b.y a.y) in
+      +ℤ_mono_≤ (nonpos_nonneg down (widths a b n.0).0) (strips_falling b s n.1 f.1)
 
-  strips-limit : {a : Point} {s : List Point} → Unimodal a s → Near a → Chain BothNear (a ∷ s) →
-      along (strip L) a s ≤ℤ (left-above a *ℤ widest)
+  strips_limit : {a : Point} {s : List Point} → Unimodal a s → Near a → Chain BothNear (a ∷ s) →
+      along (strip L) a s ≤ℤ (left_above a *ℤ widest)
   unfolding along Chain
-  strips-limit (falling {a} {s} f) h n =
-      ≤ℤ-trans (strips-falling a s n f) (nonneg-nonneg (heights-left a h).0 widest-nonneg)
-  strips-limit (rising {a} {b} {s} r u) h n =
+  strips_limit (falling {a} {s} f) h n =
+      ≤ℤ_trans (strips_falling a s n f) (nonneg_nonneg (heights_left a h).0 widest_nonneg)
+  strips_limit (rising {a} {b} {s} r u) h n =
       rw
       (← identity 4 (λ l w ay by. (by ⊖ ay) ⊗ w ⊕ (l ⊖ by) ⊗ w ≐ (l ⊖ ay) ⊗ w) tt (pos L) widest a.y b.y)
-      (+ℤ-mono-≤
-      (*ℤ-mono-≤ ((≤-difference a.y b.y).0 r) (widths a b n.0).1)
-      (strips-limit u n.0.1 n.1))
+      (+ℤ_mono_≤
+      (*ℤ_mono_≤ ((≤_difference a.y b.y).0 r) (widths a b n.0).1)
+      (strips_limit u n.0.1 n.1))
 
   -- .. and that height is at most 2 L
-  whole-range : (a : Point) → Near a → (left-above a *ℤ widest) ≤ℤ pos (8 * (L * L))
-  whole-range a h =
-      rw *ℤ_comm (≤ℤ-trans (*ℤ-mono-≤ widest-nonneg (heights-left a h).1) (omega (arith, order)))
+  whole_range : (a : Point) → Near a → (left_above a *ℤ widest) ≤ℤ pos (8 * (L * L))
+  whole_range a h =
+      rw *ℤ_comm (≤ℤ_trans (*ℤ_mono_≤ widest_nonneg (heights_left a h).1) (omega (arith, order)))
 
 module _ {n : ℕ} {P : ℕ → Point} {next prev : ℕ → ℕ} where
   -- from a lowest corner c all round
-  pub fan-limit : (c : ℕ) (t : List ℕ) → Convex n P next prev (c ∷ t) →
+  pub fan_limit : (c : ℕ) (t : List ℕ) → Convex n P next prev (c ∷ t) →
       ((a : ℕ) → T (elem a t) → (P c).y ≤ℤ (P a).y) →
       (L : ℕ) → ((a : ℕ) → T (elem a (c ∷ t)) → Bounded L (P a).x × Bounded L (P a).y) →
       (q : Point) → fan q (map P (c ∷ t)) ≤ℤ pos (8 * (L * L))
   unfolding Cycle
-  fan-limit c t C lowest L near q =
-      rw (fan-strips L q (P c) (map P t))
-      (≤ℤ-trans
-      (strips-limit L (outline-unimodal c t C lowest) (near c (elem-head c t))
-      (points-round C (BothNear L) (λ a m. (near a m, near (next a) (next-member C a m)))))
-      (whole-range L (P c) (near c (elem-head c t))))
+  fan_limit c t C lowest L near q =
+      rw (fan_strips L q (P c) (map P t))
+      (≤ℤ_trans
+      (strips_limit L (outline_unimodal c t C lowest) (near c (elem_head c t))
+      (points_round C (BothNear L) (λ a m. (near a m, near (next a) (next_member C a m)))))
+      (whole_range L (P c) (near c (elem_head c t))))

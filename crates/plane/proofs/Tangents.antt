@@ -10,18 +10,18 @@ use lib.Dec.{T}
 use lib.IntN.{ℤ, pos, neg_ℤ, ◌+ℤ◌, ◌*ℤ◌}
 use lib.Signed.{lt_z, ◌≤ℤ◌, ◌<ℤ◌}
 use Rattle.integers.specs.Solver.{con, ◌≐◌, ◌⊕◌, ◌⊖◌, ◌⊗◌, ⊝, identity}
-use Rattle.integers.specs.Order.{order, +ℤ-splits, negℤ-splits, <ℤ-≢, <ℤ-weaken, ≡-≤ℤ, signs}
-use Rattle.integers.specs.Sign.{pos-pos, neg-neg, nonneg-nonneg, nonpos-nonpos, sum_nonneg, second-pos-nonneg}
+use Rattle.integers.specs.Order.{order, +ℤ_splits, negℤ_splits, <ℤ_≢, <ℤ_weaken, ≡_≤ℤ, signs}
+use Rattle.integers.specs.Sign.{pos_pos, neg_neg, nonneg_nonneg, nonpos_nonpos, sum_nonneg, second_pos_nonneg}
 use Rattle.model.specs.declared.Point.{Point}
-use Rattle.model.specs.Plane.{at, orientation, left-of, visible-from, in-line, strictly-between, beside, sees-edge}
+use Rattle.model.specs.Plane.{at, orientation, left_of, visible_from, in_line, strictly_between, beside, sees_edge}
 use Rattle.plane.specs.Between.{dot}
-use Rattle.plane.proofs.Orientation.{orientation-expr, orientation-cyclic, orientation-swap, orientation-twice, orientation-exchange}
-use Rattle.plane.proofs.Knuth.{orientation-opposite}
-use Rattle.plane.proofs.Betweenness.{one-between, beyond-start}
-use Rattle.plane.proofs.Betweenness.{Between, orientation-zero-last, between-symmetric, between-further, same-side-left, same-side-right, beside-left, beside-between, beside-cases, beside-nonneg, beside-zero, seen-nonpos, seen-not-beside, seen-not-between}
+use Rattle.plane.proofs.Orientation.{orientation_expr, orientation_cyclic, orientation_swap, orientation_twice, orientation_exchange}
+use Rattle.plane.proofs.Knuth.{orientation_opposite}
+use Rattle.plane.proofs.Betweenness.{one_between, beyond_start}
+use Rattle.plane.proofs.Betweenness.{Between, orientation_zero_last, between_symmetric, between_further, same_side_left, same_side_right, beside_left, beside_between, beside_cases, beside_nonneg, beside_zero, seen_nonpos, seen_not_beside, seen_not_between}
 
-orientation-end : (a b : Point) → orientation a b b ≡ pos 0
-orientation-end a b = orientation-cyclic a b b ∙ orientation-twice b a
+orientation_end : (a b : Point) → orientation a b b ≡ pos 0
+orientation_end a b = orientation_cyclic a b b ∙ orientation_twice b a
 
 -- c is the end of the edge, or beside it
 abbrev pub EndOrBeside : Point → Point → Point → Point → Type 0
@@ -34,52 +34,52 @@ EndOrBeside e a b c = (c ≡ e) ⊎ T (beside a b c)
 -- it, c is u or between l and u, so u is on it too; and there q is beyond u, being not between l and
 -- u, and not before l, from where the edge from v to l is seen. So c is between l and q.
 module _ (l u v q c : Point) (turn : pos 0 <ℤ orientation l u v)
-    (seen : T (sees-edge l u q)) (hidden : T (beside v l q)) (not-u : q ≢ u)
+    (seen : T (sees_edge l u q)) (hidden : T (beside v l q)) (not_u : q ≢ u)
     (after : EndOrBeside u l u c) (before : EndOrBeside v v l c) where
-  v-left : pos 0 <ℤ orientation l q v
-  v-left =
-      ⊎_elim (λ (h : pos 0 <ℤ orientation v l q). rw orientation-cyclic at h)
+  v_left : pos 0 <ℤ orientation l q v
+  v_left =
+      ⊎_elim (λ (h : pos 0 <ℤ orientation v l q). rw orientation_cyclic at h)
       (λ (h : Between v l q).
       absurd
-      (seen-not-beside l u q seen
-      (beside-left l u q (same-side-left l v q (between-symmetric v l q h) u turn))))
-      (beside-cases v l q hidden)
+      (seen_not_beside l u q seen
+      (beside_left l u q (same_side_left l v q (between_symmetric v l q h) u turn))))
+      (beside_cases v l q hidden)
 
-  u-not-left : orientation l u q ≤ℤ pos 0
-  u-not-left = seen-nonpos l u q seen
+  u_not_left : orientation l u q ≤ℤ pos 0
+  u_not_left = seen_nonpos l u q seen
 
-  after-nonneg : pos 0 ≤ℤ orientation l u c
-  after-nonneg =
+  after_nonneg : pos 0 ≤ℤ orientation l u c
+  after_nonneg =
       ⊎_elim
-      (λ (e : c ≡ u). ≡-≤ℤ (rw e (sym (orientation-end l u))))
-      (beside-nonneg l u c) after
+      (λ (e : c ≡ u). ≡_≤ℤ (rw e (sym (orientation_end l u))))
+      (beside_nonneg l u c) after
 
-  before-nonpos : orientation l v c ≤ℤ pos 0
-  before-nonpos =
+  before_nonpos : orientation l v c ≤ℤ pos 0
+  before_nonpos =
       ⊎_elim
-      (λ (e : c ≡ v). ≡-≤ℤ (rw e (orientation-end l v)))
+      (λ (e : c ≡ v). ≡_≤ℤ (rw e (orientation_end l v)))
       (λ h.
-      omega (arith, order, beside-nonneg v l c h, orientation-swap v l c, negℤ-splits (orientation l v c))) before
+      omega (arith, order, beside_nonneg v l c h, orientation_swap v l c, negℤ_splits (orientation l v c))) before
 
   exchange : orientation l u v *ℤ orientation l q c ≡ orientation l u q *ℤ orientation l v c +ℤ orientation l u c *ℤ orientation l q v
-  exchange = orientation-exchange l u q v c
+  exchange = orientation_exchange l u q v c
 
   not_right : pos 0 ≤ℤ orientation l q c
   not_right =
-      second-pos-nonneg turn
-      (rw exchange (sum_nonneg (nonpos-nonpos u-not-left before-nonpos) (nonneg-nonneg after-nonneg (<ℤ-weaken v-left))))
+      second_pos_nonneg turn
+      (rw exchange (sum_nonneg (nonpos_nonpos u_not_left before_nonpos) (nonneg_nonneg after_nonneg (<ℤ_weaken v_left))))
 
   module _ (line : orientation l q c ≡ pos 0) where
-    no-sum : orientation l u q *ℤ orientation l v c +ℤ orientation l u c *ℤ orientation l q v ≡ pos 0
-    no-sum =
+    no_sum : orientation l u q *ℤ orientation l v c +ℤ orientation l u c *ℤ orientation l q v ≡ pos 0
+    no_sum =
         sym exchange ∙ ap (λ (k : ℤ). orientation l u v *ℤ k) line
         ∙ identity 1 (λ m. m ⊗ con (pos 0) ≐ con (pos 0)) tt (orientation l u v)
 
-    first-sum : pos 0 ≤ℤ (orientation l u q *ℤ orientation l v c)
-    first-sum = nonpos-nonpos u-not-left before-nonpos
+    first_sum : pos 0 ≤ℤ (orientation l u q *ℤ orientation l v c)
+    first_sum = nonpos_nonpos u_not_left before_nonpos
 
-    second-sum : pos 0 ≤ℤ (orientation l u c *ℤ orientation l q v)
-    second-sum = nonneg-nonneg after-nonneg (<ℤ-weaken v-left)
+    second_sum : pos 0 ≤ℤ (orientation l u c *ℤ orientation l q v)
+    second_sum = nonneg_nonneg after_nonneg (<ℤ_weaken v_left)
 
     -- c is on the line of l to u
     on_edge : (c ≡ u) ⊎ Between l u c
@@ -92,97 +92,97 @@ module _ (l u v q c : Point) (turn : pos 0 <ℤ orientation l u v)
         (omega (
           arith,
           order,
-          no-sum,
-          first-sum,
-          pos-pos k v-left,
-          +ℤ-splits (orientation l u q *ℤ orientation l v c) (orientation l u c *ℤ orientation l q v),
+          no_sum,
+          first_sum,
+          pos_pos k v_left,
+          +ℤ_splits (orientation l u q *ℤ orientation l v c) (orientation l u c *ℤ orientation l q v),
         )))
         inr
-        (beside-cases l u c h))
+        (beside_cases l u c h))
         after
 
-    v-behind : orientation l v u <ℤ pos 0
-    v-behind = omega (arith, order, turn, orientation-opposite l v u, negℤ-splits (orientation l u v))
+    v_behind : orientation l v u <ℤ pos 0
+    v_behind = omega (arith, order, turn, orientation_opposite l v u, negℤ_splits (orientation l u v))
 
-    before-neg : orientation l v c <ℤ pos 0
-    before-neg = ⊎_elim (λ (e : c ≡ u). rw e v-behind) (λ h. same-side-right l u c h v v-behind) on_edge
+    before_neg : orientation l v c <ℤ pos 0
+    before_neg = ⊎_elim (λ (e : c ≡ u). rw e v_behind) (λ h. same_side_right l u c h v v_behind) on_edge
 
     -- so u is on the line of l to q
-    u-on : orientation l u q ≡ pos 0
-    u-on =
-        ⊎_elim (λ (h : pos 0 <ℤ orientation l u q). absurd (omega (arith, order, u-not-left)))
+    u_on : orientation l u q ≡ pos 0
+    u_on =
+        ⊎_elim (λ (h : pos 0 <ℤ orientation l u q). absurd (omega (arith, order, u_not_left)))
         (⊎_elim (λ e. e)
         (λ h.
         absurd
         (omega (
           arith,
           order,
-          no-sum,
-          second-sum,
-          neg-neg h before-neg,
-          +ℤ-splits (orientation l u q *ℤ orientation l v c) (orientation l u c *ℤ orientation l q v),
+          no_sum,
+          second_sum,
+          neg_neg h before_neg,
+          +ℤ_splits (orientation l u q *ℤ orientation l v c) (orientation l u c *ℤ orientation l q v),
         ))))
         (signs (orientation l u q))
 
-    beyond-u : Between l q u
-    beyond-u =
+    beyond_u : Between l q u
+    beyond_u =
         ⊎_elim
-        (λ h. absurd (seen-not-between l u q seen (record { line = u-on; within = h })))
+        (λ h. absurd (seen_not_between l u q seen (record { line = u_on; within = h })))
         (⊎_elim
-        (λ h. record { line = orientation-zero-last l u q u-on; within = h })
+        (λ h. record { line = orientation_zero_last l u q u_on; within = h })
         (λ h.
         absurd
         (omega (
           arith,
           order,
-          beside-nonneg v l q hidden,
-          beyond-start l u v q u-on h (rw (orientation-cyclic v l u) turn),
+          beside_nonneg v l q hidden,
+          beyond_start l u v q u_on h (rw (orientation_cyclic v l u) turn),
         ))))
-        (one-between l u q
-        (λ e. <ℤ-≢ turn (sym (rw e (orientation-twice u v))))
-        (λ e. <ℤ-≢ v-left (sym (rw e (orientation-twice l v))))
-        not-u u-on)
+        (one_between l u q
+        (λ e. <ℤ_≢ turn (sym (rw e (orientation_twice u v))))
+        (λ e. <ℤ_≢ v_left (sym (rw e (orientation_twice l v))))
+        not_u u_on)
 
-    between-l-q : Between l q c
-    between-l-q =
-        ⊎_elim (λ (e : c ≡ u). rw e beyond-u) (between-further l q u c beyond-u) on_edge
+    between_l_q : Between l q c
+    between_l_q =
+        ⊎_elim (λ (e : c ≡ u). rw e beyond_u) (between_further l q u c beyond_u) on_edge
 
-  pub tangent-left : T (beside l q c)
-  tangent-left =
-      ⊎_elim (beside-left l q c)
-      (⊎_elim (λ (e : orientation l q c ≡ pos 0). beside-between l q c (between-l-q e))
+  pub tangent_left : T (beside l q c)
+  tangent_left =
+      ⊎_elim (beside_left l q c)
+      (⊎_elim (λ (e : orientation l q c ≡ pos 0). beside_between l q c (between_l_q e))
       (λ h. absurd (omega (arith, order, not_right))))
       (signs (orientation l q c))
 
 -- ---- at a left corner of two
 
 -- q is left of u to l, not between; every other point c is between l and u, so on the side of u
-module _ (l u q c : Point) (seen : T (sees-edge l u q)) (hidden : T (beside u l q))
+module _ (l u q c : Point) (seen : T (sees_edge l u q)) (hidden : T (beside u l q))
     (after : EndOrBeside u l u c) (before : EndOrBeside u u l c) where
-  q-left : pos 0 <ℤ orientation l q u
-  q-left =
-      ⊎_elim (λ (h : pos 0 <ℤ orientation u l q). rw orientation-cyclic at h)
-      (λ h. absurd (seen-not-between l u q seen (between-symmetric u l q h)))
-      (beside-cases u l q hidden)
+  q_left : pos 0 <ℤ orientation l q u
+  q_left =
+      ⊎_elim (λ (h : pos 0 <ℤ orientation u l q). rw orientation_cyclic at h)
+      (λ h. absurd (seen_not_between l u q seen (between_symmetric u l q h)))
+      (beside_cases u l q hidden)
 
-  pub tangent-two : T (beside l q c)
-  tangent-two =
-      ⊎_elim (λ (e : c ≡ u). rw e (beside-left l q u q-left))
+  pub tangent_two : T (beside l q c)
+  tangent_two =
+      ⊎_elim (λ (e : c ≡ u). rw e (beside_left l q u q_left))
       (λ (h : T (beside l u c)).
-      ⊎_elim (λ (e : c ≡ u). rw e (beside-left l q u q-left))
+      ⊎_elim (λ (e : c ≡ u). rw e (beside_left l q u q_left))
       (λ (k : T (beside u l c)).
-      beside-left l q c
-      (same-side-left l u c
-      (beside-zero l u c h
+      beside_left l q c
+      (same_side_left l u c
+      (beside_zero l u c h
       (omega (
         arith,
         order,
-        beside-nonneg l u c h,
-        beside-nonneg u l c k,
-        orientation-swap u l c,
-        negℤ-splits (orientation l u c),
+        beside_nonneg l u c h,
+        beside_nonneg u l c k,
+        orientation_swap u l c,
+        negℤ_splits (orientation l u c),
       )))
-      q q-left))
+      q q_left))
       before)
       after
 
@@ -192,61 +192,61 @@ abbrev mirrored : Point → Point
 mirrored p = at (neg_ℤ p.x) p.y
 
 module _ (a b c : Point) where
-  mirrored-orientation : orientation (mirrored a) (mirrored b) (mirrored c) ≡ orientation b a c
+  mirrored_orientation : orientation (mirrored a) (mirrored b) (mirrored c) ≡ orientation b a c
   unfolding orientation
-  mirrored-orientation =
+  mirrored_orientation =
       identity 6
-      (λ ax ay bx by cx cy. orientation-expr (⊝ ax) ay (⊝ bx) by (⊝ cx) cy ≐ orientation-expr bx by ax ay cx cy) tt
+      (λ ax ay bx by cx cy. orientation_expr (⊝ ax) ay (⊝ bx) by (⊝ cx) cy ≐ orientation_expr bx by ax ay cx cy) tt
       a.x a.y b.x b.y c.x c.y
 
-  mirrored-dot : dot (mirrored a) (mirrored b) (mirrored c) ≡ dot b a c
-  mirrored-dot =
+  mirrored_dot : dot (mirrored a) (mirrored b) (mirrored c) ≡ dot b a c
+  mirrored_dot =
       identity 6
       (λ ax ay bx by cx cy.
       (⊝ ax ⊖ ⊝ cx) ⊗ (⊝ bx ⊖ ⊝ cx) ⊕ (ay ⊖ cy) ⊗ (by ⊖ cy) ≐ (bx ⊖ cx) ⊗ (ax ⊖ cx) ⊕ (by ⊖ cy) ⊗ (ay ⊖ cy)) tt
       a.x a.y b.x b.y c.x c.y
 
-  mirrored-beside : beside (mirrored a) (mirrored b) (mirrored c) ≡ beside b a c
-  unfolding beside left-of strictly-between in-line visible-from
-  mirrored-beside i =
-      lt_z (pos 0) (mirrored-orientation i)
-      || (not (lt_z (pos 0) (mirrored-orientation i)) && not (lt_z (mirrored-orientation i) (pos 0))) && lt_z (mirrored-dot i) (pos 0)
+  mirrored_beside : beside (mirrored a) (mirrored b) (mirrored c) ≡ beside b a c
+  unfolding beside left_of strictly_between in_line visible_from
+  mirrored_beside i =
+      lt_z (pos 0) (mirrored_orientation i)
+      || (not (lt_z (pos 0) (mirrored_orientation i)) && not (lt_z (mirrored_orientation i) (pos 0))) && lt_z (mirrored_dot i) (pos 0)
 
-  mirrored-sees : sees-edge (mirrored a) (mirrored b) (mirrored c) ≡ sees-edge b a c
-  unfolding sees-edge
-  mirrored-sees = ap not mirrored-beside
+  mirrored_sees : sees_edge (mirrored a) (mirrored b) (mirrored c) ≡ sees_edge b a c
+  unfolding sees_edge
+  mirrored_sees = ap not mirrored_beside
 
-mirrored-differs : (a b : Point) → a ≢ b → mirrored a ≢ mirrored b
-mirrored-differs a b n e =
+mirrored_differs : (a b : Point) → a ≢ b → mirrored a ≢ mirrored b
+mirrored_differs a b n e =
     let ex : a.x ≡ b.x =
-    omega (arith, order, negℤ-splits a.x, negℤ-splits b.x, ap (λ (p : Point). p.x) e) in
+    omega (arith, order, negℤ_splits a.x, negℤ_splits b.x, ap (λ (p : Point). p.x) e) in
     let ey : a.y ≡ b.y = ap (λ (p : Point). p.y) e in
     n (λ i. at (ex i) (ey i))
 
-mirrored-end : (e a b c : Point) → EndOrBeside e b a c → EndOrBeside (mirrored e) (mirrored a) (mirrored b) (mirrored c)
-mirrored-end e a b c = ⊎_elim (λ k. inl (ap mirrored k)) (λ t. inr (rw (mirrored-beside a b c) t))
+mirrored_end : (e a b c : Point) → EndOrBeside e b a c → EndOrBeside (mirrored e) (mirrored a) (mirrored b) (mirrored c)
+mirrored_end e a b c = ⊎_elim (λ k. inl (ap mirrored k)) (λ t. inr (rw (mirrored_beside a b c) t))
 
 -- ---- at a right corner: the mirrored points have r for a left one, v after it and u before it
 
-module _ (r u v q c : Point) (seen : T (sees-edge v r q)) (hidden : T (beside r u q))
+module _ (r u v q c : Point) (seen : T (sees_edge v r q)) (hidden : T (beside r u q))
     (after : EndOrBeside u r u c) (before : EndOrBeside v v r c) where
-  pub tangent-right : pos 0 <ℤ orientation r u v → q ≢ v → T (beside q r c)
-  tangent-right turn not-v =
-      rw mirrored-beside at
-      (tangent-left (mirrored r) (mirrored v) (mirrored u) (mirrored q) (mirrored c)
-      (rw (mirrored-orientation r v u, orientation-cyclic v r u) turn)
-      (rw (mirrored-sees r v q) seen)
-      (rw (mirrored-beside u r q) hidden)
-      (mirrored-differs q v not-v)
-      (mirrored-end v r v c before)
-      (mirrored-end u u r c after))
+  pub tangent_right : pos 0 <ℤ orientation r u v → q ≢ v → T (beside q r c)
+  tangent_right turn not_v =
+      rw mirrored_beside at
+      (tangent_left (mirrored r) (mirrored v) (mirrored u) (mirrored q) (mirrored c)
+      (rw (mirrored_orientation r v u, orientation_cyclic v r u) turn)
+      (rw (mirrored_sees r v q) seen)
+      (rw (mirrored_beside u r q) hidden)
+      (mirrored_differs q v not_v)
+      (mirrored_end v r v c before)
+      (mirrored_end u u r c after))
 
-pub tangent-right-two : (r u q c : Point) → T (sees-edge u r q) → T (beside r u q) →
+pub tangent_right_two : (r u q c : Point) → T (sees_edge u r q) → T (beside r u q) →
     EndOrBeside u r u c → EndOrBeside u u r c → T (beside q r c)
-tangent-right-two r u q c seen hidden after before =
-    rw mirrored-beside at
-    (tangent-two (mirrored r) (mirrored u) (mirrored q) (mirrored c)
-    (rw (mirrored-sees r u q) seen)
-    (rw (mirrored-beside u r q) hidden)
-    (mirrored-end u r u c before)
-    (mirrored-end u u r c after))
+tangent_right_two r u q c seen hidden after before =
+    rw mirrored_beside at
+    (tangent_two (mirrored r) (mirrored u) (mirrored q) (mirrored c)
+    (rw (mirrored_sees r u q) seen)
+    (rw (mirrored_beside u r q) hidden)
+    (mirrored_end u r u c before)
+    (mirrored_end u u r c after))

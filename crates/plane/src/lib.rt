@@ -4,7 +4,7 @@ pub mod between;
 pub mod lower;
 
 ghost use Rattle.std.specs.Prelude.{◌≡◌, ◌&&◌, T};
-ghost use Rattle.model.specs.Plane.{at, beside, coordinate-in-range, in-range, orientation, same_point, sees-edge};
+ghost use Rattle.model.specs.Plane.{at, beside, coordinate_in_range, in_range, orientation, same_point, sees_edge};
 ghost use Rattle.plane.specs.OrientedAnswer.{RangedCoordinates, OrientedAnswer};
 
 use crate::between::are_opposite;
@@ -25,21 +25,21 @@ pub fn orientation_of(a: Point, b: Point, c: Point) -> Oriented
 }
 
 fn all_in_range(a: Point, b: Point, c: Point) -> bool
-    ensures { result ≡ (in-range a && in-range b && in-range c) }
+    ensures { result ≡ (in_range a && in_range b && in_range c) }
 {
     in_range(a) && in_range(b) && in_range(c)
 }
 
 // Whether both coordinates of a point are in range.
 pub fn in_range(p: Point) -> bool
-    ensures { result ≡ in-range p }
+    ensures { result ≡ in_range p }
 {
     coordinate_in_range(p.x) && coordinate_in_range(p.y)
 }
 
 // Whether a coordinate is in range.
 pub fn coordinate_in_range(z: i64) -> bool
-    ensures { result ≡ coordinate-in-range z }
+    ensures { result ≡ coordinate_in_range z }
 {
     -COORDINATE_LIMIT <= z && z <= COORDINATE_LIMIT
 }
@@ -54,7 +54,7 @@ pub fn is_same(p: Point, q: Point) -> bool
 // Whether c lies beside the edge from a to b, left of it or on it between its ends, as all other
 // points of a sound map lie beside each outline edge, for points that are in range.
 pub fn is_beside(a: Point, b: Point, c: Point) -> bool
-    requires { T (in-range a && in-range b && in-range c) }
+    requires { T (in_range a && in_range b && in_range c) }
     ensures { result ≡ beside a b c }
 {
     let z = orientation_in_range(a, b, c);
@@ -70,15 +70,15 @@ pub fn is_beside(a: Point, b: Point, c: Point) -> bool
 // Whether a point c that arrives sees the edge from a to b, which it is not beside, for points that
 // are in range.
 pub fn sees_edge(a: Point, b: Point, c: Point) -> bool
-    requires { T (in-range a && in-range b && in-range c) }
-    ensures { result ≡ sees-edge a b c }
+    requires { T (in_range a && in_range b && in_range c) }
+    ensures { result ≡ sees_edge a b c }
 {
     !is_beside(a, b, c)
 }
 
 // The orientation of three points that are in range, for callers that know it.
 pub fn orientation_in_range(a: Point, b: Point, c: Point) -> i64
-    requires { T (in-range a && in-range b && in-range c) }
+    requires { T (in_range a && in_range b && in_range c) }
     ensures { result ≡ orientation a b c }
 {
     determinant(a.x, a.y, b.x, b.y, c.x, c.y)

@@ -2,7 +2,7 @@
 
 ghost use Rattle.std.specs.Prelude.{◌≡◌, T};
 ghost use Rattle.model.specs.Outlines.{starts_with};
-ghost use Rattle.polygons.specs.Spellings.{CornersRead, ReadBetween, Ready, counted-as, ring-as};
+ghost use Rattle.polygons.specs.Spellings.{CornersRead, ReadBetween, Ready, counted_as, ring_as};
 
 use maps::reading::point_at;
 use model::{POINT_LIMIT, Point};
@@ -65,7 +65,7 @@ fn read_between(
 
 // Just n positions.
 fn counted(listed: Listed, n: usize) -> Corners
-    ensures { result ≡ counted-as n listed }
+    ensures { result ≡ counted_as n listed }
 {
     match listed {
         Listed::Read {
@@ -86,7 +86,7 @@ fn counted(listed: Listed, n: usize) -> Corners
 
 // Four positions or more, of which the last is the first again.
 fn ring(listed: Listed, first: Point) -> Corners
-    ensures { result ≡ ring-as first listed }
+    ensures { result ≡ ring_as first listed }
 {
     match listed {
         Listed::Read {

@@ -15,76 +15,76 @@ use lib.ListN.{length, get_or, set, take, drop, length-append, length-drop, leng
 use lib.Seq.{take_all, drop-drop, append_snoc, get_or-append_seam, get_or-set_same, get_or-set_other}
 use Rattle.finite.specs.Tests.{decide, is_true, is_false, same_or_not}
 use Rattle.finite.specs.Lists.{all_in}
-use Rattle.finite.specs.ListLaws.{all-in-snoc}
+use Rattle.finite.specs.ListLaws.{all_in_snoc}
 use Rattle.model.specs.declared.Point.{Point}
-use Rattle.model.specs.Plane.{at, in-range, origin}
-use Rattle.model.specs.Maps.{point-limit}
+use Rattle.model.specs.Plane.{at, in_range, origin}
+use Rattle.model.specs.Maps.{point_limit}
 use Rattle.model.specs.Spelling.{bytes}
 use Rattle.positions.specs.declared.Listed.{Listed}
 use Rattle.positions.specs.declared.Step.{Step}
-use Rattle.model.specs.Outlines.{after-position, is-position, is_word, position, positions, starts_with, with_first}
-use Rattle.positions.specs.Positions.{Kept, ReadAll, listed-as, position-size, step}
-use Rattle.positions.proofs.PositionLaws.{fails, one_more, the_last, no_last, no-position}
-use Rattle.positions.proofs.Steps.{Found, position-inside, more-inside, rest-is, is-rest}
+use Rattle.model.specs.Outlines.{after_position, is_position, is_word, position, positions, starts_with, with_first}
+use Rattle.positions.specs.Positions.{Kept, ReadAll, listed_as, position_size, step}
+use Rattle.positions.proofs.PositionLaws.{fails, one_more, the_last, no_last, no_position}
+use Rattle.positions.proofs.Steps.{Found, position_inside, more_inside, rest_is, is_rest}
 
 -- ---- one step
 
 record Goes (s : List ℕ) (x y : ℤ) (n : ℕ) : Type 0 where
-  passes : T (is-position s)
+  passes : T (is_position s)
   point : position s ≡ at x y
-  comma : T (starts_with (bytes ", ") (after-position s))
-  size : n ≡ position-size s + 2
+  comma : T (starts_with (bytes ", ") (after_position s))
+  size : n ≡ position_size s + 2
 
 record Stops (closing s : List ℕ) (x y : ℤ) : Type 0 where
-  passes : T (is-position s)
+  passes : T (is_position s)
   point : position s ≡ at x y
-  no-comma : starts_with (bytes ", ") (after-position s) ≡ false
-  closed : T (is_word closing (after-position s))
+  no_comma : starts_with (bytes ", ") (after_position s) ≡ false
+  closed : T (is_word closing (after_position s))
 
 module _ (closing s : List ℕ) where
-  abbrev comma-at : Bool
-  comma-at = starts_with (bytes ", ") (after-position s)
+  abbrev comma_at : Bool
+  comma_at = starts_with (bytes ", ") (after_position s)
 
   abbrev closed_at : Bool
-  closed_at = is_word closing (after-position s)
+  closed_at = is_word closing (after_position s)
 
   -- the four cases of the definition
-  is-more : T (is-position s) → T comma-at →
-      step closing s ≡ Step.More (position s).x (position s).y (position-size s + 2)
+  is_more : T (is_position s) → T comma_at →
+      step closing s ≡ Step.More (position s).x (position s).y (position_size s + 2)
   unfolding step
-  is-more t c = rw (is_true (is-position s) t, is_true comma-at c)
+  is_more t c = rw (is_true (is_position s) t, is_true comma_at c)
 
-  is_last : T (is-position s) → comma-at ≡ false → T closed_at → step closing s ≡ Step.Last (position s).x (position s).y
+  is_last : T (is_position s) → comma_at ≡ false → T closed_at → step closing s ≡ Step.Last (position s).x (position s).y
   unfolding step
-  is_last t c e = rw (is_true (is-position s) t, c, is_true closed_at e)
+  is_last t c e = rw (is_true (is_position s) t, c, is_true closed_at e)
 
-  is_open : T (is-position s) → comma-at ≡ false → closed_at ≡ false → step closing s ≡ Step.Malformed
+  is_open : T (is_position s) → comma_at ≡ false → closed_at ≡ false → step closing s ≡ Step.Malformed
   unfolding step
-  is_open t c e = rw (is_true (is-position s) t, c, e)
+  is_open t c e = rw (is_true (is_position s) t, c, e)
 
-  is_none : is-position s ≡ false → step closing s ≡ Step.Malformed
+  is_none : is_position s ≡ false → step closing s ≡ Step.Malformed
   unfolding step
   is_none t = rw t
 
-  by_cases : {A : Type 0} → (T (is-position s) → T comma-at → A) → (T (is-position s) → comma-at ≡ false → T closed_at → A) →
-      (T (is-position s) → comma-at ≡ false → closed_at ≡ false → A) → (is-position s ≡ false → A) → A
+  by_cases : {A : Type 0} → (T (is_position s) → T comma_at → A) → (T (is_position s) → comma_at ≡ false → T closed_at → A) →
+      (T (is_position s) → comma_at ≡ false → closed_at ≡ false → A) → (is_position s ≡ false → A) → A
   by_cases more last loose absent =
       ⊎_elim
-      (λ (t : T (is-position s)).
+      (λ (t : T (is_position s)).
       ⊎_elim
-      (λ (c : T comma-at). more t c)
-      (λ (c : T (not comma-at)).
-      ⊎_elim (λ (e : T closed_at). last t (fails comma-at c) e) (λ (e : T (not closed_at)). loose t (fails comma-at c) (fails closed_at e))
+      (λ (c : T comma_at). more t c)
+      (λ (c : T (not comma_at)).
+      ⊎_elim (λ (e : T closed_at). last t (fails comma_at c) e) (λ (e : T (not closed_at)). loose t (fails comma_at c) (fails closed_at e))
       (decide closed_at))
-      (decide comma-at))
-      (λ (t : T (not (is-position s))). absent (fails (is-position s) t))
-      (decide (is-position s))
+      (decide comma_at))
+      (λ (t : T (not (is_position s))). absent (fails (is_position s) t))
+      (decide (is_position s))
 
   goes : {x y : ℤ} {n : ℕ} → step closing s ≡ Step.More x y n → Goes s x y n
   goes {x} {y} {n} e =
       by_cases
       (λ t c.
-      let has = is-more t c in
+      let has = is_more t c in
       let ex : (position s).x ≡ x = cc in
       let ey : (position s).y ≡ y = cc in
       record { passes = t; point = ap₂ at ex ey; comma = c; size = cc })
@@ -95,12 +95,12 @@ module _ (closing s : List ℕ) where
   stops : {x y : ℤ} → step closing s ≡ Step.Last x y → Stops closing s x y
   stops {x} {y} e =
       by_cases
-      (λ t c. let has = is-more t c in let never : ◌≡◌ {A = ℕ} 0 1 = cc in absurd (omega arith))
+      (λ t c. let has = is_more t c in let never : ◌≡◌ {A = ℕ} 0 1 = cc in absurd (omega arith))
       (λ t c f.
       let has = is_last t c f in
       let ex : (position s).x ≡ x = cc in
       let ey : (position s).y ≡ y = cc in
-      record { passes = t; point = ap₂ at ex ey; no-comma = c; closed = f })
+      record { passes = t; point = ap₂ at ex ey; no_comma = c; closed = f })
       (λ t c f. let has = is_open t c f in let never : ◌≡◌ {A = ℕ} 0 1 = cc in absurd (omega arith))
       (λ t. let has = is_none t in let never : ◌≡◌ {A = ℕ} 0 1 = cc in absurd (omega arith))
 
@@ -109,18 +109,18 @@ module _ (closing s : List ℕ) where
   none_read zero e = refl
   none_read (suc k) e =
       by_cases
-      (λ t c. let has = is-more t c in let never : ◌≡◌ {A = ℕ} 0 1 = cc in absurd (omega arith))
+      (λ t c. let has = is_more t c in let never : ◌≡◌ {A = ℕ} 0 1 = cc in absurd (omega arith))
       (λ t c f. let has = is_last t c f in let never : ◌≡◌ {A = ℕ} 0 1 = cc in absurd (omega arith))
       (λ t c f. no_last k closing s t c f)
-      (λ t. no-position k closing s t)
+      (λ t. no_position k closing s t)
 
   -- it takes bytes of the list
-  some_bytes : T (is-position s) → 1 ≤ length s
-  unfolding position-size
+  some_bytes : T (is_position s) → 1 ≤ length s
+  unfolding position_size
   some_bytes t =
-      let w : Found s (position s).x (position s).y (position-size s) =
+      let w : Found s (position s).x (position s).y (position_size s) =
       record { passes = t; first = refl; other = refl; size = refl } in
-      omega (arith, position-inside w)
+      omega (arith, position_inside w)
 
 -- ---- what the loop knows
 
@@ -129,11 +129,11 @@ unfoldable pub put_first : List Point → Option (List Point) → Option (List P
 put_first read none = none
 put_first read (some s) = some (read ++ s)
 
-first-last : (read : List Point) (p : Point) (m : Option (List Point)) →
+first_last : (read : List Point) (p : Point) (m : Option (List Point)) →
     put_first (read ++ p ∷ []) m ≡ put_first read (with_first p m)
 unfolding put_first with_first
-first-last read p none = refl
-first-last read p (some s) = ap some (append_snoc read p s)
+first_last read p none = refl
+first_last read p (some s) = ap some (append_snoc read p s)
 
 -- one point more is kept
 kept_more : {read : List Point} {xs₀ ys₀ xs ys : List ℤ} (x y : ℤ) → Kept read xs₀ ys₀ xs ys →
@@ -141,14 +141,14 @@ kept_more : {read : List Point} {xs₀ ys₀ xs ys : List ℤ} (x y : ℤ) → K
 kept_more {read} {xs₀} {ys₀} {xs} {ys} x y w =
     let n : ℕ = length read in
     record {
-      long-xs = length-set xs n x ∙ w.long-xs;
-      long-ys = length-set ys n y ∙ w.long-ys;
+      long_xs = length-set xs n x ∙ w.long_xs;
+      long_ys = length-set ys n y ∙ w.long_ys;
       each =
           λ k h l.
           ⊎_elim
           (λ (e : k ≡ n).
           rw e
-          (ap₂ at (get_or-set_same xs n x (pos 0) (omega (arith, w.long-xs))) (get_or-set_same ys n y (pos 0) (omega (arith, w.long-ys)))
+          (ap₂ at (get_or-set_same xs n x (pos 0) (omega (arith, w.long_xs))) (get_or-set_same ys n y (pos 0) (omega (arith, w.long_ys)))
           ∙ sym (get_or-append_seam read (at x y) [] origin)))
           (λ (d : k ≢ n).
           let below : k < n = omega (arith, length-append read (at x y ∷ [])) in
@@ -168,26 +168,26 @@ pub record Reading (closing s : List ℕ) (xs₀ ys₀ : List ℤ) (place count 
   pub read : List Point
   pub ahead : put_first read (positions (length s - count) closing (drop place s)) ≡ positions (length s) closing s
   pub counted : count ≡ length read
-  pub all-ranged : ranged ≡ all_in in-range read
+  pub all_ranged : ranged ≡ all_in in_range read
   pub kept : Kept read xs₀ ys₀ xs ys
   pub inside : place ≤ length s
   pub fewer : count ≤ place
 
-first-none : (m : Option (List Point)) → put_first [] m ≡ m
+first_none : (m : Option (List Point)) → put_first [] m ≡ m
 unfolding put_first
-first-none none = refl
-first-none (some s) = refl
+first_none none = refl
+first_none (some s) = refl
 
-pub reading-none : (closing s : List ℕ) (xs ys : List ℤ) → length xs ≡ point-limit → length ys ≡ point-limit →
+pub reading_none : (closing s : List ℕ) (xs ys : List ℤ) → length xs ≡ point_limit → length ys ≡ point_limit →
     Reading closing s xs ys 0 0 true xs ys
 unfolding all_in
-reading-none closing s xs ys ex ey =
+reading_none closing s xs ys ex ey =
     record {
       read = [];
-      ahead = ap (λ (k : ℕ). put_first [] (positions k closing s)) (sub-zero (length s)) ∙ first-none (positions (length s) closing s);
+      ahead = ap (λ (k : ℕ). put_first [] (positions k closing s)) (sub-zero (length s)) ∙ first_none (positions (length s) closing s);
       counted = refl;
-      all-ranged = refl;
-      kept = record { long-xs = ex; long-ys = ey; each = λ k h l. absurd (omega arith); others = λ k h. refl };
+      all_ranged = refl;
+      kept = record { long_xs = ex; long_ys = ey; each = λ k h l. absurd (omega arith); others = λ k h. refl };
       inside = omega arith;
       fewer = omega arith;
     }
@@ -199,28 +199,28 @@ module _ {closing s : List ℕ} {xs₀ ys₀ : List ℤ} {place count : ℕ} {b 
   abbrev lent : List ℕ
   lent = take (length s - place) (drop place s)
 
-  is-lent : lent ≡ drop place s
-  is-lent = take_all (length s - place) (drop place s) (omega (arith, length-drop place s))
+  is_lent : lent ≡ drop place s
+  is_lent = take_all (length s - place) (drop place s) (omega (arith, length-drop place s))
 
   -- the step is that of the list from `place` on
   here : {r : Step} → r ≡ step closing lent → step closing (drop place s) ≡ r
-  here e = sym (e ∙ ap (step closing) is-lent)
+  here e = sym (e ∙ ap (step closing) is_lent)
 
-  fuel : T (is-position (drop place s)) → length s - count ≡ suc (length s - (count + 1))
+  fuel : T (is_position (drop place s)) → length s - count ≡ suc (length s - (count + 1))
   fuel t = omega (arith, some_bytes closing (drop place s) t, length-drop place s, w.fewer)
 
   module _ (x y : ℤ) where
-    abbrev more-read : List Point
-    more-read = w.read ++ at x y ∷ []
+    abbrev more_read : List Point
+    more_read = w.read ++ at x y ∷ []
 
-    kept_here : Kept more-read xs₀ ys₀ (set xs count x) (set ys count y)
+    kept_here : Kept more_read xs₀ ys₀ (set xs count x) (set ys count y)
     kept_here = rw w.counted (kept_more x y w.kept)
 
-    ranged-here : {r : Bool} → r ≡ (b && in-range (at x y)) → r ≡ all_in in-range more-read
-    ranged-here e = e ∙ ap (λ (a : Bool). a && in-range (at x y)) w.all-ranged ∙ sym (all-in-snoc in-range w.read (at x y))
+    ranged_here : {r : Bool} → r ≡ (b && in_range (at x y)) → r ≡ all_in in_range more_read
+    ranged_here e = e ∙ ap (λ (a : Bool). a && in_range (at x y)) w.all_ranged ∙ sym (all_in_snoc in_range w.read (at x y))
 
-    counted-here : count + 1 ≡ length more-read
-    counted-here = omega (arith, w.counted, length-append w.read (at x y ∷ []))
+    counted_here : count + 1 ≡ length more_read
+    counted_here = omega (arith, w.counted, length-append w.read (at x y ∷ []))
 
     module _ {n : ℕ} (e : Step.More x y n ≡ step closing lent) where
       abbrev rest : List ℕ
@@ -229,17 +229,17 @@ module _ {closing s : List ℕ} {xs₀ ys₀ : List ℤ} {place count : ℕ} {b 
       went : Goes rest x y n
       went = goes closing rest (here e)
 
-      found_here : Found rest (position rest).x (position rest).y (position-size rest)
+      found_here : Found rest (position rest).x (position rest).y (position_size rest)
       found_here = record { passes = went.passes; first = refl; other = refl; size = refl }
 
-      pub goes-inside : place + n ≤ length s
-      goes-inside =
-          let comma : starts_with (bytes ", ") (after-position rest) ≡ true =
-          is_true (starts_with (bytes ", ") (after-position rest)) went.comma in
+      pub goes_inside : place + n ≤ length s
+      goes_inside =
+          let comma : starts_with (bytes ", ") (after_position rest) ≡ true =
+          is_true (starts_with (bytes ", ") (after_position rest)) went.comma in
           omega (
             arith,
             went.size,
-            more-inside found_here (ap (starts_with (bytes ", ")) (is-rest found_here) ∙ comma),
+            more_inside found_here (ap (starts_with (bytes ", ")) (is_rest found_here) ∙ comma),
             length-drop place s,
             w.inside,
           )
@@ -247,10 +247,10 @@ module _ {closing s : List ℕ} {xs₀ ys₀ : List ℤ} {place count : ℕ} {b 
       pub goes_on : 1 ≤ n
       goes_on = omega (arith, went.size)
 
-      after_is : drop 2 (after-position rest) ≡ drop (place + n) s
+      after_is : drop 2 (after_position rest) ≡ drop (place + n) s
       after_is =
-          let m : ℕ = position-size rest in
-          ap (drop 2) (sym (rest-is found_here)) ∙ drop-drop 2 m rest ∙ drop-drop (m + 2) place s
+          let m : ℕ = position_size rest in
+          ap (drop 2) (sym (rest_is found_here)) ∙ drop-drop 2 m rest ∙ drop-drop (m + 2) place s
           ∙ ap (λ (k : ℕ). drop (place + k) s) (sym went.size)
 
       stepped : positions (length s - count) closing rest
@@ -261,16 +261,16 @@ module _ {closing s : List ℕ} {xs₀ ys₀ : List ℤ} {place count : ℕ} {b 
           ∙ one_more k closing rest went.passes went.comma
           ∙ ap₂ with_first went.point (ap (positions k closing) after_is)
 
-      pub reading-more : {r : Bool} → r ≡ (b && in-range (at x y)) →
+      pub reading_more : {r : Bool} → r ≡ (b && in_range (at x y)) →
           Reading closing s xs₀ ys₀ (place + n) (count + 1) r (set xs count x) (set ys count y)
-      reading-more f =
+      reading_more f =
           record {
-            read = more-read;
-            ahead = first-last w.read (at x y) _ ∙ ap (put_first w.read) (sym stepped) ∙ w.ahead;
-            counted = counted-here;
-            all-ranged = ranged-here f;
+            read = more_read;
+            ahead = first_last w.read (at x y) _ ∙ ap (put_first w.read) (sym stepped) ∙ w.ahead;
+            counted = counted_here;
+            all_ranged = ranged_here f;
             kept = kept_here;
-            inside = goes-inside;
+            inside = goes_inside;
             fewer = omega (arith, w.fewer, goes_on);
           }
 
@@ -278,47 +278,47 @@ module _ {closing s : List ℕ} {xs₀ ys₀ : List ℤ} {place count : ℕ} {b 
       stopped : Stops closing (drop place s) x y
       stopped = stops closing (drop place s) (here e)
 
-      all_read : some more-read ≡ positions (length s) closing s
+      all_read : some more_read ≡ positions (length s) closing s
       unfolding put_first
       all_read =
           let k : ℕ = length s - (count + 1) in
           let one : positions (length s - count) closing (drop place s) ≡ some (at x y ∷ []) =
           ap (λ (j : ℕ). positions j closing (drop place s)) (fuel stopped.passes)
-          ∙ the_last k closing (drop place s) stopped.passes stopped.no-comma stopped.closed
+          ∙ the_last k closing (drop place s) stopped.passes stopped.no_comma stopped.closed
           ∙ ap (λ (q : Point). some (q ∷ [])) stopped.point in
           sym (ap (put_first w.read) one) ∙ w.ahead
 
-      pub stops-inside : count < length s
-      stops-inside = omega (arith, some_bytes closing (drop place s) stopped.passes, length-drop place s, w.fewer)
+      pub stops_inside : count < length s
+      stops_inside = omega (arith, some_bytes closing (drop place s) stopped.passes, length-drop place s, w.fewer)
 
-      pub reading-last : {r : Bool} → r ≡ (b && in-range (at x y)) →
+      pub reading_last : {r : Bool} → r ≡ (b && in_range (at x y)) →
           ReadAll closing s (Listed.Read (count + 1) r x y) xs₀ ys₀ (set xs count x) (set ys count y)
-      unfolding listed-as
-      reading-last {r} f =
-          let last : Point = get_or more-read (length more-read - 1) origin in
-          let end : length more-read - 1 ≡ length w.read = omega (arith, length-append w.read (at x y ∷ [])) in
-          let last-is : last ≡ at x y =
-          ap (λ (k : ℕ). get_or more-read k origin) end ∙ get_or-append_seam w.read (at x y) [] origin in
-          let ex : x ≡ last.x = ap (λ (p : Point). p.x) (sym last-is) in
-          let ey : y ≡ last.y = ap (λ (p : Point). p.y) (sym last-is) in
-          let ranged : r ≡ all_in in-range more-read = ranged-here f in
-          let long : count + 1 ≡ length more-read = counted-here in
-          let same : Listed.Read (count + 1) r x y ≡ listed-as (some more-read) = cc in
+      unfolding listed_as
+      reading_last {r} f =
+          let last : Point = get_or more_read (length more_read - 1) origin in
+          let end : length more_read - 1 ≡ length w.read = omega (arith, length-append w.read (at x y ∷ [])) in
+          let last_is : last ≡ at x y =
+          ap (λ (k : ℕ). get_or more_read k origin) end ∙ get_or-append_seam w.read (at x y) [] origin in
+          let ex : x ≡ last.x = ap (λ (p : Point). p.x) (sym last_is) in
+          let ey : y ≡ last.y = ap (λ (p : Point). p.y) (sym last_is) in
+          let ranged : r ≡ all_in in_range more_read = ranged_here f in
+          let long : count + 1 ≡ length more_read = counted_here in
+          let same : Listed.Read (count + 1) r x y ≡ listed_as (some more_read) = cc in
           record {
-            answer = same ∙ ap listed-as all_read;
+            answer = same ∙ ap listed_as all_read;
             kept =
                 λ ps g.
-                let both : some more-read ≡ some ps = all_read ∙ g in
-                let is : ps ≡ more-read = cc in
+                let both : some more_read ≡ some ps = all_read ∙ g in
+                let is : ps ≡ more_read = cc in
                 rw is kept_here;
           }
 
-  pub reading-bad : Step.Malformed ≡ step closing lent → ReadAll closing s Listed.Malformed xs₀ ys₀ xs ys
-  unfolding listed-as put_first
-  reading-bad e =
+  pub reading_bad : Step.Malformed ≡ step closing lent → ReadAll closing s Listed.Malformed xs₀ ys₀ xs ys
+  unfolding listed_as put_first
+  reading_bad e =
       let none_is : none ≡ positions (length s) closing s =
       sym (ap (put_first w.read) (none_read closing (drop place s) (length s - count) (here e))) ∙ w.ahead in
       record {
-        answer = ap listed-as none_is;
+        answer = ap listed_as none_is;
         kept = λ ps f. let z : ◌≡◌ {A = ℕ} 0 1 = cc in absurd (omega arith);
       }

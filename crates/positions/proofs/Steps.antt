@@ -12,83 +12,83 @@ use lib.Dec.{T, T_not, eqb}
 use lib.IntN.{ℤ}
 use lib.ListN.{length, get_or, take, drop, length-append, length-drop, length-take}
 use lib.Seq.{take_all, drop-drop}
-use Rattle.finite.specs.Tests.{decide, is_true, is_false, of-true}
+use Rattle.finite.specs.Tests.{decide, is_true, is_false, of_true}
 use Rattle.model.specs.Spelling.{bytes, space}
-use Rattle.model.specs.Text.{is_number, number-value, front}
+use Rattle.model.specs.Text.{is_number, number_value, front}
 use Rattle.survey.specs.declared.numbers.Front.{Front}
-use Rattle.survey.specs.Numbers.{front-number}
-use Rattle.survey.proofs.Fronts.{Leads, leads, front-part, space-inside}
+use Rattle.survey.specs.Numbers.{front_number}
+use Rattle.survey.proofs.Fronts.{Leads, leads, front_part, space_inside}
 use Rattle.positions.specs.declared.Position.{Position}
 use Rattle.positions.specs.declared.Step.{Step}
-use Rattle.model.specs.Outlines.{after-position, is-position, is_word, position, second, starts_with}
-use Rattle.positions.specs.Positions.{front-position, position-size, step}
-use Rattle.positions.proofs.WordLaws.{word-then}
-use Rattle.positions.proofs.PositionLaws.{has-position}
+use Rattle.model.specs.Outlines.{after_position, is_position, is_word, position, second, starts_with}
+use Rattle.positions.specs.Positions.{front_position, position_size, step}
+use Rattle.positions.proofs.WordLaws.{word_then}
+use Rattle.positions.proofs.PositionLaws.{has_position}
 
 -- ---- the position at the front
 
-no_number : (s : List ℕ) → front-number s ≡ Front.Malformed → is_number (front s) ≡ false
-unfolding front-number
+no_number : (s : List ℕ) → front_number s ≡ Front.Malformed → is_number (front s) ≡ false
+unfolding front_number
 no_number s e =
     is_false (is_number (front s))
     (λ t.
-    let has : front-number s ≡ Front.Value (number-value (front s)) (length (front s)) =
+    let has : front_number s ≡ Front.Value (number_value (front s)) (length (front s)) =
     rw (is_true (is_number (front s)) t) in
     let never : ◌≡◌ {A = ℕ} 0 1 = cc in omega arith)
 
 module _ (s : List ℕ) where
-  pub no-first : front-number s ≡ Front.Malformed → Position.Malformed ≡ front-position s
-  unfolding front-position is-position
-  no-first e = sym (rw (no_number s e))
+  pub no_first : front_number s ≡ Front.Malformed → Position.Malformed ≡ front_position s
+  unfolding front_position is_position
+  no_first e = sym (rw (no_number s e))
 
   module _ {x : ℤ} {n : ℕ} (w : Leads s x n) where
-    pub no-space : get_or s n 0 ≢ space → Position.Malformed ≡ front-position s
-    unfolding front-position is-position
-    no-space d =
+    pub no_space : get_or s n 0 ≢ space → Position.Malformed ≡ front_position s
+    unfolding front_position is_position
+    no_space d =
         let other : eqb (get_or s (length (front s)) 0) space ≡ false =
         ne_eqb (get_or s (length (front s)) 0) space (λ e. d (rw w.ends e)) in
         sym (rw (is_true (is_number (front s)) w.passes, other))
 
     module _ (gap : get_or s n 0 ≡ space) where
       pub inside : n < length s
-      inside = space-inside s w gap
+      inside = space_inside s w gap
 
       -- the list that is lent for the second number
       abbrev lent : List ℕ
       lent = take (length s - (n + 1)) (drop (n + 1) s)
 
-      is-second : lent ≡ second s
+      is_second : lent ≡ second s
       unfolding second
-      is-second =
+      is_second =
           take_all (length s - (n + 1)) (drop (n + 1) s) (omega (arith, length-drop (n + 1) s))
           ∙ ap (λ (k : ℕ). drop k s) (add-one n ∙ ap suc w.ends)
 
       spaced : eqb (get_or s (length (front s)) 0) space ≡ true
       spaced = eq-eqb (get_or s (length (front s)) 0) space (rw w.ends at gap)
 
-      pub no_second : front-number lent ≡ Front.Malformed → Position.Malformed ≡ front-position s
-      unfolding front-position is-position
+      pub no_second : front_number lent ≡ Front.Malformed → Position.Malformed ≡ front_position s
+      unfolding front_position is_position
       no_second e =
-          let none : is_number (front (second s)) ≡ false = no_number (second s) (ap front-number (sym is-second) ∙ e) in
+          let none : is_number (front (second s)) ≡ false = no_number (second s) (ap front_number (sym is_second) ∙ e) in
           sym (rw (is_true (is_number (front s)) w.passes, spaced, none))
 
-      module _ {y : ℤ} {m : ℕ} (e : front-number lent ≡ Front.Value y m) where
+      module _ {y : ℤ} {m : ℕ} (e : front_number lent ≡ Front.Value y m) where
         other : Leads (second s) y m
-        other = leads (second s) (ap front-number (sym is-second) ∙ e)
+        other = leads (second s) (ap front_number (sym is_second) ∙ e)
 
         pub fits : n + 1 + m ≤ length s
         fits =
             omega (
               arith,
               other.ends,
-              ap length (front-part (second s)) ∙ length-take (length (front (second s))) (second s),
-              ap length is-second,
+              ap length (front_part (second s)) ∙ length-take (length (front (second s))) (second s),
+              ap length is_second,
               length-take (length s - (n + 1)) (drop (n + 1) s),
               inside,
             )
 
-        pub both_read : Position.Value x y (n + 1 + m) ≡ front-position s
-        unfolding front-position is-position position position-size
+        pub both_read : Position.Value x y (n + 1 + m) ≡ front_position s
+        unfolding front_position is_position position position_size
         both_read =
             sym (rw (is_true (is_number (front s)) w.passes, spaced, is_true (is_number (front (second s))) other.passes, ← w.value, ← w.ends, ← other.value, ← other.ends))
 
@@ -96,86 +96,86 @@ module _ (s : List ℕ) where
 
 -- a position of n bytes stands at the front
 pub record Found (s : List ℕ) (x y : ℤ) (n : ℕ) : Type 0 where
-  pub passes : T (is-position s)
+  pub passes : T (is_position s)
   pub first : x ≡ (position s).x
   pub other : y ≡ (position s).y
-  pub size : n ≡ position-size s
+  pub size : n ≡ position_size s
 
-pub found : (s : List ℕ) {x y : ℤ} {n : ℕ} → front-position s ≡ Position.Value x y n → Found s x y n
-unfolding front-position
+pub found : (s : List ℕ) {x y : ℤ} {n : ℕ} → front_position s ≡ Position.Value x y n → Found s x y n
+unfolding front_position
 found s {x} {y} {n} e =
     ⊎_elim
-    (λ (t : T (is-position s)).
-    let has : front-position s ≡ Position.Value (position s).x (position s).y (position-size s) =
-    rw (is_true (is-position s) t) in
+    (λ (t : T (is_position s)).
+    let has : front_position s ≡ Position.Value (position s).x (position s).y (position_size s) =
+    rw (is_true (is_position s) t) in
     record { passes = t; first = cc; other = cc; size = cc })
-    (λ (t : T (not (is-position s))).
-    let has : front-position s ≡ Position.Malformed = rw (is_false (is-position s) (T_not (is-position s) t)) in
+    (λ (t : T (not (is_position s))).
+    let has : front_position s ≡ Position.Malformed = rw (is_false (is_position s) (T_not (is_position s) t)) in
     let never : ◌≡◌ {A = ℕ} 0 1 = cc in absurd (omega arith))
-    (decide (is-position s))
+    (decide (is_position s))
 
-pub step-none : (closing s : List ℕ) → front-position s ≡ Position.Malformed → Step.Malformed ≡ step closing s
-unfolding front-position step
-step-none closing s e =
-    let fails : is-position s ≡ false =
-    is_false (is-position s)
+pub step_none : (closing s : List ℕ) → front_position s ≡ Position.Malformed → Step.Malformed ≡ step closing s
+unfolding front_position step
+step_none closing s e =
+    let fails : is_position s ≡ false =
+    is_false (is_position s)
     (λ t.
-    let has : front-position s ≡ Position.Value (position s).x (position s).y (position-size s) =
-    rw (is_true (is-position s) t) in
+    let has : front_position s ≡ Position.Value (position s).x (position s).y (position_size s) =
+    rw (is_true (is_position s) t) in
     let never : ◌≡◌ {A = ℕ} 0 1 = cc in omega arith) in
     sym (rw fails)
 
-front-short : (s : List ℕ) → length (front s) ≤ length s
-front-short s = omega (arith, ap length (front-part s) ∙ length-take (length (front s)) s)
+front_short : (s : List ℕ) → length (front s) ≤ length s
+front_short s = omega (arith, ap length (front_part s) ∙ length-take (length (front s)) s)
 
 module _ {s : List ℕ} {x y : ℤ} {n : ℕ} (w : Found s x y n) where
-  pub rest-is : drop n s ≡ after-position s
-  unfolding after-position second position-size
-  rest-is =
+  pub rest_is : drop n s ≡ after_position s
+  unfolding after_position second position_size
+  rest_is =
       let whole : n ≡ suc (length (front s)) + length (front (second s)) = w.size ∙ omega arith in
       ap (λ (k : ℕ). drop k s) whole ∙ sym (drop-drop (length (front (second s))) (suc (length (front s))) s)
 
-  pub position-inside : n ≤ length s
-  unfolding second position-size
-  position-inside =
-      let t = has-position s w.passes in
-      let first : Leads s (number-value (front s)) (length (front s)) =
-      record { passes = t.first-number; value = refl; ends = refl } in
+  pub position_inside : n ≤ length s
+  unfolding second position_size
+  position_inside =
+      let t = has_position s w.passes in
+      let first : Leads s (number_value (front s)) (length (front s)) =
+      record { passes = t.first_number; value = refl; ends = refl } in
       omega (
         arith,
         w.size,
-        front-short (second s),
+        front_short (second s),
         length-drop (suc (length (front s))) s,
-        space-inside s first t.spaced,
+        space_inside s first t.spaced,
       )
 
   -- the list that is lent for what stands after it
   abbrev pub rest : List ℕ
   rest = take (length s - n) (drop n s)
 
-  pub is-rest : rest ≡ after-position s
-  is-rest = take_all (length s - n) (drop n s) (omega (arith, length-drop n s)) ∙ rest-is
+  pub is_rest : rest ≡ after_position s
+  is_rest = take_all (length s - n) (drop n s) (omega (arith, length-drop n s)) ∙ rest_is
 
   module _ (closing : List ℕ) where
-    pub step-more : starts_with (bytes ", ") rest ≡ true → Step.More x y (n + 2) ≡ step closing s
+    pub step_more : starts_with (bytes ", ") rest ≡ true → Step.More x y (n + 2) ≡ step closing s
     unfolding step
-    step-more e =
-        sym (rw (is_true (is-position s) w.passes, ap (starts_with (bytes ", ")) (sym is-rest) ∙ e, ← w.first, ← w.other, ← w.size))
+    step_more e =
+        sym (rw (is_true (is_position s) w.passes, ap (starts_with (bytes ", ")) (sym is_rest) ∙ e, ← w.first, ← w.other, ← w.size))
 
-    pub step-last : starts_with (bytes ", ") rest ≡ false → is_word closing rest ≡ true → Step.Last x y ≡ step closing s
+    pub step_last : starts_with (bytes ", ") rest ≡ false → is_word closing rest ≡ true → Step.Last x y ≡ step closing s
     unfolding step
-    step-last e f =
-        sym (rw (is_true (is-position s) w.passes, ap (starts_with (bytes ", ")) (sym is-rest) ∙ e, ap (is_word closing) (sym is-rest) ∙ f, ← w.first, ← w.other))
+    step_last e f =
+        sym (rw (is_true (is_position s) w.passes, ap (starts_with (bytes ", ")) (sym is_rest) ∙ e, ap (is_word closing) (sym is_rest) ∙ f, ← w.first, ← w.other))
 
-    pub step-bad : starts_with (bytes ", ") rest ≡ false → is_word closing rest ≡ false → Step.Malformed ≡ step closing s
+    pub step_bad : starts_with (bytes ", ") rest ≡ false → is_word closing rest ≡ false → Step.Malformed ≡ step closing s
     unfolding step
-    step-bad e f =
-        sym (rw (is_true (is-position s) w.passes, ap (starts_with (bytes ", ")) (sym is-rest) ∙ e, ap (is_word closing) (sym is-rest) ∙ f))
+    step_bad e f =
+        sym (rw (is_true (is_position s) w.passes, ap (starts_with (bytes ", ")) (sym is_rest) ∙ e, ap (is_word closing) (sym is_rest) ∙ f))
 
   -- a comma and a space stand within the list
-  pub more-inside : starts_with (bytes ", ") rest ≡ true → n + 2 ≤ length s
+  pub more_inside : starts_with (bytes ", ") rest ≡ true → n + 2 ≤ length s
   unfolding bytes
-  more-inside e =
+  more_inside e =
       let long : length rest ≡ length s - n = omega (arith, length-take (length s - n) (drop n s), length-drop n s) in
-      let two = ap length (word-then (bytes ", ") rest (of-true (starts_with (bytes ", ") rest) e)) in
-      omega (arith, length-append (bytes ", ") (drop 2 rest), position-inside)
+      let two = ap length (word_then (bytes ", ") rest (of_true (starts_with (bytes ", ") rest) e)) in
+      omega (arith, length-append (bytes ", ") (drop 2 rest), position_inside)

@@ -3,9 +3,9 @@
 pub mod words;
 
 ghost use Rattle.std.specs.Prelude.{◌≡◌, ◌&&◌, length, set};
-ghost use Rattle.model.specs.Maps.{point-limit};
-ghost use Rattle.model.specs.Plane.{at, in-range};
-ghost use Rattle.positions.specs.Positions.{front-position, step, ReadAll};
+ghost use Rattle.model.specs.Maps.{point_limit};
+ghost use Rattle.model.specs.Plane.{at, in_range};
+ghost use Rattle.positions.specs.Positions.{front_position, step, ReadAll};
 
 use crate::words::{is_word, starts_with};
 use model::{POINT_LIMIT, Point};
@@ -43,7 +43,7 @@ pub enum Listed {
 
 // The position at the front of a list: two numbers with one space between.
 pub fn front_position(s: &[u8]) -> Position
-    ensures { result ≡ front-position s.now }
+    ensures { result ≡ front_position s.now }
 {
     let first = front_number(s);
     match first {
@@ -97,7 +97,7 @@ pub fn read_positions(
     xs: &mut [i64; POINT_LIMIT],
     ys: &mut [i64; POINT_LIMIT],
 ) -> Listed
-    requires { (length xs.old ≡ point-limit) × (length ys.old ≡ point-limit) }
+    requires { (length xs.old ≡ point_limit) × (length ys.old ≡ point_limit) }
     ensures { ReadAll closing.now s.now result xs.old ys.old
         xs.new ys.new }
 {
@@ -131,7 +131,7 @@ pub fn read_positions(
 
 // Keeps a number at place k, where there is such a place.
 fn keep(list: &mut [i64; POINT_LIMIT], k: usize, z: i64)
-    requires { length list.old ≡ point-limit }
+    requires { length list.old ≡ point_limit }
     ensures { list.new ≡ set list.old k z }
 {
     if k < POINT_LIMIT {
@@ -141,7 +141,7 @@ fn keep(list: &mut [i64; POINT_LIMIT], k: usize, z: i64)
 
 // Whether all so far are in range, and one point more.
 fn still_ranged(before: bool, x: i64, y: i64) -> bool
-    ensures { result ≡ (before && in-range (at x y)) }
+    ensures { result ≡ (before && in_range (at x y)) }
 {
     before && in_range(Point { x, y })
 }

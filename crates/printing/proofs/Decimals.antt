@@ -12,87 +12,87 @@ use lib.IntN.{ℤ, pos, negsuc, nat_abs}
 use lib.Signed.{lt_z}
 use lib.ListN.{length, set, length-append}
 use lib.Seq.{append_snoc}
-use Rattle.finite.specs.Bounded.{lt-or-ge}
-use Rattle.model.specs.Spelling.{decimal, digit-zero, minus, spelt}
+use Rattle.finite.specs.Bounded.{lt_or_ge}
+use Rattle.model.specs.Spelling.{decimal, digit_zero, minus, spelt}
 use Rattle.printing.specs.Writing.{Room, PutAt}
-use Rattle.printing.proofs.Overwriting.{wrote-before, wrote-length, wrote_none}
+use Rattle.printing.proofs.Overwriting.{wrote_before, wrote_length, wrote_none}
 
 module _ (k n : ℕ) where
-  pub decimal-one : n < 10 → decimal (suc k) n ≡ (digit-zero + n) ∷ []
+  pub decimal_one : n < 10 → decimal (suc k) n ≡ (digit_zero + n) ∷ []
   unfolding decimal
-  decimal-one h = rw (lt-ltb n 10 h)
+  decimal_one h = rw (lt-ltb n 10 h)
 
-  pub decimal-front : 10 ≤ n → decimal (suc k) n ≡ decimal k (n / 10) ++ (digit-zero + n % 10) ∷ []
+  pub decimal_front : 10 ≤ n → decimal (suc k) n ≡ decimal k (n / 10) ++ (digit_zero + n % 10) ∷ []
   unfolding decimal
-  decimal-front h = rw (le-ltb n 10 h)
+  decimal_front h = rw (le-ltb n 10 h)
 
 -- a number below 10^k needs no more than k digits
-pub decimal-enough : (k n : ℕ) → n < 10 ^ suc k → decimal (suc (suc k)) n ≡ decimal (suc k) n
-decimal-enough zero n h =
-    let l : n < 10 = h in decimal-one 1 n l ∙ sym (decimal-one 0 n l)
-decimal-enough (suc k) n h =
+pub decimal_enough : (k n : ℕ) → n < 10 ^ suc k → decimal (suc (suc k)) n ≡ decimal (suc k) n
+decimal_enough zero n h =
+    let l : n < 10 = h in decimal_one 1 n l ∙ sym (decimal_one 0 n l)
+decimal_enough (suc k) n h =
     ⊎_elim
-    (λ (l : n < 10). decimal-one (suc (suc k)) n l ∙ sym (decimal-one (suc k) n l))
+    (λ (l : n < 10). decimal_one (suc (suc k)) n l ∙ sym (decimal_one (suc k) n l))
     (λ (l : 10 ≤ n).
-    decimal-front (suc (suc k)) n l ∙
-    ap (λ (s : List ℕ). s ++ (digit-zero + n % 10) ∷ []) (decimal-enough k (n / 10) (omega arith)) ∙
-    sym (decimal-front (suc k) n l))
-    (lt-or-ge n 10)
+    decimal_front (suc (suc k)) n l ∙
+    ap (λ (s : List ℕ). s ++ (digit_zero + n % 10) ∷ []) (decimal_enough k (n / 10) (omega arith)) ∙
+    sym (decimal_front (suc k) n l))
+    (lt_or_ge n 10)
 
-pub decimal-more : (k n : ℕ) → 10 ≤ n → n < 10 ^ suc (suc k) →
-    decimal (suc (suc k)) n ≡ decimal (suc (suc k)) (n / 10) ++ (digit-zero + n % 10) ∷ []
-decimal-more k n h l =
-    decimal-front (suc k) n h ∙
-    ap (λ (s : List ℕ). s ++ (digit-zero + n % 10) ∷ []) (sym (decimal-enough k (n / 10) (omega
+pub decimal_more : (k n : ℕ) → 10 ≤ n → n < 10 ^ suc (suc k) →
+    decimal (suc (suc k)) n ≡ decimal (suc (suc k)) (n / 10) ++ (digit_zero + n % 10) ∷ []
+decimal_more k n h l =
+    decimal_front (suc k) n h ∙
+    ap (λ (s : List ℕ). s ++ (digit_zero + n % 10) ∷ []) (sym (decimal_enough k (n / 10) (omega
     arith)))
 
-pub decimal-length : (k n : ℕ) → length (decimal k n) ≤ k
+pub decimal_length : (k n : ℕ) → length (decimal k n) ≤ k
 unfolding decimal
-decimal-length zero n = omega arith
-decimal-length (suc k) n =
+decimal_length zero n = omega arith
+decimal_length (suc k) n =
     ⊎_elim
-    (λ (l : n < 10). rw (decimal-one k n l) (omega arith))
+    (λ (l : n < 10). rw (decimal_one k n l) (omega arith))
     (λ (l : 10 ≤ n).
-    rw (decimal-front k n l, length-append) (omega (arith, decimal-length k (n / 10))))
-    (lt-or-ge n 10)
+    rw (decimal_front k n l, length-append) (omega (arith, decimal_length k (n / 10))))
+    (lt_or_ge n 10)
 
 -- ---- as it is spelt
 
 module _ (n : ℕ) where
-  pub spelt-one : n < 10 → spelt (pos n) ≡ (digit-zero + n) ∷ []
+  pub spelt_one : n < 10 → spelt (pos n) ≡ (digit_zero + n) ∷ []
   unfolding spelt
-  spelt-one h = decimal-one 19 n h
+  spelt_one h = decimal_one 19 n h
 
-  pub spelt-more : 10 ≤ n → n < 2 ^ 64 → spelt (pos n) ≡ spelt (pos (n / 10)) ++ (digit-zero + n
+  pub spelt_more : 10 ≤ n → n < 2 ^ 64 → spelt (pos n) ≡ spelt (pos (n / 10)) ++ (digit_zero + n
       % 10) ∷ []
   unfolding spelt
-  spelt-more h l = decimal-more 18 n h (omega arith)
+  spelt_more h l = decimal_more 18 n h (omega arith)
 
-  pub length-one : n < 10 → length (spelt (pos n)) ≡ 1
-  length-one h = ap length (spelt-one h)
+  pub length_one : n < 10 → length (spelt (pos n)) ≡ 1
+  length_one h = ap length (spelt_one h)
 
   pub length_more : 10 ≤ n → n < 2 ^ 64 → length (spelt (pos n)) ≡ length (spelt (pos (n / 10))) + 1
-  length_more h l = ap length (spelt-more h l) ∙ length-append (spelt (pos (n / 10))) _
+  length_more h l = ap length (spelt_more h l) ∙ length-append (spelt (pos (n / 10))) _
 
-  pub spelt-length : length (spelt (pos n)) ≤ 20
+  pub spelt_length : length (spelt (pos n)) ≤ 20
   unfolding spelt
-  spelt-length = decimal-length 20 n
+  spelt_length = decimal_length 20 n
 
-ten-power : (k : ℕ) → 1 ≤ 10 ^ k
-ten-power zero = omega arith
-ten-power (suc k) = omega (arith, ten-power k)
+ten_power : (k : ℕ) → 1 ≤ 10 ^ k
+ten_power zero = omega arith
+ten_power (suc k) = omega (arith, ten_power k)
 
 -- so many digits, told by the powers of ten between which a number lies
-pub length-between : (k n : ℕ) → 10 ^ k ≤ n → n < 10 ^ suc k → n < 2 ^ 64 → length (spelt (pos n)) ≡ suc k
-length-between zero n low high fits = length-one n high
-length-between (suc k) n low high fits =
-    let h : 10 ≤ n = omega (arith, ten-power k) in
-    omega (arith, length_more n h fits, length-between k (n / 10) (omega arith) (omega arith) (omega arith))
+pub length_between : (k n : ℕ) → 10 ^ k ≤ n → n < 10 ^ suc k → n < 2 ^ 64 → length (spelt (pos n)) ≡ suc k
+length_between zero n low high fits = length_one n high
+length_between (suc k) n low high fits =
+    let h : 10 ≤ n = omega (arith, ten_power k) in
+    omega (arith, length_more n h fits, length_between k (n / 10) (omega arith) (omega arith) (omega arith))
 
 -- four digits less
-pub length-four-less : (n : ℕ) → 10000 ≤ n → n < 2 ^ 64 →
+pub length_four_less : (n : ℕ) → 10000 ≤ n → n < 2 ^ 64 →
     length (spelt (pos n)) ≡ length (spelt (pos (n / 10000))) + 4
-length-four-less n h fits =
+length_four_less n h fits =
     let e : n / 10 / 10 / 10 / 10 ≡ n / 10000 = omega arith in
     omega (
       arith,
@@ -104,24 +104,24 @@ length-four-less n h fits =
     )
 
 -- the sign, and the magnitude
-pub spelt-negative : (z : ℤ) → lt_z z (pos 0) ≡ true → spelt z ≡ minus ∷ spelt (pos (nat_abs z))
+pub spelt_negative : (z : ℤ) → lt_z z (pos 0) ≡ true → spelt z ≡ minus ∷ spelt (pos (nat_abs z))
 unfolding spelt
-spelt-negative (pos n) e = absurd (omega (arith, ltb-true n 0 e))
-spelt-negative (negsuc n) e = refl
+spelt_negative (pos n) e = absurd (omega (arith, ltb-true n 0 e))
+spelt_negative (negsuc n) e = refl
 
-pub spelt-plain : (z : ℤ) → lt_z z (pos 0) ≡ false → spelt z ≡ spelt (pos (nat_abs z))
+pub spelt_plain : (z : ℤ) → lt_z z (pos 0) ≡ false → spelt z ≡ spelt (pos (nat_abs z))
 unfolding spelt
-spelt-plain (pos n) e = refl
-spelt-plain (negsuc n) e = absurd (true≢false e)
+spelt_plain (pos n) e = refl
+spelt_plain (negsuc n) e = absurd (true≢false e)
 
 -- ---- written from the last digit to the first
 
-pub spelt-some : (n : ℕ) → n < 2 ^ 64 → 1 ≤ length (spelt (pos n))
-spelt-some n fits =
+pub spelt_some : (n : ℕ) → n < 2 ^ 64 → 1 ≤ length (spelt (pos n))
+spelt_some n fits =
     ⊎_elim
-    (λ (h : n < 10). omega (arith, length-one n h))
+    (λ (h : n < 10). omega (arith, length_one n h))
     (λ (h : 10 ≤ n). omega (arith, length_more n h fits))
-    (lt-or-ge n 10)
+    (lt_or_ge n 10)
 
 -- the digits of n after those of `rest` are written, from the place after `place` on
 pub record Backwards (lent : List ℕ) (at n end : ℕ) (now : List ℕ) (rest place : ℕ) : Type 0 where
@@ -132,10 +132,10 @@ pub record Backwards (lent : List ℕ) (at n end : ℕ) (now : List ℕ) (rest p
   pub less : rest ≤ n
 
 module _ {lent : List ℕ} {at n : ℕ} (room : Room lent at (spelt (pos n))) (fits : n < 2 ^ 64) where
-  pub backwards-none : {end : ℕ} → end ≡ at + length (spelt (pos n)) →
+  pub backwards_none : {end : ℕ} → end ≡ at + length (spelt (pos n)) →
       Backwards lent at n end lent n (end - 1)
-  backwards-none {end} e =
-      let last : end - 1 + 1 ≡ end = omega (arith, spelt-some n fits) in
+  backwards_none {end} e =
+      let last : end - 1 + 1 ≡ end = omega (arith, spelt_some n fits) in
       record {
         back = [];
         splits = sym (append-nil (spelt (pos n)));
@@ -145,8 +145,8 @@ module _ {lent : List ℕ} {at n : ℕ} (room : Room lent at (spelt (pos n))) (f
       }
 
   module _ {end rest place : ℕ} {now : List ℕ} (w : Backwards lent at n end now rest place) where
-    room-before : (b : ℕ) → Room lent place (b ∷ w.back)
-    room-before b =
+    room_before : (b : ℕ) → Room lent place (b ∷ w.back)
+    room_before b =
         record {
           room = omega (
             arith,
@@ -156,45 +156,45 @@ module _ {lent : List ℕ} {at n : ℕ} (room : Room lent at (spelt (pos n))) (f
           );
         }
 
-    pub backwards-long : length now ≡ length lent
-    backwards-long = wrote-length w.wrote (record { room = omega (arith, (room-before 0).room) })
+    pub backwards_long : length now ≡ length lent
+    backwards_long = wrote_length w.wrote (record { room = omega (arith, (room_before 0).room) })
 
-    pub backwards-inside : place < length now
-    backwards-inside = omega (arith, (room-before 0).room, backwards-long)
+    pub backwards_inside : place < length now
+    backwards_inside = omega (arith, (room_before 0).room, backwards_long)
 
     -- one digit more
     module _ (h : 10 ≤ rest) where
       fewer : length (spelt (pos rest)) ≡ length (spelt (pos (rest / 10))) + 1
       fewer = length_more rest h (omega (arith, w.less))
 
-      pub backwards-some : 1 ≤ place
-      backwards-some =
-          omega (arith, w.begins, fewer, spelt-some (rest / 10) (omega (arith, w.less)))
+      pub backwards_some : 1 ≤ place
+      backwards_some =
+          omega (arith, w.begins, fewer, spelt_some (rest / 10) (omega (arith, w.less)))
 
-      pub backwards-more : {b : ℕ} → b ≡ digit-zero + rest % 10 →
+      pub backwards_more : {b : ℕ} → b ≡ digit_zero + rest % 10 →
           Backwards lent at n end (set now place b) (rest / 10) (place - 1)
-      backwards-more {b} e =
+      backwards_more {b} e =
           let more : spelt (pos rest) ≡ spelt (pos (rest / 10)) ++ b ∷ [] =
-          rw e (spelt-more rest h (omega (arith, w.less))) in
-          let same : place - 1 + 1 ≡ place = omega (arith, backwards-some) in
+          rw e (spelt_more rest h (omega (arith, w.less))) in
+          let same : place - 1 + 1 ≡ place = omega (arith, backwards_some) in
           record {
             back = b ∷ w.back;
             splits =
                 w.splits ∙ ap (λ (s : List ℕ). s ++ w.back) more
                 ∙ append_snoc (spelt (pos (rest / 10))) b w.back;
             begins = omega (arith, w.begins, fewer, same);
-            wrote = rw same (wrote-before b (room-before b) w.wrote);
+            wrote = rw same (wrote_before b (room_before b) w.wrote);
             less = omega (arith, w.less);
           }
 
     -- the first digit
-    pub backwards-all : {b : ℕ} → rest < 10 → b ≡ digit-zero + rest →
+    pub backwards_all : {b : ℕ} → rest < 10 → b ≡ digit_zero + rest →
         PutAt lent at (spelt (pos n)) (set now place b) end
-    backwards-all {b} h e =
-        let one : spelt (pos rest) ≡ b ∷ [] = rw e (spelt-one rest h) in
+    backwards_all {b} h e =
+        let one : spelt (pos rest) ≡ b ∷ [] = rw e (spelt_one rest h) in
         let first : place ≡ at = omega (arith, w.begins, ap length one) in
         let whole : spelt (pos n) ≡ b ∷ w.back =
         w.splits ∙ ap (λ (s : List ℕ). s ++ w.back) one in
         rw whole
         (subst (λ (k : ℕ). PutAt lent k (b ∷ w.back) (set now place b) end) first
-        (wrote-before b (room-before b) w.wrote))
+        (wrote_before b (room_before b) w.wrote))

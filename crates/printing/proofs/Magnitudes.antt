@@ -13,7 +13,7 @@ use mir.Syntax.{w64}
 use mir.Val.{Fits, SFits, to_z, of_z}
 use mir.Facts.{to_z-of_z}
 use Rattle.model.specs.Spelling.{minus, spelt}
-use Rattle.printing.proofs.Decimals.{spelt-negative, spelt-plain}
+use Rattle.printing.proofs.Decimals.{spelt_negative, spelt_plain}
 
 -- the sign that the machine tests is the number's
 pub sign_read : {z : ℤ} {b : Bool} → SFits w64 z → lt_z (to_z w64 (of_z w64 z)) (pos 0) ≡ b →
@@ -33,27 +33,27 @@ module _ {z : ℤ} (f : SFits w64 z) (e : lt_z z (pos 0) ≡ true) where
   computed : negsuc 0 -ℤ to_z w64 (of_z w64 z) ≡ pos (nat_abs z - 1)
   computed = ap (λ (y : ℤ). negsuc 0 -ℤ y) (to_z-of_z f) ∙ complement z e
 
-  pub complement-fits : SFits w64 (negsuc 0 -ℤ to_z w64 (of_z w64 z))
-  complement-fits = subst (SFits w64) (sym computed) (record { sfits = (small z e f.sfits).1 })
+  pub complement_fits : SFits w64 (negsuc 0 -ℤ to_z w64 (of_z w64 z))
+  complement_fits = subst (SFits w64) (sym computed) (record { sfits = (small z e f.sfits).1 })
 
-  pub complement-read : to_z w64 (of_z w64 (negsuc 0 -ℤ to_z w64 (of_z w64 z))) ≡ pos (nat_abs z - 1)
-  complement-read = to_z-of_z complement-fits ∙ computed
+  pub complement_read : to_z w64 (of_z w64 (negsuc 0 -ℤ to_z w64 (of_z w64 z))) ≡ pos (nat_abs z - 1)
+  complement_read = to_z-of_z complement_fits ∙ computed
 
-  pub complement-less : (1 ≤ nat_abs z) × (nat_abs z - 1 < 2 ^ 63)
-  complement-less = small z e f.sfits
+  pub complement_less : (1 ≤ nat_abs z) × (nat_abs z - 1 < 2 ^ 63)
+  complement_less = small z e f.sfits
 
 -- a number that is not negative, as the machine casts it
-pub plain-cast : (z : ℤ) → SFits w64 z → lt_z z (pos 0) ≡ false → T (non_neg z) × Fits w64 (nat_abs z)
-plain-cast (pos n) f e = (tt, record { fits = omega (arith, f.sfits) })
-plain-cast (negsuc n) f e = absurd (true≢false e)
+pub plain_cast : (z : ℤ) → SFits w64 z → lt_z z (pos 0) ≡ false → T (non_neg z) × Fits w64 (nat_abs z)
+plain_cast (pos n) f e = (tt, record { fits = omega (arith, f.sfits) })
+plain_cast (negsuc n) f e = absurd (true≢false e)
 
 -- how a number is spelt, by the sign and the magnitude that the machine found
 module _ {z : ℤ} {m : ℕ} (f : SFits w64 z) (is : m ≡ nat_abs (to_z w64 (of_z w64 z))) where
-  magnitude-is : nat_abs z ≡ m
-  magnitude-is = sym (is ∙ ap nat_abs (to_z-of_z f))
+  magnitude_is : nat_abs z ≡ m
+  magnitude_is = sym (is ∙ ap nat_abs (to_z-of_z f))
 
-  pub signed-spelling : lt_z (to_z w64 (of_z w64 z)) (pos 0) ≡ true → spelt z ≡ minus ∷ spelt (pos m)
-  signed-spelling e = rw magnitude-is at (spelt-negative z (sign_read f e))
+  pub signed_spelling : lt_z (to_z w64 (of_z w64 z)) (pos 0) ≡ true → spelt z ≡ minus ∷ spelt (pos m)
+  signed_spelling e = rw magnitude_is at (spelt_negative z (sign_read f e))
 
-  pub plain-spelling : lt_z (to_z w64 (of_z w64 z)) (pos 0) ≡ false → spelt z ≡ spelt (pos m)
-  plain-spelling e = rw magnitude-is at (spelt-plain z (sign_read f e))
+  pub plain_spelling : lt_z (to_z w64 (of_z w64 z)) (pos 0) ≡ false → spelt z ≡ spelt (pos m)
+  plain_spelling e = rw magnitude_is at (spelt_plain z (sign_read f e))

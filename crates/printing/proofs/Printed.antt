@@ -8,86 +8,86 @@ use lib.IntN.{pos}
 use lib.ListN.{length, length-append}
 use Rattle.model.specs.declared.Arrival.{Arrival}
 use Rattle.model.specs.declared.Refusal.{Refusal}
-use Rattle.model.specs.Spelling.{bytes, line-feed, space, spelt}
+use Rattle.model.specs.Spelling.{bytes, line_feed, space, spelt}
 use Rattle.model.specs.Refusals.{number}
-use Rattle.model.specs.Answers.{refused, arrival-answer}
+use Rattle.model.specs.Answers.{refused, arrival_answer}
 use Rattle.model.specs.Report.{printed}
-use Rattle.printing.specs.Printing.{answer-line, arrival-line, values-spaced}
-use Rattle.printing.proofs.Decimals.{spelt-length}
-use Rattle.printing.proofs.Values.{spaced-length}
+use Rattle.printing.specs.Printing.{answer_line, arrival_line, values_spaced}
+use Rattle.printing.proofs.Decimals.{spelt_length}
+use Rattle.printing.proofs.Values.{spaced_length}
 
-pub line-length : (word values : List ℕ) →
-    length (answer-line word values) ≡ length word + length (values-spaced values) + 1
-unfolding answer-line
-line-length word values =
-    length-append (word ++ values-spaced values) (line-feed ∷ []) ∙
-    ap (λ (n : ℕ). n + 1) (length-append word (values-spaced values))
+pub line_length : (word values : List ℕ) →
+    length (answer_line word values) ≡ length word + length (values_spaced values) + 1
+unfolding answer_line
+line_length word values =
+    length-append (word ++ values_spaced values) (line_feed ∷ []) ∙
+    ap (λ (n : ℕ). n + 1) (length-append word (values_spaced values))
 
 -- ---- each answer's line
 
-pub refused-line : (r : Refusal) → printed (refused r) ≡ answer-line (bytes "refused") (number r
+pub refused_line : (r : Refusal) → printed (refused r) ≡ answer_line (bytes "refused") (number r
     ∷ [])
-unfolding printed answer-line
-refused-line r = refl
+unfolding printed answer_line
+refused_line r = refl
 
 -- where n was found for the number
 pub refused_as : (r : Refusal) (n : ℕ) → n ≡ number r →
-    printed (refused r) ≡ answer-line (bytes "refused") (n ∷ [])
-refused_as r n e = rw e (refused-line r)
+    printed (refused r) ≡ answer_line (bytes "refused") (n ∷ [])
+refused_as r n e = rw e (refused_line r)
 
-pub first-line : printed (arrival-answer Arrival.First) ≡ answer-line (bytes "first") []
-unfolding printed answer-line arrival-answer
-first-line = refl
+pub first_line : printed (arrival_answer Arrival.First) ≡ answer_line (bytes "first") []
+unfolding printed answer_line arrival_answer
+first_line = refl
 
-pub second-line : printed (arrival-answer Arrival.Second) ≡ answer-line (bytes "second") []
-unfolding printed answer-line arrival-answer
-second-line = refl
+pub second_line : printed (arrival_answer Arrival.Second) ≡ answer_line (bytes "second") []
+unfolding printed answer_line arrival_answer
+second_line = refl
 
-pub inside-line : printed (arrival-answer Arrival.Inside) ≡ answer-line (bytes "inside") []
-unfolding printed answer-line arrival-answer
-inside-line = refl
+pub inside_line : printed (arrival_answer Arrival.Inside) ≡ answer_line (bytes "inside") []
+unfolding printed answer_line arrival_answer
+inside_line = refl
 
-pub outside-line : (l r v : ℕ) →
-    printed (arrival-answer (Arrival.Outside l r v)) ≡ answer-line (bytes "outside") (l ∷ r ∷ v ∷
+pub outside_line : (l r v : ℕ) →
+    printed (arrival_answer (Arrival.Outside l r v)) ≡ answer_line (bytes "outside") (l ∷ r ∷ v ∷
     [])
-unfolding printed answer-line arrival-answer
-outside-line l r v = refl
+unfolding printed answer_line arrival_answer
+outside_line l r v = refl
 
-pub refused-arrival : (r : Refusal) → printed (arrival-answer (Arrival.Refused r)) ≡ printed
+pub refused_arrival : (r : Refusal) → printed (arrival_answer (Arrival.Refused r)) ≡ printed
     (refused r)
-unfolding arrival-answer
-refused-arrival r = refl
+unfolding arrival_answer
+refused_arrival r = refl
 
 -- ---- how long they are
 
-line-most : (word values : List ℕ) → length (answer-line word values) ≤ length word + 21 * length
+line_most : (word values : List ℕ) → length (answer_line word values) ≤ length word + 21 * length
     values + 1
-line-most word values = omega (arith, line-length word values, spaced-length values)
+line_most word values = omega (arith, line_length word values, spaced_length values)
 
-pub refused-most : (r : Refusal) → length (printed (refused r)) ≤ 72
+pub refused_most : (r : Refusal) → length (printed (refused r)) ≤ 72
 unfolding bytes
-refused-most r = omega (
+refused_most r = omega (
   arith,
-  ap length (refused-line r),
-  line-most (bytes "refused") (number r
+  ap length (refused_line r),
+  line_most (bytes "refused") (number r
       ∷ []),
 )
 
-pub arrival-most : (a : Arrival) → length (printed (arrival-answer a)) ≤ 72
+pub arrival_most : (a : Arrival) → length (printed (arrival_answer a)) ≤ 72
 unfolding bytes
-arrival-most Arrival.First = omega (arith, ap length first-line, line-most (bytes "first") [])
-arrival-most Arrival.Second = omega (arith, ap length second-line, line-most (bytes "second") [])
-arrival-most Arrival.Inside = omega (arith, ap length inside-line, line-most (bytes "inside") [])
-arrival-most (Arrival.Outside l r v) =
-    omega (arith, ap length (outside-line l r v), line-most (bytes "outside") (l ∷ r ∷ v ∷ []))
-arrival-most (Arrival.Refused r) = omega (arith, ap length (refused-arrival r), refused-most r)
+arrival_most Arrival.First = omega (arith, ap length first_line, line_most (bytes "first") [])
+arrival_most Arrival.Second = omega (arith, ap length second_line, line_most (bytes "second") [])
+arrival_most Arrival.Inside = omega (arith, ap length inside_line, line_most (bytes "inside") [])
+arrival_most (Arrival.Outside l r v) =
+    omega (arith, ap length (outside_line l r v), line_most (bytes "outside") (l ∷ r ∷ v ∷ []))
+arrival_most (Arrival.Refused r) = omega (arith, ap length (refused_arrival r), refused_most r)
 
 module _ (n : ℕ) (a : Arrival) where
-  pub arrival-line-length :
-      length (arrival-line n a) ≡ length (spelt (pos n)) + 1 + length (printed (arrival-answer a))
-  unfolding arrival-line
-  arrival-line-length =
-      omega (arith, length-append (spelt (pos n)) (space ∷ printed (arrival-answer a)))
+  pub arrival_line_length :
+      length (arrival_line n a) ≡ length (spelt (pos n)) + 1 + length (printed (arrival_answer a))
+  unfolding arrival_line
+  arrival_line_length =
+      omega (arith, length-append (spelt (pos n)) (space ∷ printed (arrival_answer a)))
 
-  pub arrival-line-most : length (arrival-line n a) ≤ 93
-  arrival-line-most = omega (arith, arrival-line-length, spelt-length n, arrival-most a)
+  pub arrival_line_most : length (arrival_line n a) ≤ 93
+  arrival_line_most = omega (arith, arrival_line_length, spelt_length n, arrival_most a)

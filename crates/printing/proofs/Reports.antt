@@ -9,35 +9,35 @@ use lib.ListN.{drop}
 use Rattle.model.specs.declared.Map.{Map}
 use Rattle.model.specs.declared.Offered.{Offered}
 use Rattle.model.specs.Spelling.{bytes}
-use Rattle.model.specs.Answers.{counted-answer}
+use Rattle.model.specs.Answers.{counted_answer}
 use Rattle.model.specs.Outline.{corners}
 use Rattle.model.specs.Reading.{counts}
-use Rattle.model.specs.Report.{arrivals, closing, offer-line, printed}
+use Rattle.model.specs.Report.{arrivals, closing, offer_line, printed}
 use Rattle.model.specs.Text.{lines}
-use Rattle.survey.specs.Places.{at-end, line_at, next-line}
-use Rattle.printing.specs.Printing.{answer-line, arrival-line}
+use Rattle.survey.specs.Places.{at_end, line_at, next_line}
+use Rattle.printing.specs.Printing.{answer_line, arrival_line}
 use Rattle.survey.proofs.Texts.{none_left, one_left}
 
 module _ (m : Map) (n : ℕ) (text : List ℕ) (at : ℕ) where
-  pub report-ended : at-end text at ≡ true → arrivals m n (lines (drop at text)) ≡ closing m
+  pub report_ended : at_end text at ≡ true → arrivals m n (lines (drop at text)) ≡ closing m
   unfolding arrivals
-  report-ended e = ap (arrivals m n) (none_left text at e)
+  report_ended e = ap (arrivals m n) (none_left text at e)
 
   -- what the line at the place does to the map
   abbrev pub offered : Offered
-  offered = offer-line m (line_at text at)
+  offered = offer_line m (line_at text at)
 
-  pub report-goes-on : at-end text at ≡ false →
+  pub report_goes_on : at_end text at ≡ false →
       arrivals m n (lines (drop at text))
-      ≡ arrival-line n offered.arrival ++ arrivals offered.map (suc n) (lines (drop
-      (next-line text at) text))
-  unfolding arrivals arrival-line line_at
-  report-goes-on e = ap (arrivals m n) (one_left text at e)
+      ≡ arrival_line n offered.arrival ++ arrivals offered.map (suc n) (lines (drop
+      (next_line text at) text))
+  unfolding arrivals arrival_line line_at
+  report_goes_on e = ap (arrivals m n) (one_left text at e)
 
 pub closing_lines : (m : Map) →
     let c = counts m in
     closing m
-    ≡ answer-line (bytes "corners") (corners m)
-    ++ answer-line (bytes "counts") (c.darts ∷ c.vertices ∷ c.edges ∷ c.faces ∷ c.parts ∷ [])
-unfolding closing printed answer-line counted-answer
+    ≡ answer_line (bytes "corners") (corners m)
+    ++ answer_line (bytes "counts") (c.darts ∷ c.vertices ∷ c.edges ∷ c.faces ∷ c.parts ∷ [])
+unfolding closing printed answer_line counted_answer
 closing_lines m = refl

@@ -3,18 +3,18 @@
 -- the left and right corner, visible edges. Each printed line ends in a line feed."
 use Rattle.std.specs.Prelude.{List, [], ◌∷◌, ◌++◌, map, ℕ, pos}
 use Rattle.model.specs.declared.Arrival.{Arrival}
-use Rattle.model.specs.Spelling.{line-feed, space, spelt}
-use Rattle.model.specs.Answers.{arrival-answer}
+use Rattle.model.specs.Spelling.{line_feed, space, spelt}
+use Rattle.model.specs.Answers.{arrival_answer}
 use Rattle.model.specs.Report.{printed, spaced}
 
 -- each value after a space
-abbrev pub values-spaced : List ℕ → List ℕ
-values-spaced values = spaced (map pos values)
+abbrev pub values_spaced : List ℕ → List ℕ
+values_spaced values = spaced (map pos values)
 
 -- what `printed` makes of an answer, by the bytes of its word and its values
-unfoldable pub answer-line : List ℕ → List ℕ → List ℕ
-answer-line word values = word ++ values-spaced values ++ line-feed ∷ []
+unfoldable pub answer_line : List ℕ → List ℕ → List ℕ
+answer_line word values = word ++ values_spaced values ++ line_feed ∷ []
 
 -- the line of an arrival, after the number of the survey's line
-unfoldable pub arrival-line : ℕ → Arrival → List ℕ
-arrival-line n a = spelt (pos n) ++ space ∷ printed (arrival-answer a)
+unfoldable pub arrival_line : ℕ → Arrival → List ℕ
+arrival_line n a = spelt (pos n) ++ space ∷ printed (arrival_answer a)

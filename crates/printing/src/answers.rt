@@ -2,19 +2,19 @@
 
 ghost use Rattle.std.specs.Prelude.{◌≡◌, [], ◌∷◌, ◌≤◌, pos, length};
 ghost use Rattle.model.specs.Spelling.{space, spelt};
-ghost use Rattle.model.specs.Maps.{point-limit};
-ghost use Rattle.model.specs.Answers.{arrival-answer, refused};
+ghost use Rattle.model.specs.Maps.{point_limit};
+ghost use Rattle.model.specs.Answers.{arrival_answer, refused};
 ghost use Rattle.model.specs.Report.{printed};
 ghost use Rattle.printing.specs.Writing.{Room, PutAt};
-ghost use Rattle.printing.specs.Printing.{answer-line, arrival-line, values-spaced};
+ghost use Rattle.printing.specs.Printing.{answer_line, arrival_line, values_spaced};
 
 use super::writing::{natural_length, put_byte, put_natural, put_word};
 use model::{Arrival, Refusal, refusal_number};
 
 // Writes the line of an arrival, after the number of the survey's line.
 pub fn put_arrival(lent: &mut [u8], at: usize, line: usize, arrival: Arrival) -> usize
-    requires { Room lent.old at (arrival-line line arrival) }
-    ensures { PutAt lent.old at (arrival-line line arrival)
+    requires { Room lent.old at (arrival_line line arrival) }
+    ensures { PutAt lent.old at (arrival_line line arrival)
         lent.new result }
 {
     let after_number = put_natural(lent, at, line as u64);
@@ -24,15 +24,15 @@ pub fn put_arrival(lent: &mut [u8], at: usize, line: usize, arrival: Arrival) ->
 
 // How many bytes the line of an arrival takes.
 pub fn arrival_length(line: usize, arrival: Arrival) -> usize
-    ensures { result ≡ length (arrival-line line arrival) }
+    ensures { result ≡ length (arrival_line line arrival) }
 {
     natural_length(line as u64) + 1 + arrival_answer_length(arrival)
 }
 
 // Writes the word of an arrival, its values and a line feed.
 fn put_arrival_answer(lent: &mut [u8], at: usize, arrival: Arrival) -> usize
-    requires { Room lent.old at (printed (arrival-answer arrival)) }
-    ensures { PutAt lent.old at (printed (arrival-answer arrival))
+    requires { Room lent.old at (printed (arrival_answer arrival)) }
+    ensures { PutAt lent.old at (printed (arrival_answer arrival))
         lent.new result }
 {
     match arrival {
@@ -52,7 +52,7 @@ fn put_arrival_answer(lent: &mut [u8], at: usize, arrival: Arrival) -> usize
 }
 
 fn arrival_answer_length(arrival: Arrival) -> usize
-    ensures { result ≡ length (printed (arrival-answer arrival)) }
+    ensures { result ≡ length (printed (arrival_answer arrival)) }
 {
     match arrival {
         Arrival::First => 6,
@@ -100,8 +100,8 @@ fn put_value(lent: &mut [u8], at: usize, value: usize) -> usize
 
 // Writes values, each after a space.
 pub fn put_values(lent: &mut [u8], at: usize, values: &[usize]) -> usize
-    requires { Room lent.old at (values-spaced values.now) }
-    ensures { PutAt lent.old at (values-spaced values.now)
+    requires { Room lent.old at (values_spaced values.now) }
+    ensures { PutAt lent.old at (values_spaced values.now)
         lent.new result }
 {
     let mut end = at;
@@ -113,8 +113,8 @@ pub fn put_values(lent: &mut [u8], at: usize, values: &[usize]) -> usize
 
 // How many bytes values take. They are a map's corners at most.
 pub fn values_length(values: &[usize]) -> usize
-    requires { length values.now ≤ point-limit }
-    ensures { result ≡ length (values-spaced values.now) }
+    requires { length values.now ≤ point_limit }
+    ensures { result ≡ length (values_spaced values.now) }
 {
     let mut total = 0;
     for i in 0..values.len() {
@@ -125,9 +125,9 @@ pub fn values_length(values: &[usize]) -> usize
 
 // Writes a line of a word and its values.
 pub fn put_answer(lent: &mut [u8], at: usize, word: &[u8], values: &[usize]) -> usize
-    requires { Room lent.old at (answer-line word.now values.now) }
+    requires { Room lent.old at (answer_line word.now values.now) }
     ensures { PutAt lent.old at
-        (answer-line word.now values.now) lent.new result }
+        (answer_line word.now values.now) lent.new result }
 {
     let after_word = put_word(lent, at, word);
     let after_values = put_values(lent, after_word, values);
@@ -136,8 +136,8 @@ pub fn put_answer(lent: &mut [u8], at: usize, word: &[u8], values: &[usize]) -> 
 
 // Writes a line of a word alone.
 pub fn put_line(lent: &mut [u8], at: usize, word: &[u8]) -> usize
-    requires { Room lent.old at (answer-line word.now []) }
-    ensures { PutAt lent.old at (answer-line word.now [])
+    requires { Room lent.old at (answer_line word.now []) }
+    ensures { PutAt lent.old at (answer_line word.now [])
         lent.new result }
 {
     let after_word = put_word(lent, at, word);

@@ -2,7 +2,7 @@
 // length. A function that writes is given room and answers the place after what it wrote.
 
 ghost use Rattle.std.specs.Prelude.{◌≡◌, [], ◌∷◌, ◌+◌, ◌<◌, pos, nat_abs, length};
-ghost use Rattle.model.specs.Spelling.{digit-zero, spelt};
+ghost use Rattle.model.specs.Spelling.{digit_zero, spelt};
 ghost use Rattle.printing.specs.Writing.{Room, PutAt};
 
 // Writes one byte.
@@ -98,7 +98,7 @@ pub fn natural_length(n: u64) -> usize
 // The byte of a digit.
 fn digit(n: u64) -> u8
     requires { n < 10 }
-    ensures { result ≡ digit-zero + n }
+    ensures { result ≡ digit_zero + n }
 {
     b'0' + n as u8
 }

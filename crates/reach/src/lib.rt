@@ -5,24 +5,24 @@
 
 ghost use Rattle.std.specs.Prelude.{◌≡◌, [], ◌∷◌, T, length};
 ghost use Rattle.model.specs.declared.Link.{Link};
-ghost use Rattle.model.specs.Plane.{at, orientation-call};
-ghost use Rattle.model.specs.Maps.{empty-map};
+ghost use Rattle.model.specs.Plane.{at, orientation_call};
+ghost use Rattle.model.specs.Maps.{empty_map};
 ghost use Rattle.model.specs.Outline.{corners};
 ghost use Rattle.model.specs.Shape.{Shaped};
 ghost use Rattle.model.specs.Sound.{sound};
 ghost use Rattle.model.specs.Reading.{unsound};
-ghost use Rattle.model.specs.Saved.{load-call, map-in, saved};
-ghost use Rattle.model.specs.Text.{line-call};
-ghost use Rattle.model.specs.Report.{report, report-rules};
-ghost use Rattle.model.specs.Outlines.{coordinates, corner-points, corners-spelt, outline-rules, outline-text};
-ghost use Rattle.model.specs.Marking.{points-of};
+ghost use Rattle.model.specs.Saved.{load_call, map_in, saved};
+ghost use Rattle.model.specs.Text.{line_call};
+ghost use Rattle.model.specs.Report.{report, report_rules};
+ghost use Rattle.model.specs.Outlines.{coordinates, corner_points, corners_spelt, outline_rules, outline_text};
+ghost use Rattle.model.specs.Marking.{points_of};
 ghost use Rattle.replies.specs.Served.{Served, ServedBoth, number_by, only};
-ghost use Rattle.replies.specs.Opened.{of-file};
-ghost use Rattle.measures.specs.Areas.{sound-area-call};
-ghost use Rattle.replies.specs.Replies.{Offering, area-reply, counts-reply, from-file, length-told};
-ghost use Rattle.replies.specs.Replies.{mark-reply, removal-reply, sound-removal};
-ghost use Rattle.replies.specs.Replies.{orbit-reply, place-reply, reply, values_of};
-ghost use Rattle.replies.specs.Replies.{walk-reply, walker-reply};
+ghost use Rattle.replies.specs.Opened.{of_file};
+ghost use Rattle.measures.specs.Areas.{sound_area_call};
+ghost use Rattle.replies.specs.Replies.{Offering, area_reply, counts_reply, from_file, length_told};
+ghost use Rattle.replies.specs.Replies.{mark_reply, removal_reply, sound_removal};
+ghost use Rattle.replies.specs.Replies.{orbit_reply, place_reply, reply, values_of};
+ghost use Rattle.replies.specs.Replies.{walk_reply, walker_reply};
 
 use corners::listing::corners_of;
 use corners::query::placed;
@@ -62,7 +62,7 @@ pub extern "C" fn reach_orientation(
     cy: i64,
     out: &mut [i64],
 ) -> u32
-    ensures { Served (reply values_of (orientation-call (at ax ay) (at bx by) (at cx cy)))
+    ensures { Served (reply values_of (orientation_call (at ax ay) (at bx by) (at cx cy)))
         out.old out.new result }
 {
     write_orientation(point(ax, ay), point(bx, by), point(cx, cy), out)
@@ -70,7 +70,7 @@ pub extern "C" fn reach_orientation(
 
 // The orientation of three points.
 fn write_orientation(a: Point, b: Point, c: Point, out: &mut [i64]) -> u32
-    ensures { Served (reply values_of (orientation-call a b c))
+    ensures { Served (reply values_of (orientation_call a b c))
         out.old out.new result }
 {
     let oriented = orientation_of(a, b, c);
@@ -83,7 +83,7 @@ fn write_orientation(a: Point, b: Point, c: Point, out: &mut [i64]) -> u32
 // The bytes of the map without points: number 10.
 #[unsafe(no_mangle)]
 pub extern "C" fn reach_empty(out: &mut [u8]) -> u32
-    ensures { Served (only (saved empty-map)) out.old out.new result }
+    ensures { Served (only (saved empty_map)) out.old out.new result }
 {
     let length = saved_length(VERSION, 0);
     if out.len() < length {
@@ -96,7 +96,7 @@ pub extern "C" fn reach_empty(out: &mut [u8]) -> u32
 // Whether a file loads: numbers 7 and 1.
 #[unsafe(no_mangle)]
 pub extern "C" fn reach_check(map: &[u8]) -> u32
-    ensures { result ≡ number_by (load-call map.now).rules }
+    ensures { result ≡ number_by (load_call map.now).rules }
 {
     let loaded = load(map);
     let outcome = loaded.outcome;
@@ -109,8 +109,8 @@ pub extern "C" fn reach_check(map: &[u8]) -> u32
 // The version 2 file of a file's map, and how long it is: numbers 7, 1 and 10.
 #[unsafe(no_mangle)]
 pub extern "C" fn reach_load(file: &[u8], out: &mut [u8], length: &mut [usize]) -> u32
-    ensures { ServedBoth (of-file file.now (λ m. unsound m ∷ []))
-        (saved (map-in file.now)) (length-told (saved (map-in file.now)))
+    ensures { ServedBoth (of_file file.now (λ m. unsound m ∷ []))
+        (saved (map_in file.now)) (length_told (saved (map_in file.now)))
         out.old out.new length.old length.new result }
 {
     let loaded = load(file);
@@ -152,7 +152,7 @@ fn write_offer(map: &[u8], p: Point, out: &mut [u8], arrival: &mut [u64]) -> u32
 // The last point of a map taken back: numbers 7, 1, 13 and 10.
 #[unsafe(no_mangle)]
 pub extern "C" fn reach_remove(map: &[u8], out: &mut [u8]) -> u32
-    ensures { Served (from-file removal-reply map.now)
+    ensures { Served (from_file removal_reply map.now)
         out.old out.new result }
 {
     let loaded = load(map);
@@ -166,7 +166,7 @@ pub extern "C" fn reach_remove(map: &[u8], out: &mut [u8]) -> u32
 // Writes the bytes of a sound map without its last point: numbers 13 and 10.
 fn write_removed(map: Map, out: &mut [u8]) -> u32
     requires { T (sound map) }
-    ensures { Served (sound-removal map) out.old out.new result }
+    ensures { Served (sound_removal map) out.old out.new result }
 {
     if map.count == 0 {
         return NO_POINT;
@@ -183,7 +183,7 @@ fn write_removed(map: Map, out: &mut [u8]) -> u32
 // The numbers of darts, vertices, edges, faces and connected parts: numbers 7, 1 and 10.
 #[unsafe(no_mangle)]
 pub extern "C" fn reach_counts(map: &[u8], out: &mut [u64]) -> u32
-    ensures { Served (from-file counts-reply map.now)
+    ensures { Served (from_file counts_reply map.now)
         out.old out.new result }
 {
     let loaded = load(map);
@@ -206,7 +206,7 @@ pub extern "C" fn reach_counts(map: &[u8], out: &mut [u64]) -> u32
 
 // The orbit of a dart: numbers 7, 1, 6 and 10.
 fn write_orbit(map: &[u8], kind: Kind, dart: usize, out: &mut [u64]) -> u32
-    ensures { Served (from-file (orbit-reply kind dart) map.now)
+    ensures { Served (from_file (orbit_reply kind dart) map.now)
         out.old out.new result }
 {
     let loaded = load_at(map, dart);
@@ -220,7 +220,7 @@ fn write_orbit(map: &[u8], kind: Kind, dart: usize, out: &mut [u64]) -> u32
 // The edge of a dart: numbers 7, 1, 6 and 10.
 #[unsafe(no_mangle)]
 pub extern "C" fn reach_edge_orbit(map: &[u8], dart: usize, out: &mut [u64]) -> u32
-    ensures { Served (from-file (orbit-reply Kind.Edge dart) map.now)
+    ensures { Served (from_file (orbit_reply Kind.Edge dart) map.now)
         out.old out.new result }
 {
     write_orbit(map, Kind::Edge, dart, out)
@@ -229,7 +229,7 @@ pub extern "C" fn reach_edge_orbit(map: &[u8], dart: usize, out: &mut [u64]) -> 
 // The vertex of a dart: numbers 7, 1, 6 and 10.
 #[unsafe(no_mangle)]
 pub extern "C" fn reach_vertex_orbit(map: &[u8], dart: usize, out: &mut [u64]) -> u32
-    ensures { Served (from-file (orbit-reply Kind.Vertex dart) map.now)
+    ensures { Served (from_file (orbit_reply Kind.Vertex dart) map.now)
         out.old out.new result }
 {
     write_orbit(map, Kind::Vertex, dart, out)
@@ -238,7 +238,7 @@ pub extern "C" fn reach_vertex_orbit(map: &[u8], dart: usize, out: &mut [u64]) -
 // The face of a dart: numbers 7, 1, 6 and 10.
 #[unsafe(no_mangle)]
 pub extern "C" fn reach_face_orbit(map: &[u8], dart: usize, out: &mut [u64]) -> u32
-    ensures { Served (from-file (orbit-reply Kind.Face dart) map.now)
+    ensures { Served (from_file (orbit_reply Kind.Face dart) map.now)
         out.old out.new result }
 {
     write_orbit(map, Kind::Face, dart, out)
@@ -247,7 +247,7 @@ pub extern "C" fn reach_face_orbit(map: &[u8], dart: usize, out: &mut [u64]) -> 
 // The connected part of a dart: numbers 7, 1, 6 and 10.
 #[unsafe(no_mangle)]
 pub extern "C" fn reach_part_orbit(map: &[u8], dart: usize, out: &mut [u64]) -> u32
-    ensures { Served (from-file (orbit-reply Kind.Part dart) map.now)
+    ensures { Served (from_file (orbit_reply Kind.Part dart) map.now)
         out.old out.new result }
 {
     write_orbit(map, Kind::Part, dart, out)
@@ -256,7 +256,7 @@ pub extern "C" fn reach_part_orbit(map: &[u8], dart: usize, out: &mut [u64]) -> 
 // The walk from a dart: numbers 7, 1, 6 and 10.
 #[unsafe(no_mangle)]
 pub extern "C" fn reach_walk(map: &[u8], dart: usize, out: &mut [u64]) -> u32
-    ensures { Served (from-file (walk-reply dart) map.now)
+    ensures { Served (from_file (walk_reply dart) map.now)
         out.old out.new result }
 {
     let loaded = load_at(map, dart);
@@ -272,7 +272,7 @@ pub extern "C" fn reach_walk(map: &[u8], dart: usize, out: &mut [u64]) -> u32
 
 // A walker started at a dart and moved: numbers 7, 1, 6 and 10.
 fn write_walker(map: &[u8], link: Link, dart: usize, out: &mut [u64]) -> u32
-    ensures { Served (from-file (walker-reply link dart) map.now)
+    ensures { Served (from_file (walker_reply link dart) map.now)
         out.old out.new result }
 {
     let loaded = load_at(map, dart);
@@ -290,7 +290,7 @@ fn write_walker(map: &[u8], link: Link, dart: usize, out: &mut [u64]) -> u32
 // A walker started at a dart: numbers 7, 1, 6 and 10.
 #[unsafe(no_mangle)]
 pub extern "C" fn reach_walker(map: &[u8], dart: usize, out: &mut [u64]) -> u32
-    ensures { Served (from-file (walker-reply Link.None dart) map.now)
+    ensures { Served (from_file (walker_reply Link.None dart) map.now)
         out.old out.new result }
 {
     write_walker(map, Link::None, dart, out)
@@ -299,7 +299,7 @@ pub extern "C" fn reach_walker(map: &[u8], dart: usize, out: &mut [u64]) -> u32
 // A walker started at a dart and moved by the edge link: numbers 7, 1, 6 and 10.
 #[unsafe(no_mangle)]
 pub extern "C" fn reach_walker_edge(map: &[u8], dart: usize, out: &mut [u64]) -> u32
-    ensures { Served (from-file (walker-reply Link.Edge dart) map.now)
+    ensures { Served (from_file (walker_reply Link.Edge dart) map.now)
         out.old out.new result }
 {
     write_walker(map, Link::Edge, dart, out)
@@ -308,7 +308,7 @@ pub extern "C" fn reach_walker_edge(map: &[u8], dart: usize, out: &mut [u64]) ->
 // A walker started at a dart and moved by the point link: numbers 7, 1, 6 and 10.
 #[unsafe(no_mangle)]
 pub extern "C" fn reach_walker_point(map: &[u8], dart: usize, out: &mut [u64]) -> u32
-    ensures { Served (from-file (walker-reply Link.Point dart) map.now)
+    ensures { Served (from_file (walker_reply Link.Point dart) map.now)
         out.old out.new result }
 {
     write_walker(map, Link::Point, dart, out)
@@ -317,7 +317,7 @@ pub extern "C" fn reach_walker_point(map: &[u8], dart: usize, out: &mut [u64]) -
 // Where a query point lies: numbers 7, 1, 3 and 10.
 #[unsafe(no_mangle)]
 pub extern "C" fn reach_place(map: &[u8], x: i64, y: i64, out: &mut [u64]) -> u32
-    ensures { Served (from-file (place-reply (at x y)) map.now)
+    ensures { Served (from_file (place_reply (at x y)) map.now)
         out.old out.new result }
 {
     write_placed(map, point(x, y), out)
@@ -325,7 +325,7 @@ pub extern "C" fn reach_place(map: &[u8], x: i64, y: i64, out: &mut [u64]) -> u3
 
 // Where a point lies in the map of a file.
 fn write_placed(map: &[u8], p: Point, out: &mut [u64]) -> u32
-    ensures { Served (from-file (place-reply p) map.now)
+    ensures { Served (from_file (place_reply p) map.now)
         out.old out.new result }
 {
     let loaded = load_near(map, p);
@@ -342,8 +342,8 @@ fn write_placed(map: &[u8], p: Point, out: &mut [u64]) -> u32
 // The corners in listing order, and how many they are: numbers 7, 1 and 10.
 #[unsafe(no_mangle)]
 pub extern "C" fn reach_corners(map: &[u8], out: &mut [usize], count: &mut [usize]) -> u32
-    ensures { ServedBoth (of-file map.now (λ m. unsound m ∷ []))
-        (corners (map-in map.now)) (length-told (corners (map-in map.now)))
+    ensures { ServedBoth (of_file map.now (λ m. unsound m ∷ []))
+        (corners (map_in map.now)) (length_told (corners (map_in map.now)))
         out.old out.new count.old count.new result }
 {
     let loaded = load(map);
@@ -357,7 +357,7 @@ pub extern "C" fn reach_corners(map: &[u8], out: &mut [usize], count: &mut [usiz
 // The point that a text line names, with its one line feed or without it: numbers 8 and 10.
 #[unsafe(no_mangle)]
 pub extern "C" fn reach_line(line: &[u8], out: &mut [i64]) -> u32
-    ensures { Served (reply values_of (line-call line.now))
+    ensures { Served (reply values_of (line_call line.now))
         out.old out.new result }
 {
     let read = read_line(line);
@@ -370,8 +370,8 @@ pub extern "C" fn reach_line(line: &[u8], out: &mut [i64]) -> u32
 // The report on a survey text, and how many bytes it has: numbers 9 and 10.
 #[unsafe(no_mangle)]
 pub extern "C" fn reach_report(text: &[u8], out: &mut [u8], count: &mut [usize]) -> u32
-    ensures { ServedBoth (report-rules text.now) (report text.now)
-        (length-told (report text.now)) out.old out.new
+    ensures { ServedBoth (report_rules text.now) (report text.now)
+        (length_told (report text.now)) out.old out.new
         count.old count.new result }
 {
     if count.len() < 1 {
@@ -390,9 +390,9 @@ pub extern "C" fn reach_report(text: &[u8], out: &mut [u8], count: &mut [usize])
 // The text of a map's outline, and how many bytes it has: numbers 7, 1 and 10.
 #[unsafe(no_mangle)]
 pub extern "C" fn reach_write_outline(map: &[u8], out: &mut [u8], count: &mut [usize]) -> u32
-    ensures { ServedBoth (of-file map.now (λ m. unsound m ∷ []))
-        (outline-text (corner-points (map-in map.now)))
-        (length-told (outline-text (corner-points (map-in map.now))))
+    ensures { ServedBoth (of_file map.now (λ m. unsound m ∷ []))
+        (outline_text (corner_points (map_in map.now)))
+        (length_told (outline_text (corner_points (map_in map.now))))
         out.old out.new count.old count.new result }
 {
     let loaded = load(map);
@@ -406,8 +406,8 @@ pub extern "C" fn reach_write_outline(map: &[u8], out: &mut [u8], count: &mut [u
 // Writes the text of a sound map's outline, and how many bytes it has: number 10.
 fn write_outline_text(map: Map, out: &mut [u8], count: &mut [usize]) -> u32
     requires { Shaped map }
-    ensures { ServedBoth [] (outline-text (corner-points map))
-        (length (outline-text (corner-points map)) ∷ [])
+    ensures { ServedBoth [] (outline_text (corner_points map))
+        (length (outline_text (corner_points map)) ∷ [])
         out.old out.new count.old count.new result }
 {
     let list = corners_of(map);
@@ -428,9 +428,9 @@ fn write_outline_text(map: Map, out: &mut [u8], count: &mut [usize]) -> u32
 // numbers 9, 11, 3, 12 and 10.
 #[unsafe(no_mangle)]
 pub extern "C" fn reach_read_outline(text: &[u8], out: &mut [i64], count: &mut [usize]) -> u32
-    ensures { ServedBoth (outline-rules text.now)
-        (coordinates (corners-spelt text.now))
-        (length-told (coordinates (corners-spelt text.now)))
+    ensures { ServedBoth (outline_rules text.now)
+        (coordinates (corners_spelt text.now))
+        (length_told (coordinates (corners_spelt text.now)))
         out.old out.new count.old count.new result }
 {
     let written = read_outline(text, out, 1 <= count.len());
@@ -446,7 +446,7 @@ pub extern "C" fn reach_read_outline(text: &[u8], out: &mut [i64], count: &mut [
 // Twice the area of the outline, from the corner at a place of the listing: numbers 7, 1, 6 and 10.
 #[unsafe(no_mangle)]
 pub extern "C" fn reach_area(map: &[u8], place: usize, out: &mut [i64]) -> u32
-    ensures { Served (from-file (area-reply place) map.now)
+    ensures { Served (from_file (area_reply place) map.now)
         out.old out.new result }
 {
     let loaded = load(map);
@@ -460,7 +460,7 @@ pub extern "C" fn reach_area(map: &[u8], place: usize, out: &mut [i64]) -> u32
 // Writes twice the area of a sound map's outline: numbers 6 and 10.
 fn write_area(map: Map, place: usize, out: &mut [i64]) -> u32
     requires { Shaped map }
-    ensures { Served (reply values_of (sound-area-call map place))
+    ensures { Served (reply values_of (sound_area_call map place))
         out.old out.new result }
 {
     let doubled = area_of(map, place);
@@ -475,7 +475,7 @@ fn write_area(map: Map, place: usize, out: &mut [i64]) -> u32
 // and 10.
 #[unsafe(no_mangle)]
 pub extern "C" fn reach_mark(points: &[i64], claim: &[usize], out: &mut [u64]) -> u32
-    ensures { Served (mark-reply (points-of points.now) claim.now)
+    ensures { Served (mark_reply (points_of points.now) claim.now)
         out.old out.new result }
 {
     let marked = mark(points, claim);

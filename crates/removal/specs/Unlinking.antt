@@ -2,51 +2,51 @@
 -- the order of this page: the reference before it; the edge links before it; the map. That this is the map
 -- before the last point is proofs/Undone.
 use Rattle.std.specs.Prelude.{◌≡◌, ◌≢◌, Bool, cond, ◌||◌, List, ℕ, zero, suc, ◌<◌, eqb, pos, length, get_or, set}
-use Rattle.orbits.specs.Sets.{dart-limit}
-use Rattle.orbits.specs.Links.{link-of}
+use Rattle.orbits.specs.Sets.{dart_limit}
+use Rattle.orbits.specs.Links.{link_of}
 use Rattle.model.specs.declared.Map.{Map}
-use Rattle.model.specs.Maps.{point-limit, no-dart, own, helper}
-use Rattle.model.specs.Arrival.{second-kind, outside-kind, cut, join}
+use Rattle.model.specs.Maps.{point_limit, no_dart, own, helper}
+use Rattle.model.specs.Arrival.{second_kind, outside_kind, cut, join}
 use Rattle.model.specs.Removal.{last}
 
 -- an arrival that moves the reference to its own dart
-abbrev pub is-corner : ℕ → Bool
-is-corner kind = eqb kind second-kind || eqb kind outside-kind
+abbrev pub is_corner : ℕ → Bool
+is_corner kind = eqb kind second_kind || eqb kind outside_kind
 
 -- the own dart of the last of the first k points that arrived so
 unfoldable pub latest : List ℕ → ℕ → ℕ
-latest arrivals zero = no-dart
-latest arrivals (suc k) = cond (is-corner (get_or arrivals k 0)) (own k) (latest arrivals k)
+latest arrivals zero = no_dart
+latest arrivals (suc k) = cond (is_corner (get_or arrivals k 0)) (own k) (latest arrivals k)
 
 -- the edge links before point k came between two corners and freed these darts: its own two are fixed, and
 -- the partners that they had are joined with the freed darts again, or, where it freed none, with each
 -- other
 unfoldable pub unspliced : ℕ → ℕ → ℕ → List ℕ → List ℕ
 unspliced k left right edge =
-    let l = link-of edge (helper k) in
-    let r = link-of edge (own k) in
+    let l = link_of edge (helper k) in
+    let r = link_of edge (own k) in
     let parted = cut r (cut l edge) in
-    cond (eqb left no-dart) (join l r parted) (join r right (join l left parted))
+    cond (eqb left no_dart) (join l r parted) (join r right (join l left parted))
 
 -- the map without its last point, with these helpers, edge links and reference
-unfoldable pub without-last : Map → List Bool → List ℕ → ℕ → Map
-without-last m helpers edge reference =
+unfoldable pub without_last : Map → List Bool → List ℕ → ℕ → Map
+without_last m helpers edge reference =
     record {
       xs = set m.xs (last m) (pos 0);
       ys = set m.ys (last m) (pos 0);
       helpers = helpers;
       edge = edge;
       arrivals = set m.arrivals (last m) 0;
-      lefts = set m.lefts (last m) no-dart;
-      rights = set m.rights (last m) no-dart;
+      lefts = set m.lefts (last m) no_dart;
+      rights = set m.rights (last m) no_dart;
       count = last m;
       reference = reference;
     }
 
 -- edge links that lead to darts, and the darts that point k freed, or none
 pub record Unspliceable (edge : List ℕ) (k left right : ℕ) : Type 0 where
-  pub room : k < point-limit
-  pub whole : length edge ≡ dart-limit
-  pub links-below : (d : ℕ) → d < dart-limit → link-of edge d < dart-limit
-  pub left_below : left ≢ no-dart → left < dart-limit
-  pub right-below : left ≢ no-dart → right < dart-limit
+  pub room : k < point_limit
+  pub whole : length edge ≡ dart_limit
+  pub links_below : (d : ℕ) → d < dart_limit → link_of edge d < dart_limit
+  pub left_below : left ≢ no_dart → left < dart_limit
+  pub right_below : left ≢ no_dart → right < dart_limit

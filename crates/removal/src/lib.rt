@@ -1,7 +1,7 @@
 // The last point of a map taken back: what is noted of it says how its darts are unlinked.
 
 ghost use Rattle.std.specs.Prelude.{◌≡◌, false, ◌≤◌, ◌<◌, T, length, set};
-ghost use Rattle.model.specs.Maps.{point-limit};
+ghost use Rattle.model.specs.Maps.{point_limit};
 ghost use Rattle.model.specs.Sound.{sound};
 ghost use Rattle.model.specs.Removal.{before_last};
 ghost use Rattle.removal.specs.Unlinking.{Unspliceable, latest, unspliced};
@@ -110,7 +110,7 @@ fn unsplice(
 
 // The reference that the first k points leave.
 fn latest(arrivals: &[u8], k: usize) -> usize
-    requires { (k ≤ length arrivals.now) × (k ≤ point-limit) }
+    requires { (k ≤ length arrivals.now) × (k ≤ point_limit) }
     ensures { result ≡ latest arrivals.now k }
 {
     let mut j = k;

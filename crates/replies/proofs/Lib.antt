@@ -4,7 +4,7 @@
 --     OpenedFiles    the map of a file after its checks
 --     Arrived        a point offered to a sound map
 --     Reported       a result and its length, in two lists
---     Chains         demand 3 at the boundary: `calls-run`
+--     Chains         demand 3 at the boundary: `calls_run`
 pub mod Told
 pub mod Serving
 pub mod OpenedFiles

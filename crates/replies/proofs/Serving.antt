@@ -13,57 +13,57 @@ use lib.IntN.{ℤ}
 use lib.ListN.{length}
 use lib.Seq.{sets}
 use borrow.Author.Tests.{lt-ltb, le-ltb}
-use Rattle.finite.specs.Overwriting.{over, over-front, over-stores}
+use Rattle.finite.specs.Overwriting.{over, over_front, over_stores}
 use Rattle.model.specs.declared.Refusal.{Refusal}
 use Rattle.model.specs.declared.Outcome.{Outcome}
 use Rattle.model.specs.declared.Point.{Point}
 use Rattle.model.specs.Plane.{at}
 use Rattle.model.specs.Refusals.{number, Rule, ◌when◌, unless}
-use Rattle.model.specs.Answers.{Answer, Call, answer-of, outcome-by}
-use Rattle.model.specs.Lent.{is-short}
-use Rattle.model.proofs.Answers.{outcome-refuses, outcome-serves, unless-made, unless-append}
+use Rattle.model.specs.Answers.{Answer, Call, answer_of, outcome_by}
+use Rattle.model.specs.Lent.{is_short}
+use Rattle.model.proofs.Answers.{outcome_refuses, outcome_serves, unless_made, unless_append}
 use Rattle.replies.specs.Served.{Reply, only, Served, ServedBoth}
-use Rattle.replies.specs.Replies.{meaning-of, reply}
+use Rattle.replies.specs.Replies.{meaning_of, reply}
 
 -- ---- rules in two parts
 
 -- the first part is checked before, and number 10 comes after both
 module _ {A : Type 0} (f : Refusal → A) (rules more last : List Rule) (a : A) where
-  three-parts : unless f rules (unless f (more ++ last) a) ≡ unless f ((rules ++ more) ++ last) a
-  three-parts =
-      sym (unless-append f rules (more ++ last) a)
+  three_parts : unless f rules (unless f (more ++ last) a) ≡ unless f ((rules ++ more) ++ last) a
+  three_parts =
+      sym (unless_append f rules (more ++ last) a)
       ∙ ap (λ (rs : List Rule). unless f rs a) (sym (append_assoc rules more last))
 
-  pub first-refuses : (r : Refusal) → Outcome.Refused r ≡ outcome-by rules →
+  pub first_refuses : (r : Refusal) → Outcome.Refused r ≡ outcome_by rules →
       f r ≡ unless f ((rules ++ more) ++ last) a
-  first-refuses r e = outcome-refuses f (unless f (more ++ last) a) rules r e ∙ three-parts
+  first_refuses r e = outcome_refuses f (unless f (more ++ last) a) rules r e ∙ three_parts
 
-  pub first-serves : {x : A} → Outcome.Served ≡ outcome-by rules → x ≡ unless f (more ++ last) a →
+  pub first_serves : {x : A} → Outcome.Served ≡ outcome_by rules → x ≡ unless f (more ++ last) a →
       x ≡ unless f ((rules ++ more) ++ last) a
-  first-serves e is = is ∙ outcome-serves f (unless f (more ++ last) a) rules e ∙ three-parts
+  first_serves e is = is ∙ outcome_serves f (unless f (more ++ last) a) rules e ∙ three_parts
 
 -- ---- one list
 
 module _ {A : Type 0} (values before : List A) where
   -- too short: nothing is written
-  pub short-list : length before < length values → Served (only values) before before 10
+  pub short_list : length before < length values → Served (only values) before before 10
   unfolding unless number
-  short-list l =
+  short_list l =
       let e = lt-ltb (length before) (length values) l in record { code = rw e; list = rw e }
 
   -- with room: the values, and what stood past them
-  pub with-room : {after : List A} → length values ≤ length before →
+  pub with_room : {after : List A} → length values ≤ length before →
       after ≡ over values before → Served (only values) before after 0
   unfolding unless number
-  with-room l w =
+  with_room l w =
       let e = le-ltb (length before) (length values) l in record { code = rw e; list = rw e w }
 
 -- values that were stored one by one
 pub stored : {A : Type 0} (values before : List A) → length values ≤ length before →
     Served (only values) before (sets before 0 values) 0
 stored values before l =
-    with-room values before l
-    (sym (over-stores before 0 values (omega arith)) ∙ over-front before values)
+    with_room values before l
+    (sym (over_stores before 0 values (omega arith)) ∙ over_front before values)
 
 -- rules that were checked before, in a list of their own
 module _ {A : Type 0} (rules : List Rule) (q : Reply A) (before : List A) where
@@ -71,45 +71,45 @@ module _ {A : Type 0} (rules : List Rule) (q : Reply A) (before : List A) where
   both = record { rules = rules ++ q.rules; values = q.values }
 
   abbrev last : List Rule
-  last = (Refusal.ShortList when is-short q.values before) ∷ []
+  last = (Refusal.ShortList when is_short q.values before) ∷ []
 
-  pub refused-before : {k : ℕ} (r : Refusal) → Outcome.Refused r ≡ outcome-by rules → k ≡ number r →
+  pub refused_before : {k : ℕ} (r : Refusal) → Outcome.Refused r ≡ outcome_by rules → k ≡ number r →
       Served both before before k
-  refused-before r e n =
+  refused_before r e n =
       record {
-        code = n ∙ first-refuses number rules q.rules last 0 r e;
-        list = first-refuses (λ x. before) rules q.rules last (over q.values before) r e;
+        code = n ∙ first_refuses number rules q.rules last 0 r e;
+        list = first_refuses (λ x. before) rules q.rules last (over q.values before) r e;
       }
 
-  pub served-after : {after : List A} {k : ℕ} → Outcome.Served ≡ outcome-by rules →
+  pub served_after : {after : List A} {k : ℕ} → Outcome.Served ≡ outcome_by rules →
       Served q before after k → Served both before after k
-  served-after e s =
+  served_after e s =
       record {
-        code = first-serves number rules q.rules last 0 e s.code;
+        code = first_serves number rules q.rules last 0 e s.code;
         list =
-            first-serves (λ x. before) rules q.rules last (over q.values before) e s.list;
+            first_serves (λ x. before) rules q.rules last (over q.values before) e s.list;
       }
 
 -- the same values by another name
-pub served-as : {A : Type 0} {u v before after : List A} {k : ℕ} → u ≡ v →
+pub served_as : {A : Type 0} {u v before after : List A} {k : ℕ} → u ≡ v →
     Served (only u) before after k →
     Served (only v) before after k
-served-as {A} {u} {v} {before} {after} {k} e s =
+served_as {A} {u} {v} {before} {after} {k} e s =
     subst (λ (w : List A). Served (only w) before after k) e s
 
 -- what a list with room has been left as
-pub room-serves : {A : Type 0} {values before after : List A} {k : ℕ} →
+pub room_serves : {A : Type 0} {values before after : List A} {k : ℕ} →
     length values ≤ length before →
     Served (only values) before after k → (k ≡ 0) × (after ≡ over values before)
 unfolding unless number
-room-serves {A} {values} {before} l s =
+room_serves {A} {values} {before} l s =
     let e = le-ltb (length before) (length values) l in (rw e at s.code, rw e at s.list)
 
 -- ---- two lists
 
 module _ {A B : Type 0} (u : List A) (v : List B) (before : List A) (before' : List B) where
   abbrev either : Bool
-  either = is-short u before || is-short v before'
+  either = is_short u before || is_short v before'
 
   unwritten : either ≡ true → ServedBoth [] u v before before before' before' 10
   unfolding unless number
@@ -120,49 +120,49 @@ module _ {A B : Type 0} (u : List A) (v : List B) (before : List A) (before' : L
 
   pub second_short : length before' < length v → ServedBoth [] u v before before before' before' 10
   second_short l = unwritten
-      (rw (lt-ltb (length before') (length v) l) (or-true (is-short u before)))
+      (rw (lt-ltb (length before') (length v) l) (or-true (is_short u before)))
 
-  pub both-room : {after : List A} {after' : List B} {k : ℕ} → k ≡ 0 → length u ≤ length before →
+  pub both_room : {after : List A} {after' : List B} {k : ℕ} → k ≡ 0 → length u ≤ length before →
       length v ≤ length before' →
       after ≡ over u before → after' ≡ over v before' →
       ServedBoth [] u v before after before' after' k
   unfolding unless number
-  both-room n l l' w w' =
+  both_room n l l' w w' =
       let e : either ≡ false = rw
       (le-ltb (length before) (length u) l, le-ltb (length before') (length v) l') in
       record { code = rw e n; list = rw e w; list' = rw e w' }
 
 module _ {A B : Type 0} (rules more : List Rule) (u : List A) (v : List B) (before : List A)
     (before' : List B) where
-  abbrev last-both : List Rule
-  last-both = (Refusal.ShortList when (is-short u before || is-short v before')) ∷ []
+  abbrev last_both : List Rule
+  last_both = (Refusal.ShortList when (is_short u before || is_short v before')) ∷ []
 
-  pub both-refused-before : {k : ℕ} (r : Refusal) → Outcome.Refused r ≡ outcome-by rules →
+  pub both_refused_before : {k : ℕ} (r : Refusal) → Outcome.Refused r ≡ outcome_by rules →
       k ≡ number r →
       ServedBoth (rules ++ more) u v before before before' before' k
-  both-refused-before r e n =
+  both_refused_before r e n =
       record {
-        code = n ∙ first-refuses number rules more last-both 0 r e;
-        list = first-refuses (λ x. before) rules more last-both (over u before) r e;
-        list' = first-refuses (λ x. before') rules more last-both (over v before') r e;
+        code = n ∙ first_refuses number rules more last_both 0 r e;
+        list = first_refuses (λ x. before) rules more last_both (over u before) r e;
+        list' = first_refuses (λ x. before') rules more last_both (over v before') r e;
       }
 
-  pub both-served-after : {after : List A} {after' : List B} {k : ℕ} →
-      Outcome.Served ≡ outcome-by rules →
+  pub both_served_after : {after : List A} {after' : List B} {k : ℕ} →
+      Outcome.Served ≡ outcome_by rules →
       ServedBoth more u v before after before' after' k → ServedBoth
       (rules ++ more) u v before after before' after' k
-  both-served-after e s =
+  both_served_after e s =
       record {
-        code = first-serves number rules more last-both 0 e s.code;
-        list = first-serves (λ x. before) rules more last-both (over u before) e s.list;
-        list' = first-serves (λ x. before') rules more last-both (over v before') e s.list';
+        code = first_serves number rules more last_both 0 e s.code;
+        list = first_serves (λ x. before) rules more last_both (over u before) e s.list;
+        list' = first_serves (λ x. before') rules more last_both (over v before') e s.list';
       }
 
 -- ---- equal arguments
 
-pub served-at : {A C : Type 0} (q : C → Reply A) {x y : C} {before after : List A} {k : ℕ} → x ≡ y →
+pub served_at : {A C : Type 0} (q : C → Reply A) {x y : C} {before after : List A} {k : ℕ} → x ≡ y →
     Served (q x) before after k → Served (q y) before after k
-served-at {A} {C} q {x} {y} {before} {after} {k} e s = subst
+served_at {A} {C} q {x} {y} {before} {after} {k} e s = subst
     (λ (z : C). Served (q z) before after k) e s
 
 pub both_at : {A B C : Type 0} (rules : C → List Rule) (u : C → List A) (v : C → List B) {x y : C}
@@ -173,44 +173,44 @@ both_at {A} {B} {C} rules u v {x} {y} {before} {after} {before'} {after'} {k} e 
     subst (λ (z : C). ServedBoth (rules z) (u z) (v z) before after before' after' k) e s
 
 -- the point that was made of two coordinates
-pub point-made : {p : Point} (x y : ℤ) → SFits w64 x → SFits w64 y →
+pub point_made : {p : Point} (x y : ℤ) → SFits w64 x → SFits w64 y →
     p ≡ at (to_z w64 (of_z w64 x)) (to_z w64 (of_z w64 y)) → p ≡ at x y
-point-made x y f g e = e ∙ ap₂ at (to_z-of_z w64 x f) (to_z-of_z w64 y g)
+point_made x y f g e = e ∙ ap₂ at (to_z-of_z w64 x f) (to_z-of_z w64 y g)
 
 -- ---- an answer that is an enum
 
 -- what the rules come to, by the outcome that an answer stands for
-pub answer-outcome : {A : Type 0} (f : A → Outcome) (refuse : Refusal → A) →
+pub answer_outcome : {A : Type 0} (f : A → Outcome) (refuse : Refusal → A) →
     ((r : Refusal) → f (refuse r) ≡ Outcome.Refused r) →
     (rules : List Rule) (a : A) → f a ≡ Outcome.Served → f
-    (unless refuse rules a) ≡ outcome-by rules
-answer-outcome f refuse same rules a e =
-    unless-made f refuse Outcome.Refused same rules a ∙ ap (unless Outcome.Refused rules) e
+    (unless refuse rules a) ≡ outcome_by rules
+answer_outcome f refuse same rules a e =
+    unless_made f refuse Outcome.Refused same rules a ∙ ap (unless Outcome.Refused rules) e
 
 -- what is written of the answer a of a call
 module _ {A B : Type 0} (tell : Answer → List B) (c : Call A) (f : A → Outcome)
     (same : (r : Refusal) → f (c.refuse r) ≡ Outcome.Refused r)
     (serves : f c.value ≡ Outcome.Served)
-    (before : List B) {a : A} (is : a ≡ answer-of c) where
-  found : f a ≡ outcome-by c.rules
-  found = ap f is ∙ answer-outcome f c.refuse same c.rules c.value serves
+    (before : List B) {a : A} (is : a ≡ answer_of c) where
+  found : f a ≡ outcome_by c.rules
+  found = ap f is ∙ answer_outcome f c.refuse same c.rules c.value serves
 
   no_more : {after : List B} {k : ℕ} →
-      Served (both c.rules (only (tell (meaning-of c))) before) before after k → Served (reply tell c) before after k
+      Served (both c.rules (only (tell (meaning_of c))) before) before after k → Served (reply tell c) before after k
   no_more {after} {k} s =
-      subst (λ (rules : List Rule). Served (record { rules = rules; values = tell (meaning-of c) }) before after k)
+      subst (λ (rules : List Rule). Served (record { rules = rules; values = tell (meaning_of c) }) before after k)
       (append-nil c.rules) s
 
-  pub answer-refused : {k : ℕ} {r : Refusal} → f a ≡ Outcome.Refused r → k ≡ number r → Served (reply tell c) before before k
-  answer-refused e n =
-      no_more (refused-before c.rules (only (tell (meaning-of c))) before _ (sym e ∙ found) n)
+  pub answer_refused : {k : ℕ} {r : Refusal} → f a ≡ Outcome.Refused r → k ≡ number r → Served (reply tell c) before before k
+  answer_refused e n =
+      no_more (refused_before c.rules (only (tell (meaning_of c))) before _ (sym e ∙ found) n)
 
-  pub answer-written : {after : List B} {k : ℕ} → f a ≡ Outcome.Served →
+  pub answer_written : {after : List B} {k : ℕ} → f a ≡ Outcome.Served →
       Served (only (tell (c.meaning a))) before after k → Served (reply tell c) before after k
-  answer-written e w =
+  answer_written e w =
       let served = sym e ∙ found in
       no_more
-      (served-after c.rules (only (tell (meaning-of c))) before served
-      (served-as
+      (served_after c.rules (only (tell (meaning_of c))) before served
+      (served_as
       (ap (λ (x : A). tell (c.meaning x))
-      (is ∙ sym (outcome-serves c.refuse c.value c.rules served))) w))
+      (is ∙ sym (outcome_serves c.refuse c.value c.rules served))) w))

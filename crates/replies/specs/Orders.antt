@@ -9,102 +9,102 @@ use Rattle.model.specs.declared.Kind.{Kind}
 use Rattle.model.specs.declared.Link.{Link}
 use Rattle.model.specs.Refusals.{number, Rule}
 use Rattle.model.specs.Orders.{numbers_of}
-use Rattle.model.specs.Plane.{orientation-call}
-use Rattle.model.specs.Maps.{empty-map}
+use Rattle.model.specs.Plane.{orientation_call}
+use Rattle.model.specs.Maps.{empty_map}
 use Rattle.model.specs.Reading.{unsound}
-use Rattle.model.specs.Offers.{offer-call}
-use Rattle.model.specs.Saved.{load-call, saved}
-use Rattle.model.specs.Text.{line-call}
-use Rattle.model.specs.Report.{report-rules}
-use Rattle.model.specs.Outlines.{outline-rules}
-use Rattle.model.specs.Building.{building-rules}
-use Rattle.model.specs.Lent.{and-short}
+use Rattle.model.specs.Offers.{offer_call}
+use Rattle.model.specs.Saved.{load_call, saved}
+use Rattle.model.specs.Text.{line_call}
+use Rattle.model.specs.Report.{report_rules}
+use Rattle.model.specs.Outlines.{outline_rules}
+use Rattle.model.specs.Building.{building_rules}
+use Rattle.model.specs.Lent.{and_short}
 use Rattle.replies.specs.Served.{Reply, only}
-use Rattle.replies.specs.Opened.{of-file}
-use Rattle.replies.specs.Replies.{values_of, reply, from-file, counts-reply, orbit-reply}
-use Rattle.replies.specs.Replies.{walk-reply, walker-reply, place-reply, area-reply, mark-reply, removal-reply}
+use Rattle.replies.specs.Opened.{of_file}
+use Rattle.replies.specs.Replies.{values_of, reply, from_file, counts_reply, orbit_reply}
+use Rattle.replies.specs.Replies.{walk_reply, walker_reply, place_reply, area_reply, mark_reply, removal_reply}
 
 -- the numbers of rules with number 10 after them, whether a lent list is short or not
 module _ (short : Bool) where
-  abbrev with-10 : List Rule → List ℕ
-  with-10 rules = numbers_of (and-short rules short)
+  abbrev with_10 : List Rule → List ℕ
+  with_10 rules = numbers_of (and_short rules short)
 
   abbrev replied : {A : Type 0} → Reply A → List ℕ
-  replied q = with-10 q.rules
+  replied q = with_10 q.rules
 
   module _ (s : List ℕ) (p q r : Point) (kind : Kind) (link : Link) (d : ℕ) where
-    pub reach-orientation-order : replied (reply values_of (orientation-call p q r)) ≡ 3 ∷ 10 ∷ []
+    pub reach_orientation_order : replied (reply values_of (orientation_call p q r)) ≡ 3 ∷ 10 ∷ []
     unfolding number
-    reach-orientation-order = refl
+    reach_orientation_order = refl
 
-    pub reach-empty-order : replied (only (saved empty-map)) ≡ 10 ∷ []
+    pub reach_empty_order : replied (only (saved empty_map)) ≡ 10 ∷ []
     unfolding number
-    reach-empty-order = refl
+    reach_empty_order = refl
 
-    pub reach-check-order : numbers_of (load-call s).rules ≡ 7 ∷ 1 ∷ []
+    pub reach_check_order : numbers_of (load_call s).rules ≡ 7 ∷ 1 ∷ []
     unfolding number
-    reach-check-order = refl
+    reach_check_order = refl
 
-    pub reach-load-order : with-10 (of-file s (λ m. unsound m ∷ [])) ≡ 7 ∷ 1 ∷ 10 ∷ []
+    pub reach_load_order : with_10 (of_file s (λ m. unsound m ∷ [])) ≡ 7 ∷ 1 ∷ 10 ∷ []
     unfolding number
-    reach-load-order = refl
+    reach_load_order = refl
 
-    pub reach-offer-order :
-        with-10 (of-file s (λ m. (offer-call m p).rules)) ≡ 7 ∷ 1 ∷ 2 ∷ 3 ∷ 4 ∷ 10 ∷ []
+    pub reach_offer_order :
+        with_10 (of_file s (λ m. (offer_call m p).rules)) ≡ 7 ∷ 1 ∷ 2 ∷ 3 ∷ 4 ∷ 10 ∷ []
     unfolding number
-    reach-offer-order = refl
+    reach_offer_order = refl
 
-    pub reach-remove-order : replied (from-file removal-reply s) ≡ 7 ∷ 1 ∷ 13 ∷ 10 ∷ []
+    pub reach_remove_order : replied (from_file removal_reply s) ≡ 7 ∷ 1 ∷ 13 ∷ 10 ∷ []
     unfolding number
-    reach-remove-order = refl
+    reach_remove_order = refl
 
-    pub reach-counts-order : replied (from-file counts-reply s) ≡ 7 ∷ 1 ∷ 10 ∷ []
+    pub reach_counts_order : replied (from_file counts_reply s) ≡ 7 ∷ 1 ∷ 10 ∷ []
     unfolding number
-    reach-counts-order = refl
+    reach_counts_order = refl
 
     -- of every kind
-    pub reach-orbit-order : replied (from-file (orbit-reply kind d) s) ≡ 7 ∷ 1 ∷ 6 ∷ 10 ∷ []
+    pub reach_orbit_order : replied (from_file (orbit_reply kind d) s) ≡ 7 ∷ 1 ∷ 6 ∷ 10 ∷ []
     unfolding number
-    reach-orbit-order = refl
+    reach_orbit_order = refl
 
-    pub reach-walk-order : replied (from-file (walk-reply d) s) ≡ 7 ∷ 1 ∷ 6 ∷ 10 ∷ []
+    pub reach_walk_order : replied (from_file (walk_reply d) s) ≡ 7 ∷ 1 ∷ 6 ∷ 10 ∷ []
     unfolding number
-    reach-walk-order = refl
+    reach_walk_order = refl
 
     -- moved by either link, or by none
-    pub reach-walker-order : replied (from-file (walker-reply link d) s) ≡ 7 ∷ 1 ∷ 6 ∷ 10 ∷ []
+    pub reach_walker_order : replied (from_file (walker_reply link d) s) ≡ 7 ∷ 1 ∷ 6 ∷ 10 ∷ []
     unfolding number
-    reach-walker-order = refl
+    reach_walker_order = refl
 
-    pub reach-place-order : replied (from-file (place-reply p) s) ≡ 7 ∷ 1 ∷ 3 ∷ 10 ∷ []
+    pub reach_place_order : replied (from_file (place_reply p) s) ≡ 7 ∷ 1 ∷ 3 ∷ 10 ∷ []
     unfolding number
-    reach-place-order = refl
+    reach_place_order = refl
 
-    pub reach-corners-order : with-10 (of-file s (λ m. unsound m ∷ [])) ≡ 7 ∷ 1 ∷ 10 ∷ []
+    pub reach_corners_order : with_10 (of_file s (λ m. unsound m ∷ [])) ≡ 7 ∷ 1 ∷ 10 ∷ []
     unfolding number
-    reach-corners-order = refl
+    reach_corners_order = refl
 
-    pub reach-line-order : replied (reply values_of (line-call s)) ≡ 8 ∷ 10 ∷ []
+    pub reach_line_order : replied (reply values_of (line_call s)) ≡ 8 ∷ 10 ∷ []
     unfolding number
-    reach-line-order = refl
+    reach_line_order = refl
 
-    pub reach-report-order : with-10 (report-rules s) ≡ 9 ∷ 10 ∷ []
+    pub reach_report_order : with_10 (report_rules s) ≡ 9 ∷ 10 ∷ []
     unfolding number
-    reach-report-order = refl
+    reach_report_order = refl
 
-    pub reach-write-outline-order : with-10 (of-file s (λ m. unsound m ∷ [])) ≡ 7 ∷ 1 ∷ 10 ∷ []
+    pub reach_write_outline_order : with_10 (of_file s (λ m. unsound m ∷ [])) ≡ 7 ∷ 1 ∷ 10 ∷ []
     unfolding number
-    reach-write-outline-order = refl
+    reach_write_outline_order = refl
 
-    pub reach-read-outline-order : with-10 (outline-rules s) ≡ 9 ∷ 11 ∷ 3 ∷ 12 ∷ 10 ∷ []
+    pub reach_read_outline_order : with_10 (outline_rules s) ≡ 9 ∷ 11 ∷ 3 ∷ 12 ∷ 10 ∷ []
     unfolding number
-    reach-read-outline-order = refl
+    reach_read_outline_order = refl
 
-    pub reach-area-order : replied (from-file (area-reply d) s) ≡ 7 ∷ 1 ∷ 6 ∷ 10 ∷ []
+    pub reach_area_order : replied (from_file (area_reply d) s) ≡ 7 ∷ 1 ∷ 6 ∷ 10 ∷ []
     unfolding number
-    reach-area-order = refl
+    reach_area_order = refl
 
     -- of two points
-    pub reach-mark-order : replied (mark-reply (p ∷ q ∷ []) s) ≡ 2 ∷ 3 ∷ 4 ∷ 2 ∷ 3 ∷ 4 ∷ 10 ∷ []
-    unfolding number building-rules
-    reach-mark-order = refl
+    pub reach_mark_order : replied (mark_reply (p ∷ q ∷ []) s) ≡ 2 ∷ 3 ∷ 4 ∷ 2 ∷ 3 ∷ 4 ∷ 10 ∷ []
+    unfolding number building_rules
+    reach_mark_order = refl

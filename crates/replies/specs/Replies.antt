@@ -11,16 +11,16 @@ use Rattle.model.specs.declared.Kind.{Kind}
 use Rattle.model.specs.declared.Link.{Link}
 use Rattle.model.specs.declared.Offered.{Offered}
 use Rattle.model.specs.declared.Written.{Written}
-use Rattle.model.specs.Answers.{Answer, Call, written-answer}
-use Rattle.model.specs.Reading.{counts-call, orbit-call, walk_call, walker-call}
-use Rattle.model.specs.Placing.{place-call}
-use Rattle.model.specs.Offers.{offer-call}
-use Rattle.model.specs.Removal.{before_last, no-point, remove-call}
-use Rattle.model.specs.Area.{area-call}
-use Rattle.model.specs.Marking.{mark-call}
-use Rattle.model.specs.Saved.{map-in, saved}
+use Rattle.model.specs.Answers.{Answer, Call, written_answer}
+use Rattle.model.specs.Reading.{counts_call, orbit_call, walk_call, walker_call}
+use Rattle.model.specs.Placing.{place_call}
+use Rattle.model.specs.Offers.{offer_call}
+use Rattle.model.specs.Removal.{before_last, no_point, remove_call}
+use Rattle.model.specs.Area.{area_call}
+use Rattle.model.specs.Marking.{mark_call}
+use Rattle.model.specs.Saved.{map_in, saved}
 use Rattle.replies.specs.Served.{Reply, ServedBoth}
-use Rattle.replies.specs.Opened.{of-file}
+use Rattle.replies.specs.Opened.{of_file}
 
 -- the values of an answer: as they stand, and where none is negative
 abbrev pub values_of : Answer → List ℤ
@@ -47,80 +47,80 @@ told words k n a =
 abbrev pub endings : List String
 endings = "home" ∷ "loose" ∷ "refused" ∷ []
 
-abbrev pub walk-told : Answer → List ℕ
-walk-told = told endings 1 2
+abbrev pub walk_told : Answer → List ℕ
+walk_told = told endings 1 2
 
 abbrev pub places : List String
 places = "none" ∷ "corner" ∷ "edge" ∷ "inside" ∷ "outside" ∷ "refused" ∷ []
 
-abbrev pub place-told : Answer → List ℕ
-place-told = told places 0 2
+abbrev pub place_told : Answer → List ℕ
+place_told = told places 0 2
 
 abbrev pub arrivals : List String
 arrivals = "first" ∷ "second" ∷ "inside" ∷ "outside" ∷ "refused" ∷ []
 
-abbrev pub arrival-told : Answer → List ℕ
-arrival-told = told arrivals 0 3
+abbrev pub arrival_told : Answer → List ℕ
+arrival_told = told arrivals 0 3
 
 abbrev pub marks : List String
 marks = "wrong" ∷ "right" ∷ "refused" ∷ []
 
-abbrev pub mark-told : Answer → List ℕ
-mark-told = told marks 0 0
+abbrev pub mark_told : Answer → List ℕ
+mark_told = told marks 0 0
 
 -- ---- calls
 
 -- what a call means where no rule applies
-abbrev pub meaning-of : {A : Type 0} → Call A → Answer
-meaning-of c = c.meaning c.value
+abbrev pub meaning_of : {A : Type 0} → Call A → Answer
+meaning_of c = c.meaning c.value
 
 -- a call by its own rules, and what is made of its answer
 abbrev pub reply : {A B : Type 0} → (Answer → List B) → Call A → Reply B
-reply tell c = record { rules = c.rules; values = tell (meaning-of c) }
+reply tell c = record { rules = c.rules; values = tell (meaning_of c) }
 
 -- a map that comes as a file
-abbrev pub from-file : {A : Type 0} → (Map → Reply A) → List ℕ → Reply A
-from-file f s = record { rules = of-file s (λ m. (f m).rules); values = (f (map-in s)).values }
+abbrev pub from_file : {A : Type 0} → (Map → Reply A) → List ℕ → Reply A
+from_file f s = record { rules = of_file s (λ m. (f m).rules); values = (f (map_in s)).values }
 
 -- how long a result is that is written into a list of its own
-abbrev pub length-told : {A : Type 0} → List A → List ℕ
-length-told u = naturals (written-answer (Written.Length (length u)))
+abbrev pub length_told : {A : Type 0} → List A → List ℕ
+length_told u = naturals (written_answer (Written.Length (length u)))
 
-abbrev pub counts-reply : Map → Reply ℕ
-counts-reply m = reply naturals (counts-call m)
+abbrev pub counts_reply : Map → Reply ℕ
+counts_reply m = reply naturals (counts_call m)
 
-abbrev pub orbit-reply : Kind → ℕ → Map → Reply ℕ
-orbit-reply kind d m = reply naturals (orbit-call m kind d)
+abbrev pub orbit_reply : Kind → ℕ → Map → Reply ℕ
+orbit_reply kind d m = reply naturals (orbit_call m kind d)
 
-abbrev pub walk-reply : ℕ → Map → Reply ℕ
-walk-reply d m = reply walk-told (walk_call m d)
+abbrev pub walk_reply : ℕ → Map → Reply ℕ
+walk_reply d m = reply walk_told (walk_call m d)
 
-abbrev pub walker-reply : Link → ℕ → Map → Reply ℕ
-walker-reply link d m = reply naturals (walker-call m link d)
+abbrev pub walker_reply : Link → ℕ → Map → Reply ℕ
+walker_reply link d m = reply naturals (walker_call m link d)
 
-abbrev pub place-reply : Point → Map → Reply ℕ
-place-reply p m = reply place-told (place-call m p)
+abbrev pub place_reply : Point → Map → Reply ℕ
+place_reply p m = reply place_told (place_call m p)
 
-abbrev pub area-reply : ℕ → Map → Reply ℤ
-area-reply place m = reply values_of (area-call m place)
+abbrev pub area_reply : ℕ → Map → Reply ℤ
+area_reply place m = reply values_of (area_call m place)
 
-abbrev pub mark-reply : List Point → List ℕ → Reply ℕ
-mark-reply ps claim = reply mark-told (mark-call ps claim)
+abbrev pub mark_reply : List Point → List ℕ → Reply ℕ
+mark_reply ps claim = reply mark_told (mark_call ps claim)
 
 -- the bytes of the map before the last point
-abbrev pub removal-reply : Map → Reply ℕ
-removal-reply m = record { rules = (remove-call m).rules; values = saved (remove-call m).value.map }
+abbrev pub removal_reply : Map → Reply ℕ
+removal_reply m = record { rules = (remove_call m).rules; values = saved (remove_call m).value.map }
 
 -- .. of a sound map, which does not get number 1
-abbrev pub sound-removal : Map → Reply ℕ
-sound-removal m = record { rules = no-point m ∷ []; values = saved (before_last m) }
+abbrev pub sound_removal : Map → Reply ℕ
+sound_removal m = record { rules = no_point m ∷ []; values = saved (before_last m) }
 
 -- a point offered to the map of a file: the bytes of the map after it, and the arrival
 module _ (s : List ℕ) (p : Point) where
   abbrev call : Call Offered
-  call = offer-call (map-in s) p
+  call = offer_call (map_in s) p
 
   abbrev pub Offering : List ℕ → List ℕ → List ℕ → List ℕ → ℕ → Type 0
   Offering =
-      ServedBoth (of-file s (λ m. (offer-call m p).rules)) (saved call.value.map)
-      (arrival-told (meaning-of call))
+      ServedBoth (of_file s (λ m. (offer_call m p).rules)) (saved call.value.map)
+      (arrival_told (meaning_of call))

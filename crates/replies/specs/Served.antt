@@ -5,7 +5,7 @@
 -- refused call leaves every lent list as it was.
 use Rattle.std.specs.Prelude.{◌≡◌, ◌||◌, List, [], ℕ}
 use Rattle.model.specs.Refusals.{number, Rule, unless}
-use Rattle.model.specs.Lent.{is-short, and-short, lent-after}
+use Rattle.model.specs.Lent.{is_short, and_short, lent_after}
 
 -- the rules that come before number 10, and the values
 pub record Reply (A : Type 0) : Type 0 where
@@ -22,17 +22,17 @@ number_by rules = unless number rules 0
 
 module _ {A : Type 0} (reply : Reply A) (before after : List A) (r : ℕ) where
   abbrev rules : List Rule
-  rules = and-short reply.rules (is-short reply.values before)
+  rules = and_short reply.rules (is_short reply.values before)
 
   pub record Served : Type 0 where
     pub code : r ≡ number_by rules
-    pub list : after ≡ lent-after rules reply.values before
+    pub list : after ≡ lent_after rules reply.values before
 
 -- two lists: number 10 where either is too short
 pub record ServedBoth {A B : Type 0} (rules : List Rule) (u : List A) (v : List B)
     (before after : List A)
     (before' after' : List B) (r : ℕ) : Type 0 where
-  pub code : r ≡ number_by (and-short rules (is-short u before || is-short v before'))
-  pub list : after ≡ lent-after (and-short rules (is-short u before || is-short v before')) u before
+  pub code : r ≡ number_by (and_short rules (is_short u before || is_short v before'))
+  pub list : after ≡ lent_after (and_short rules (is_short u before || is_short v before')) u before
   pub list' : after' ≡
-      lent-after (and-short rules (is-short u before || is-short v before')) v before'
+      lent_after (and_short rules (is_short u before || is_short v before')) v before'

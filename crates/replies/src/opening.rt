@@ -1,9 +1,9 @@
 // The map of a file, after the checks of a call: the file's own, and then those of a dart or of a
 // point.
 
-ghost use Rattle.model.specs.Reading.{dart-rules};
-ghost use Rattle.model.specs.Placing.{place-call};
-ghost use Rattle.replies.specs.Opened.{Opened, of-file};
+ghost use Rattle.model.specs.Reading.{dart_rules};
+ghost use Rattle.model.specs.Placing.{place_call};
+ghost use Rattle.replies.specs.Opened.{Opened, of_file};
 
 use engine::files::load;
 use maps::reading::is_present;
@@ -13,7 +13,7 @@ use plane::in_range;
 // The map of a file, for a call about one of its darts.
 pub fn load_at(file: &[u8], dart: usize) -> Loaded
     ensures { Opened
-        file.now (of-file file.now (λ m. dart-rules m dart)) result }
+        file.now (of_file file.now (λ m. dart_rules m dart)) result }
 {
     let loaded = load(file);
     let outcome = loaded.outcome;
@@ -36,7 +36,7 @@ pub fn load_at(file: &[u8], dart: usize) -> Loaded
 // The map of a file, for a call about a query point.
 pub fn load_near(file: &[u8], p: Point) -> Loaded
     ensures { Opened file.now
-        (of-file file.now (λ m. (place-call m p).rules)) result }
+        (of_file file.now (λ m. (place_call m p).rules)) result }
 {
     let loaded = load(file);
     let outcome = loaded.outcome;

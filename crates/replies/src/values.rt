@@ -3,8 +3,8 @@
 ghost use Rattle.std.specs.Prelude.{◌≡◌};
 ghost use Rattle.model.specs.Plane.{at};
 ghost use Rattle.model.specs.declared.Walked.{Walked};
-ghost use Rattle.model.specs.Answers.{arrival-answer, placed-answer, walked-answer};
-ghost use Rattle.replies.specs.Replies.{arrival-told, place-told, walk-told};
+ghost use Rattle.model.specs.Answers.{arrival_answer, placed_answer, walked_answer};
+ghost use Rattle.replies.specs.Replies.{arrival_told, place_told, walk_told};
 
 use model::{Arrival, Placed, Point, refusal_number};
 use orbits::{Ending, Walk};
@@ -18,7 +18,7 @@ pub fn point(x: i64, y: i64) -> Point
 
 // The last dart of a walk, the number of its ending, and its moves.
 pub fn walk_values(walk: Walk) -> [u64; 3]
-    ensures { result ≡ walk-told (walked-answer (Walked.Ended walk)) }
+    ensures { result ≡ walk_told (walked_answer (Walked.Ended walk)) }
 {
     let ending = walk.ending;
     match ending {
@@ -29,7 +29,7 @@ pub fn walk_values(walk: Walk) -> [u64; 3]
 
 // The number of a place, and its values.
 pub fn placed_values(placed: Placed) -> [u64; 3]
-    ensures { result ≡ place-told (placed-answer placed) }
+    ensures { result ≡ place_told (placed_answer placed) }
 {
     match placed {
         Placed::NoOutline => [0, 0, 0],
@@ -43,7 +43,7 @@ pub fn placed_values(placed: Placed) -> [u64; 3]
 
 // The number of an arrival, and its values.
 pub fn arrival_values(arrival: Arrival) -> [u64; 4]
-    ensures { result ≡ arrival-told (arrival-answer arrival) }
+    ensures { result ≡ arrival_told (arrival_answer arrival) }
 {
     match arrival {
         Arrival::First => [0, 0, 0, 0],

@@ -3,15 +3,15 @@
 
 ghost use Rattle.std.specs.Prelude.{◌≡◌, true, [], ◌∷◌, ◌++◌, length};
 ghost use Rattle.model.specs.Refusals.{number};
-ghost use Rattle.model.specs.Answers.{arrival-answer};
+ghost use Rattle.model.specs.Answers.{arrival_answer};
 ghost use Rattle.model.specs.Shape.{Shaped};
 ghost use Rattle.model.specs.Outline.{corners};
-ghost use Rattle.model.specs.Arrival.{admission-rules, arrive};
+ghost use Rattle.model.specs.Arrival.{admission_rules, arrive};
 ghost use Rattle.model.specs.Saved.{saved};
-ghost use Rattle.model.specs.Report.{report-rules};
-ghost use Rattle.model.specs.Lent.{and-short};
+ghost use Rattle.model.specs.Report.{report_rules};
+ghost use Rattle.model.specs.Lent.{and_short};
 ghost use Rattle.replies.specs.Served.{Served, ServedBoth, number_by, only};
-ghost use Rattle.replies.specs.Replies.{arrival-told, length-told};
+ghost use Rattle.replies.specs.Replies.{arrival_told, length_told};
 
 use crate::values::arrival_values;
 use corners::listing::{corners_of, write_corners};
@@ -88,8 +88,8 @@ pub fn write_darts(orbit: DartSet, out: &mut [u64]) -> u32
 // numbers 2 to 4 and 10.
 pub fn write_admitted(map: Map, p: Point, out: &mut [u8], arrival: &mut [u64]) -> u32
     requires { Shaped map }
-    ensures { ServedBoth (admission-rules map p) (saved (arrive map p).map)
-        (arrival-told (arrival-answer (arrive map p).arrival)) out.old out.new
+    ensures { ServedBoth (admission_rules map p) (saved (arrive map p).map)
+        (arrival_told (arrival_answer (arrive map p).arrival)) out.old out.new
         arrival.old arrival.new result }
 {
     let offered = admitted(map, p);
@@ -104,7 +104,7 @@ pub fn write_admitted(map: Map, p: Point, out: &mut [u8], arrival: &mut [u64]) -
 fn write_offered(offered: Offered, out: &mut [u8], arrival: &mut [u64]) -> u32
     requires { Shaped offered.map }
     ensures { ServedBoth [] (saved offered.map)
-        (arrival-told (arrival-answer offered.arrival)) out.old out.new
+        (arrival_told (arrival_answer offered.arrival)) out.old out.new
         arrival.old arrival.new result }
 {
     let map = offered.map;
@@ -124,7 +124,7 @@ fn write_offered(offered: Offered, out: &mut [u8], arrival: &mut [u64]) -> u32
 // Writes the bytes of a sound map, and how many they are: number 10.
 pub fn write_saved(map: Map, out: &mut [u8], length: &mut [usize]) -> u32
     requires { Shaped map }
-    ensures { ServedBoth [] (saved map) (length-told (saved map))
+    ensures { ServedBoth [] (saved map) (length_told (saved map))
         out.old out.new length.old length.new result }
 {
     let bytes = saved_length(VERSION, map.count);
@@ -160,7 +160,7 @@ pub fn write_corner_list(map: Map, out: &mut [usize], count: &mut [usize]) -> u3
 
 // The number of a report whose length there is no room for: 9 or 10.
 pub fn uncounted(text: &[u8]) -> u32
-    ensures { result ≡ number_by (and-short (report-rules text.now) true) }
+    ensures { result ≡ number_by (and_short (report_rules text.now) true) }
 {
     if is_too_long(text) {
         return 9;

@@ -11,43 +11,43 @@ use lib.Dec.{ltb}
 use lib.ListN.{length, take, length-append, length-take}
 use lib.Seq.{take_at}
 use Rattle.finite.specs.Tests.{same_or_not}
-use Rattle.finite.specs.Bounded.{lt-or-ge}
-use Rattle.finite.specs.Overwriting.{over, over-at, over-front}
+use Rattle.finite.specs.Bounded.{lt_or_ge}
+use Rattle.finite.specs.Overwriting.{over, over_at, over_front}
 use Rattle.model.specs.declared.Refusal.{Refusal}
 use Rattle.model.specs.declared.Counts.{Counts}
 use Rattle.model.specs.declared.Map.{Map}
-use Rattle.model.specs.Maps.{point-limit, empty-map}
+use Rattle.model.specs.Maps.{point_limit, empty_map}
 use Rattle.model.specs.Answers.{refused}
 use Rattle.model.specs.Reading.{counts}
 use Rattle.model.specs.Text.{lines}
-use Rattle.model.specs.Report.{text-limit, printed, arrivals, report}
+use Rattle.model.specs.Report.{text_limit, printed, arrivals, report}
 use Rattle.corners.specs.declared.listing.CornerList.{CornerList}
 use Rattle.corners.specs.Listing.{ListsCorners}
-use Rattle.printing.proofs.Overwriting.{wrote-length}
+use Rattle.printing.proofs.Overwriting.{wrote_length}
 use Rattle.printing.proofs.Reports.{closing_lines}
 use Rattle.reports.specs.declared.Summary.{Summary}
 use Rattle.lines.specs.declared.positions.Ends.{Ends}
 use Rattle.lines.specs.declared.positions.Piece.{Piece}
-use Rattle.lines.specs.Lines.{title, report-line, lines_from, line-count}
-use Rattle.reports.specs.Summaries.{corners-in, report-of, Fits, Decides}
+use Rattle.lines.specs.Lines.{title, report_line, lines_from, line_count}
+use Rattle.reports.specs.Summaries.{corners_in, report_of, Fits, Decides}
 use Rattle.lines.specs.Printing.{Printable, PutLines}
-use Rattle.reports.specs.Pieces.{WroteLines, line-limit, Pieces, begun, continued}
+use Rattle.reports.specs.Pieces.{WroteLines, line_limit, Pieces, begun, continued}
 use Rattle.deciding.specs.Deciding.{Surveys}
-use Rattle.lines.proofs.ReportLines.{report-line-most, lines_more, lines_none, lines-joined, report-short, report-long}
+use Rattle.lines.proofs.ReportLines.{report_line_most, lines_more, lines_none, lines_joined, report_short, report_long}
 
 -- ---- a text that is too long
 
-pub decides-long : {text answers : List ℕ} {d : Summary} → ltb text-limit (length text) ≡ true →
-    d.ends.long ≡ true → length answers ≡ text-limit → Fits d → Decides text answers d
-unfolding report report-of
-decides-long {text} {answers} {d} h long whole fits =
+pub decides_long : {text answers : List ℕ} {d : Summary} → ltb text_limit (length text) ≡ true →
+    d.ends.long ≡ true → length answers ≡ text_limit → Fits d → Decides text answers d
+unfolding report report_of
+decides_long {text} {answers} {d} h long whole fits =
     record {
       whole = whole;
       fits = fits;
-      is-report =
-          report-long answers (corners-in d) d.ends long
+      is_report =
+          report_long answers (corners_in d) d.ends long
           ∙ ap (λ (b : Bool). title
-          ++ cond b (printed (refused Refusal.LongText)) (arrivals empty-map 0 (lines text)))
+          ++ cond b (printed (refused Refusal.LongText)) (arrivals empty_map 0 (lines text)))
           (sym h);
     }
 
@@ -55,7 +55,7 @@ decides-long {text} {answers} {d} h long whole fits =
 
 module _ {text answers : List ℕ} {m : Map} {n : ℕ} {list : CornerList} {c : Counts}
     (surveys : Surveys text m answers n) (lists : ListsCorners m list) (numbers : c ≡ counts m)
-    (short : ltb text-limit (length text) ≡ false) where
+    (short : ltb text_limit (length text) ≡ false) where
   abbrev decided : Summary
   decided =
       record {
@@ -64,23 +64,23 @@ module _ {text answers : List ℕ} {m : Map} {n : ℕ} {list : CornerList} {c : 
         ends = record { lines = n; long = false; counts = c };
       }
 
-  pub decides-short : Decides text answers decided
-  unfolding report report-of
-  decides-short =
+  pub decides_short : Decides text answers decided
+  unfolding report report_of
+  decides_short =
       record {
         whole = surveys.whole;
         fits =
             record {
-              corners-whole = lists.whole;
-              corners-fit = lists.fits;
+              corners_whole = lists.whole;
+              corners_fit = lists.fits;
               lines_fit = surveys.lines_fit;
             };
-        is-report =
-            report-short answers (take list.count list.points) decided.ends refl
+        is_report =
+            report_short answers (take list.count list.points) decided.ends refl
             ∙ ap (λ (l : List ℕ). title ++ l)
             (rw (lists.members, numbers, ← closing_lines m) surveys.together)
             ∙ ap (λ (b : Bool). title
-            ++ cond b (printed (refused Refusal.LongText)) (arrivals empty-map 0 (lines text)))
+            ++ cond b (printed (refused Refusal.LongText)) (arrivals empty_map 0 (lines text)))
             (sym short);
       }
 
@@ -88,14 +88,14 @@ module _ {text answers : List ℕ} {m : Map} {n : ℕ} {list : CornerList} {c : 
 
 module _ {answers corners : List ℕ} {ends : Ends} {lent after : List ℕ} {r : Piece}
     (p : PutLines answers corners ends 0 lent after r)
-    (room : length (lines_from answers corners ends 0 (line-count ends)) ≤ length lent) where
+    (room : length (lines_from answers corners ends 0 (line_count ends)) ≤ length lent) where
   -- with room for all of it nothing is left
-  nothing_left : r.next ≡ line-count ends
+  nothing_left : r.next ≡ line_count ends
   nothing_left =
       ⊎_elim
-      (λ (h : r.next < line-count ends).
-      let k = line-count ends - suc r.next in
-      let e : suc r.next + k ≡ line-count ends = omega arith in
+      (λ (h : r.next < line_count ends).
+      let k = line_count ends - suc r.next in
+      let e : suc r.next + k ≡ line_count ends = omega arith in
       let z : r.next - 0 ≡ r.next = omega arith in
       let i : 0 + r.next ≡ r.next = omega arith in
       absurd
@@ -104,33 +104,33 @@ module _ {answers corners : List ℕ} {ends : Ends} {lent after : List ℕ} {r :
         p.full h,
         p.wrote.ends,
         ap (λ (j : ℕ). length (lines_from answers corners ends 0 j)) z,
-        ap (λ (j : ℕ). length (report-line answers corners ends j)) i,
+        ap (λ (j : ℕ). length (report_line answers corners ends j)) i,
         ap length (lines_more answers corners ends 0 r.next),
         length-append (lines_from answers corners ends 0 r.next)
-            (report-line answers corners ends (0 + r.next)),
+            (report_line answers corners ends (0 + r.next)),
         ap (λ (j : ℕ). length (lines_from answers corners ends 0 j)) e,
-        ap length (lines-joined answers corners ends 0 (suc r.next) k),
+        ap length (lines_joined answers corners ends 0 (suc r.next) k),
         length-append (lines_from answers corners ends 0 (suc r.next))
             (lines_from answers corners ends (0 + suc r.next) k),
       )))
-      (λ (h : line-count ends ≤ r.next). omega (arith, p.whole (omega arith)))
-      (lt-or-ge r.next (line-count ends))
+      (λ (h : line_count ends ≤ r.next). omega (arith, p.whole (omega arith)))
+      (lt_or_ge r.next (line_count ends))
 
-  pub all-written : after ≡ over (lines_from answers corners ends 0 (line-count ends)) lent
-  all-written =
-      let e : r.next - 0 ≡ line-count ends = omega (arith, nothing_left) in
+  pub all_written : after ≡ over (lines_from answers corners ends 0 (line_count ends)) lent
+  all_written =
+      let e : r.next - 0 ≡ line_count ends = omega (arith, nothing_left) in
       rw e at p.wrote.holds
-      ∙ over-front lent (lines_from answers corners ends 0 (line-count ends))
+      ∙ over_front lent (lines_from answers corners ends 0 (line_count ends))
 
 -- ---- what was decided, lent as lists
 
 module _ {d : Summary} (f : Fits d) where
-  pub listed-length : d.listed ≡ length (corners-in d)
-  listed-length =
-      omega (arith, length-take d.listed d.corners, f.corners-whole, f.corners-fit)
+  pub listed_length : d.listed ≡ length (corners_in d)
+  listed_length =
+      omega (arith, length-take d.listed d.corners, f.corners_whole, f.corners_fit)
 
-  pub corners-few : length (corners-in d) ≤ point-limit
-  corners-few = omega (arith, listed-length, f.corners-fit)
+  pub corners_few : length (corners_in d) ≤ point_limit
+  corners_few = omega (arith, listed_length, f.corners_fit)
 
   pub printable : Printable d.ends
   printable = record { lines_fit = f.lines_fit }
@@ -140,15 +140,15 @@ module _ {d : Summary} (f : Fits d) where
 module _ (answers : List ℕ) (d : Summary) {from : ℕ} {lent after : List ℕ} {r : Piece}
     (p : WroteLines answers d from lent after r) where
   abbrev piece : ℕ → List ℕ
-  piece k = lines_from answers (corners-in d) d.ends from k
+  piece k = lines_from answers (corners_in d) d.ends from k
 
   -- the list is as long as before
-  pub piece-whole : length after ≡ length lent
-  piece-whole = wrote-length p.wrote (record { room = omega (arith, p.wrote.ends, p.inside) })
+  pub piece_whole : length after ≡ length lent
+  piece_whole = wrote_length p.wrote (record { room = omega (arith, p.wrote.ends, p.inside) })
 
   -- a piece that has bytes goes further
-  pub piece-further : r.length ≢ 0 → from < r.next
-  piece-further n =
+  pub piece_further : r.length ≢ 0 → from < r.next
+  piece_further n =
       ⊎_elim
       (λ (l : from < r.next). l)
       (λ (l : r.next ≤ from).
@@ -158,55 +158,55 @@ module _ (answers : List ℕ) (d : Summary) {from : ℕ} {lent after : List ℕ}
         arith,
         p.wrote.ends,
         ap (λ (k : ℕ). length (piece k)) e,
-        ap length (lines_none answers (corners-in d) d.ends from),
+        ap length (lines_none answers (corners_in d) d.ends from),
       ))))
-      (lt-or-ge from r.next)
+      (lt_or_ge from r.next)
 
   -- and one that has none is the last, where the list has room for any one line
-  pub piece-last : Fits d → line-limit ≤ length lent → from ≤ line-count d.ends → r.length ≡ 0 →
-      r.next ≡ line-count d.ends
-  piece-last f room h none =
+  pub piece_last : Fits d → line_limit ≤ length lent → from ≤ line_count d.ends → r.length ≡ 0 →
+      r.next ≡ line_count d.ends
+  piece_last f room h none =
       ⊎_elim
-      (λ (l : r.next < line-count d.ends).
+      (λ (l : r.next < line_count d.ends).
       absurd
       (omega (
         arith,
         p.full l,
-        report-line-most answers (corners-in d) d.ends (corners-few f) r.next,
+        report_line_most answers (corners_in d) d.ends (corners_few f) r.next,
       )))
-      (λ (l : line-count d.ends ≤ r.next). omega (arith, p.whole h))
-      (lt-or-ge r.next (line-count d.ends))
+      (λ (l : line_count d.ends ≤ r.next). omega (arith, p.whole h))
+      (lt_or_ge r.next (line_count d.ends))
 
   -- so a list with room for any one line always advances
-  pub piece-advances : Fits d → line-limit ≤ length lent → from < line-count d.ends → from < r.next
-  piece-advances f room h =
+  pub piece_advances : Fits d → line_limit ≤ length lent → from < line_count d.ends → from < r.next
+  piece_advances f room h =
       ⊎_elim
-      (λ (e : r.length ≡ 0). omega (arith, piece-last f room (omega arith) e))
-      piece-further
+      (λ (e : r.length ≡ 0). omega (arith, piece_last f room (omega arith) e))
+      piece_further
       (same_or_not r.length 0)
 
   -- its bytes
   piece_bytes : take r.length after ≡ piece (r.next - from)
-  unfolding over-at
+  unfolding over_at
   piece_bytes =
       let e : r.length ≡ length (piece (r.next - from)) = omega (arith, p.wrote.ends) in
       ap (take r.length) p.wrote.holds
       ∙ take_at (piece (r.next - from)) _ r.length (sym e)
 
 pub pieces_are : {answers : List ℕ} {d : Summary} {j : ℕ} {s : List ℕ} → Pieces answers d j s →
-    s ≡ lines_from answers (corners-in d) d.ends 0 j
-pieces_are {answers} {d} begun = sym (lines_none answers (corners-in d) d.ends 0)
+    s ≡ lines_from answers (corners_in d) d.ends 0 j
+pieces_are {answers} {d} begun = sym (lines_none answers (corners_in d) d.ends 0)
 pieces_are {answers} {d} (continued {from = from} {r = r} before p) =
     let e : from + (r.next - from) ≡ r.next = omega (arith, p.further) in
     let z : from ≡ 0 + from = omega arith in
     (λ t. pieces_are before t ++ piece_bytes answers d p t)
-    ∙ ap (λ (i : ℕ). lines_from answers (corners-in d) d.ends 0 from
-    ++ lines_from answers (corners-in d) d.ends i (r.next - from)) z
-    ∙ lines-joined answers (corners-in d) d.ends 0 from (r.next - from)
-    ∙ ap (lines_from answers (corners-in d) d.ends 0) e
+    ∙ ap (λ (i : ℕ). lines_from answers (corners_in d) d.ends 0 from
+    ++ lines_from answers (corners_in d) d.ends i (r.next - from)) z
+    ∙ lines_joined answers (corners_in d) d.ends 0 from (r.next - from)
+    ∙ ap (lines_from answers (corners_in d) d.ends 0) e
 
 -- the pieces from position 0 to the end are the report on the text
-pub pieces-are-the-report : {text answers : List ℕ} {d : Summary} {s : List ℕ} →
-    Decides text answers d → Pieces answers d (line-count d.ends) s → s ≡ report text
-unfolding report-of
-pieces-are-the-report decides pieces = pieces_are pieces ∙ decides.is-report
+pub pieces_are_the_report : {text answers : List ℕ} {d : Summary} {s : List ℕ} →
+    Decides text answers d → Pieces answers d (line_count d.ends) s → s ≡ report text
+unfolding report_of
+pieces_are_the_report decides pieces = pieces_are pieces ∙ decides.is_report

@@ -3,17 +3,17 @@
 use Rattle.std.specs.Prelude.{List, [], ◌++◌, ℕ, take}
 use Rattle.reports.specs.declared.Summary.{Summary}
 use Rattle.lines.specs.declared.positions.Piece.{Piece}
-use Rattle.reports.specs.Summaries.{corners-in}
+use Rattle.reports.specs.Summaries.{corners_in}
 use Rattle.lines.specs.Printing.{PutLines}
 
 -- the printed lines of what was decided
 abbrev pub WroteLines : List ℕ → Summary → ℕ → List ℕ → List ℕ → Piece → Type 0
 WroteLines answers d from lent after r =
-    PutLines answers (corners-in d) d.ends from lent after r
+    PutLines answers (corners_in d) d.ends from lent after r
 
 -- no printed line is longer
-abbrev pub line-limit : ℕ
-line-limit = 16_384
+abbrev pub line_limit : ℕ
+line_limit = 16_384
 
 -- pieces that bring from position 0 to a position, and their bytes
 pub data Pieces (answers : List ℕ) (d : Summary) : ℕ → List ℕ → Type 0 where

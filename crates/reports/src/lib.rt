@@ -4,9 +4,9 @@
 
 ghost use Rattle.std.specs.Prelude.{◌≡◌, ◌≤◌, length};
 ghost use Rattle.finite.specs.Overwriting.{over};
-ghost use Rattle.model.specs.Report.{text-limit};
+ghost use Rattle.model.specs.Report.{text_limit};
 ghost use Rattle.deciding.specs.Deciding.{Readable, Surveys};
-ghost use Rattle.reports.specs.Summaries.{report-of, Decides, Fits};
+ghost use Rattle.reports.specs.Summaries.{report_of, Decides, Fits};
 ghost use Rattle.reports.specs.Pieces.{WroteLines};
 
 use admission::hashes::no_hashes;
@@ -36,7 +36,7 @@ pub struct Surveyed {
 
 // As many answers as a text may have lines, each as one number.
 pub fn no_answers() -> [u32; TEXT_LIMIT]
-    ensures { text-limit ≡ length result }
+    ensures { text_limit ≡ length result }
 {
     [0u32; TEXT_LIMIT]
 }
@@ -94,7 +94,7 @@ fn decide_lines(text: &[u8], answers: &mut [u32; TEXT_LIMIT]) -> Surveyed
 // Decides a text, whatever its bytes are, and leaves the answers of its lines in a lent array. One
 // that is too long is decided without being read.
 pub fn decide(text: &[u8], answers: &mut [u32; TEXT_LIMIT]) -> Summary
-    requires { length answers.old ≡ text-limit }
+    requires { length answers.old ≡ text_limit }
     ensures { Decides text.now answers.new result }
 {
     if is_too_long(text) {
@@ -137,7 +137,7 @@ pub fn decide(text: &[u8], answers: &mut [u32; TEXT_LIMIT]) -> Summary
 // How many bytes the report takes.
 pub fn length_of(answers: &[u32], decided: Summary) -> usize
     requires { Fits decided }
-    ensures { result ≡ length (report-of answers.now decided) }
+    ensures { result ≡ length (report_of answers.now decided) }
 {
     let corners = decided.corners;
     let listed = decided.listed;
@@ -148,9 +148,9 @@ pub fn length_of(answers: &[u32], decided: Summary) -> usize
 // Writes the report into a lent list that has room for it; the rest of it stays as it is.
 pub fn write_report(answers: &[u32], decided: Summary, lent: &mut [u8])
     requires fits { Fits decided }
-    requires decided_in_bounds { length (report-of answers.now decided) ≤ length lent.old }
+    requires decided_in_bounds { length (report_of answers.now decided) ≤ length lent.old }
     ensures { lent.new ≡
-        over (report-of answers.now decided) lent.old }
+        over (report_of answers.now decided) lent.old }
 {
     let corners = decided.corners;
     let listed = decided.listed;

@@ -1,7 +1,7 @@
 -- The saved form both ways, in either version, in the order of this page: what a shaped map holds fits
 -- its fields; what is read in the file of a shaped map; that file is in form and its map is the map
--- (`saved-in-form`, `map_back`); a reader of another version refuses it (`old-reader-7`); the bytes of the
--- map of a file in form are the file (`file-back`), and its points are the map's.
+-- (`saved_in_form`, `map_back`); a reader of another version refuses it (`old_reader_7`); the bytes of the
+-- map of a file in form are the file (`file_back`), and its points are the map's.
 -- Document 01, demand 2: "a saved map reads back as itself, and an accepted file is the only file
 -- that its map writes", and document 02, request 107.
 use mathlib.Core.Path.{◌≡◌, refl, sym, ap, ap₂, ◌∙◌}
@@ -17,271 +17,271 @@ use lib.IntN.{ℤ, pos, nat_abs}
 use lib.ListN.{length, get_or, take, drop}
 use lib.Seq.{take-add, take-length}
 use Rattle.finite.specs.Tests.{decide, is_false, either_way, same_or_not}
-use Rattle.finite.specs.Bounded.{one-if, table, lt-or-ge}
-use Rattle.finite.specs.Counting.{one-if-small, one-if-is}
+use Rattle.finite.specs.Bounded.{one_if, table, lt_or_ge}
+use Rattle.finite.specs.Counting.{one_if_small, one_if_is}
 use Rattle.finite.specs.ListLaws.{get_d_any}
-use Rattle.orbits.specs.Sets.{dart-limit}
+use Rattle.orbits.specs.Sets.{dart_limit}
 use Rattle.model.specs.declared.Note.{Note}
 use Rattle.model.specs.declared.Map.{Map}
-use Rattle.model.specs.Plane.{coordinate-limit}
-use Rattle.model.specs.Maps.{point-limit, no-dart, own, point_at, point, has-helper, is-present, edge-link, note}
-use Rattle.model.specs.Maps.{empty-map, map-points}
+use Rattle.model.specs.Plane.{coordinate_limit}
+use Rattle.model.specs.Maps.{point_limit, no_dart, own, point_at, point, has_helper, is_present, edge_link, note}
+use Rattle.model.specs.Maps.{empty_map, map_points}
 use Rattle.model.specs.Building.{built}
 use Rattle.model.specs.Shape.{Fitting, Shaped}
-use Rattle.model.specs.Saved.{version, old-version, Bytes, big_endian, number_at, complement, signed, field}
-use Rattle.model.specs.Saved.{version-place, count-place, reference-place, header-length, coordinates-place}
-use Rattle.model.specs.Saved.{helpers-place, links-place, notes-place, notes-length, saved-length, following}
-use Rattle.model.specs.Saved.{coordinate, header, packed-note, notes-in, saved-in, saved, count-in-file}
-use Rattle.model.specs.Saved.{coordinate-in-file, helper-in-file, link-in-file, arrival-in-file, left-in-file}
-use Rattle.model.specs.Saved.{right-in-file, file-in-form-of, file-in-form, coordinates-in-file, helpers-in-file}
-use Rattle.model.specs.Saved.{links-in-file, arrivals-in-file, lefts-in-file, rights-in-file, points-in-file}
-use Rattle.model.specs.Saved.{built-in-file, by-version, map-in}
-use Rattle.model.proofs.Shape.{place-ranged, present-below}
-use Rattle.plane.proofs.Bounds.{x-near, y-near}
-use Rattle.layout.proofs.Digits.{number_small, complement-small, signed-complement}
-use Rattle.layout.proofs.Digits.{complement-signed, bytes_back}
+use Rattle.model.specs.Saved.{version, old_version, Bytes, big_endian, number_at, complement, signed, field}
+use Rattle.model.specs.Saved.{version_place, count_place, reference_place, header_length, coordinates_place}
+use Rattle.model.specs.Saved.{helpers_place, links_place, notes_place, notes_length, saved_length, following}
+use Rattle.model.specs.Saved.{coordinate, header, packed_note, notes_in, saved_in, saved, count_in_file}
+use Rattle.model.specs.Saved.{coordinate_in_file, helper_in_file, link_in_file, arrival_in_file, left_in_file}
+use Rattle.model.specs.Saved.{right_in_file, file_in_form_of, file_in_form, coordinates_in_file, helpers_in_file}
+use Rattle.model.specs.Saved.{links_in_file, arrivals_in_file, lefts_in_file, rights_in_file, points_in_file}
+use Rattle.model.specs.Saved.{built_in_file, by_version, map_in}
+use Rattle.model.proofs.Shape.{place_ranged, present_below}
+use Rattle.plane.proofs.Bounds.{x_near, y_near}
+use Rattle.layout.proofs.Digits.{number_small, complement_small, signed_complement}
+use Rattle.layout.proofs.Digits.{complement_signed, bytes_back}
 use Rattle.layout.proofs.Blocks.{block_same, block_back}
-use Rattle.layout.proofs.Notes.{arrival-group, left-group, right-group, groups-read}
-use Rattle.layout.proofs.Form.{IsVersion, version-small, in-form, Form, form-holds, form-by}
-use Rattle.maps.proofs.Same.{same-fields}
+use Rattle.layout.proofs.Notes.{arrival_group, left_group, right_group, groups_read}
+use Rattle.layout.proofs.Form.{IsVersion, version_small, in_form, Form, form_holds, form_by}
+use Rattle.maps.proofs.Same.{same_fields}
 use Rattle.saved.specs.Fields.{noted_in}
-use Rattle.saved.proofs.Tables.{until-table, until-at}
-use Rattle.saved.proofs.Places.{noted-length, noted-all, noted-below, notes-block, length-saved-in}
-use Rattle.saved.proofs.Places.{length-read, version-read, count-read, reference-read, coordinate-read}
-use Rattle.saved.proofs.Places.{helper-read, link-read, note-read}
+use Rattle.saved.proofs.Tables.{until_table, until_at}
+use Rattle.saved.proofs.Places.{noted_length, noted_all, noted_below, notes_block, length_saved_in}
+use Rattle.saved.proofs.Places.{length_read, version_read, count_read, reference_read, coordinate_read}
+use Rattle.saved.proofs.Places.{helper_read, link_read, note_read}
 
 -- ---- what a shaped map holds fits its fields
 
 module _ {m : Map} (s : Shaped m) where
-  pub coordinate-small : (i : ℕ) → nat_abs (coordinate m i) ≤ coordinate-limit
+  pub coordinate_small : (i : ℕ) → nat_abs (coordinate m i) ≤ coordinate_limit
   unfolding coordinate
-  coordinate-small i =
+  coordinate_small i =
       ⊎_elim
       (λ (e : i % 2 ≡ 0).
-      rw (eq-eqb (i % 2) 0 e) (x-near (point m (i / 2)) (place-ranged s (i / 2))).bound)
-      (λ e. rw (ne_eqb (i % 2) 0 e) (y-near (point m (i / 2)) (place-ranged s (i / 2))).bound)
+      rw (eq-eqb (i % 2) 0 e) (x_near (point m (i / 2)) (place_ranged s (i / 2))).bound)
+      (λ e. rw (ne_eqb (i % 2) 0 e) (y_near (point m (i / 2)) (place_ranged s (i / 2))).bound)
       (same_or_not (i % 2) 0)
 
-  link-small : (d : ℕ) → d < own m.count → edge-link m d < 256 ^ 2
-  link-small d l =
+  link_small : (d : ℕ) → d < own m.count → edge_link m d < 256 ^ 2
+  link_small d l =
       let f = s.links.fits in
       ⊎_elim
-      (λ (t : T (is-present m d)).
-      let b = present-below m (edge-link m d) (s.links.present d t) in omega arith)
-      (λ (t : T (not (is-present m d))).
-      let e = s.links.absent d (T_not (is-present m d) t) in omega arith)
-      (decide (is-present m d))
+      (λ (t : T (is_present m d)).
+      let b = present_below m (edge_link m d) (s.links.present d t) in omega arith)
+      (λ (t : T (not (is_present m d))).
+      let e = s.links.absent d (T_not (is_present m d) t) in omega arith)
+      (decide (is_present m d))
 
-  reference-small : m.reference < 256 ^ 2
-  reference-small =
+  reference_small : m.reference < 256 ^ 2
+  reference_small =
       let f = s.links.fits in
       ⊎_elim
       (λ (l : m.count < 2). let e = (s.bare l).unreferenced in omega arith)
       (λ (l : 2 ≤ m.count).
-      let b = present-below m m.reference (s.outlined l).reference-present in omega arith)
-      (lt-or-ge m.count 2)
+      let b = present_below m m.reference (s.outlined l).reference_present in omega arith)
+      (lt_or_ge m.count 2)
 
 -- ---- the file of a shaped map is in form, and its map is the map
 
-x-coordinate : (m : Map) (k : ℕ) → coordinate m (2 * k + 0) ≡ get_or m.xs k (pos 0)
+x_coordinate : (m : Map) (k : ℕ) → coordinate m (2 * k + 0) ≡ get_or m.xs k (pos 0)
 unfolding coordinate point
-x-coordinate m k =
+x_coordinate m k =
     let e : (2 * k + 0) / 2 ≡ k = omega arith in
     rw (eq-eqb ((2 * k + 0) % 2) 0 (omega arith), e)
 
-y-coordinate : (m : Map) (k : ℕ) → coordinate m (2 * k + 1) ≡ get_or m.ys k (pos 0)
+y_coordinate : (m : Map) (k : ℕ) → coordinate m (2 * k + 1) ≡ get_or m.ys k (pos 0)
 unfolding coordinate point
-y-coordinate m k =
+y_coordinate m k =
     let e : (2 * k + 1) / 2 ≡ k = omega arith in
     rw (ne_eqb ((2 * k + 1) % 2) 0 (λ z. omega arith), e)
 
 module _ {v : ℕ} (is : IsVersion v) {m : Map} (s : Shaped m) where
   abbrev file : List ℕ
-  file = saved-in v m
+  file = saved_in v m
 
-  count-back : count-in-file file ≡ m.count
-  count-back = count-read v m s.links.fits
+  count_back : count_in_file file ≡ m.count
+  count_back = count_read v m s.links.fits
 
-  version-back : number_at file version-place 1 ≡ v
-  version-back = version-read v m (version-small is)
+  version_back : number_at file version_place 1 ≡ v
+  version_back = version_read v m (version_small is)
 
-  helper-back : (k : ℕ) → k < m.count → helper-in-file file (count-in-file file) k ≡ one-if (has-helper m k)
-  helper-back k l =
-      ap (λ (n : ℕ). field file (helpers-place n) 1 k) count-back
-      ∙ helper-read v m k l (omega (arith, one-if-small (has-helper m k)))
+  helper_back : (k : ℕ) → k < m.count → helper_in_file file (count_in_file file) k ≡ one_if (has_helper m k)
+  helper_back k l =
+      ap (λ (n : ℕ). field file (helpers_place n) 1 k) count_back
+      ∙ helper_read v m k l (omega (arith, one_if_small (has_helper m k)))
 
-  link-back : (d : ℕ) → d < own m.count → link-in-file file (count-in-file file) d ≡ edge-link m d
-  link-back d l =
-      ap (λ (n : ℕ). field file (links-place n) 2 d) count-back ∙ link-read v m d l (link-small s d l)
+  link_back : (d : ℕ) → d < own m.count → link_in_file file (count_in_file file) d ≡ edge_link m d
+  link_back d l =
+      ap (λ (n : ℕ). field file (links_place n) 2 d) count_back ∙ link_read v m d l (link_small s d l)
 
-  coordinate-back : (i : ℕ) → i < 2 * m.count → coordinate-in-file file i ≡ coordinate m i
-  coordinate-back i l =
-      let b = coordinate-small s i in
-      ap signed (coordinate-read v m i l (complement-small (coordinate m i) (omega arith)))
-      ∙ signed-complement (coordinate m i) (omega arith)
+  coordinate_back : (i : ℕ) → i < 2 * m.count → coordinate_in_file file i ≡ coordinate m i
+  coordinate_back i l =
+      let b = coordinate_small s i in
+      ap signed (coordinate_read v m i l (complement_small (coordinate m i) (omega arith)))
+      ∙ signed_complement (coordinate m i) (omega arith)
 
   -- what is noted of a point, where the version has notes
-  module _ (new : v ≢ old-version) (k : ℕ) (l : k < m.count) where
+  module _ (new : v ≢ old_version) (k : ℕ) (l : k < m.count) where
     abbrev fit : Fitting (note m k)
     fit = s.notes.fitting k
 
-    part-back : (j d : ℕ) → j + d ≤ 5 →
-        number_at file (notes-place (count-in-file file) + 5 * k + j) d
-        ≡ number_at (big_endian 5 (packed-note m k)) j d
-    part-back j d h =
-        ap (λ (n : ℕ). number_at file (notes-place n + 5 * k + j) d) count-back
-        ∙ note-read v m k j d (omega (arith, noted-all v m.count new)) h
+    part_back : (j d : ℕ) → j + d ≤ 5 →
+        number_at file (notes_place (count_in_file file) + 5 * k + j) d
+        ≡ number_at (big_endian 5 (packed_note m k)) j d
+    part_back j d h =
+        ap (λ (n : ℕ). number_at file (notes_place n + 5 * k + j) d) count_back
+        ∙ note_read v m k j d (omega (arith, noted_all v m.count new)) h
 
-    arrival-back : arrival-in-file file (count-in-file file) k ≡ (note m k).arrival
-    unfolding packed-note
-    arrival-back =
-        ap (λ (a : ℕ). number_at file a 1) (sym (add-zero (notes-place (count-in-file file) + 5 * k)))
-        ∙ part-back 0 1 (omega arith)
-        ∙ arrival-group (note m k).arrival (note m k).left (note m k).right
-        (omega (arith, fit.arrival-small)) (omega (arith, fit.left-small)) (omega (arith, fit.right-small))
+    arrival_back : arrival_in_file file (count_in_file file) k ≡ (note m k).arrival
+    unfolding packed_note
+    arrival_back =
+        ap (λ (a : ℕ). number_at file a 1) (sym (add-zero (notes_place (count_in_file file) + 5 * k)))
+        ∙ part_back 0 1 (omega arith)
+        ∙ arrival_group (note m k).arrival (note m k).left (note m k).right
+        (omega (arith, fit.arrival_small)) (omega (arith, fit.left_small)) (omega (arith, fit.right_small))
 
-    left_back : left-in-file file (count-in-file file) k ≡ (note m k).left
-    unfolding packed-note
+    left_back : left_in_file file (count_in_file file) k ≡ (note m k).left
+    unfolding packed_note
     left_back =
-        part-back 1 2 (omega arith)
-        ∙ left-group (note m k).arrival (note m k).left (note m k).right
-        (omega (arith, fit.left-small)) (omega (arith, fit.right-small))
+        part_back 1 2 (omega arith)
+        ∙ left_group (note m k).arrival (note m k).left (note m k).right
+        (omega (arith, fit.left_small)) (omega (arith, fit.right_small))
 
-    right-back : right-in-file file (count-in-file file) k ≡ (note m k).right
-    unfolding packed-note
-    right-back =
-        part-back 3 2 (omega arith)
-        ∙ right-group (note m k).arrival (note m k).left (note m k).right
-        (omega (arith, fit.left-small)) (omega (arith, fit.right-small))
+    right_back : right_in_file file (count_in_file file) k ≡ (note m k).right
+    unfolding packed_note
+    right_back =
+        part_back 3 2 (omega arith)
+        ∙ right_group (note m k).arrival (note m k).left (note m k).right
+        (omega (arith, fit.left_small)) (omega (arith, fit.right_small))
 
-  pub saved-in-form-of : T (file-in-form-of v file)
-  saved-in-form-of =
+  pub saved_in_form_of : T (file_in_form_of v file)
+  saved_in_form_of =
       let f = s.links.fits in
-      let c = count-back in
-      form-by v file
+      let c = count_back in
+      form_by v file
       (record {
         few = omega arith;
-        whole = length-saved-in v m ∙ ap (saved-length v) (sym c);
-        length-right = length-read v m f ∙ ap (following v) (sym c);
-        version-right = version-back;
-        helpers-right =
-            λ k h. omega (arith, helper-back k (omega arith), one-if-small (has-helper m k));
-        arrivals-right =
-            λ e k h. omega (arith, arrival-back e k (omega arith), (s.notes.fitting k).arrival-small);
+        whole = length_saved_in v m ∙ ap (saved_length v) (sym c);
+        length_right = length_read v m f ∙ ap (following v) (sym c);
+        version_right = version_back;
+        helpers_right =
+            λ k h. omega (arith, helper_back k (omega arith), one_if_small (has_helper m k));
+        arrivals_right =
+            λ e k h. omega (arith, arrival_back e k (omega arith), (s.notes.fitting k).arrival_small);
       })
 
-  pub saved-in-form : T (file-in-form file)
-  saved-in-form = in-form is file saved-in-form-of
+  pub saved_in_form : T (file_in_form file)
+  saved_in_form = in_form is file saved_in_form_of
 
   -- past the points stands 0
-  coordinate-past : (k d : ℕ) → d < 2 → m.count ≤ k → pos 0 ≡ coordinate m (2 * k + d)
+  coordinate_past : (k d : ℕ) → d < 2 → m.count ≤ k → pos 0 ≡ coordinate m (2 * k + d)
   unfolding coordinate
-  coordinate-past k d h l =
+  coordinate_past k d h l =
       let e : (2 * k + d) / 2 ≡ k = omega arith in
       rw (e, s.points.vacant k l) (sym (either_way (eqb ((2 * k + d) % 2) 0) (pos 0)))
 
   -- the coordinates of one direction
-  coordinates-back : (l : List ℤ) → length l ≡ point-limit → (d : ℕ) → d < 2 →
+  coordinates_back : (l : List ℤ) → length l ≡ point_limit → (d : ℕ) → d < 2 →
       ((k : ℕ) → coordinate m (2 * k + d) ≡ get_or l k (pos 0)) →
-      coordinates-in-file file (count-in-file file) d ≡ l
-  coordinates-back l whole d h same =
-      let c = count-back in
-      until-table (pos 0) l whole (count-in-file file) (λ k. coordinate-in-file file (2 * k + d)) (λ k. pos 0)
-      (λ k i b. coordinate-back (2 * k + d) (omega arith) ∙ same k)
-      (λ k i b. coordinate-past k d h (omega arith) ∙ same k)
+      coordinates_in_file file (count_in_file file) d ≡ l
+  coordinates_back l whole d h same =
+      let c = count_back in
+      until_table (pos 0) l whole (count_in_file file) (λ k. coordinate_in_file file (2 * k + d)) (λ k. pos 0)
+      (λ k i b. coordinate_back (2 * k + d) (omega arith) ∙ same k)
+      (λ k i b. coordinate_past k d h (omega arith) ∙ same k)
 
-  xs-back : coordinates-in-file file (count-in-file file) 0 ≡ m.xs
-  xs-back = coordinates-back m.xs s.points.xs-whole 0 (omega arith) (x-coordinate m)
+  xs_back : coordinates_in_file file (count_in_file file) 0 ≡ m.xs
+  xs_back = coordinates_back m.xs s.points.xs_whole 0 (omega arith) (x_coordinate m)
 
-  ys-back : coordinates-in-file file (count-in-file file) 1 ≡ m.ys
-  ys-back = coordinates-back m.ys s.points.ys-whole 1 (omega arith) (y-coordinate m)
+  ys_back : coordinates_in_file file (count_in_file file) 1 ≡ m.ys
+  ys_back = coordinates_back m.ys s.points.ys_whole 1 (omega arith) (y_coordinate m)
 
   -- the points
-  pub points-back : points-in-file file ≡ map-points m
+  pub points_back : points_in_file file ≡ map_points m
   unfolding point
-  points-back = λ i. table (count-back i) (point_at (xs-back i) (ys-back i))
+  points_back = λ i. table (count_back i) (point_at (xs_back i) (ys_back i))
 
-  helpers-back : helpers-in-file file (count-in-file file) ≡ m.helpers
-  unfolding has-helper
-  helpers-back =
-      let c = count-back in
-      until-table false m.helpers s.links.helpers-whole (count-in-file file)
-      (λ k. eqb (helper-in-file file (count-in-file file) k) 1)
+  helpers_back : helpers_in_file file (count_in_file file) ≡ m.helpers
+  unfolding has_helper
+  helpers_back =
+      let c = count_back in
+      until_table false m.helpers s.links.helpers_whole (count_in_file file)
+      (λ k. eqb (helper_in_file file (count_in_file file) k) 1)
       (λ k. false)
-      (λ k i l. ap (λ (b : ℕ). eqb b 1) (helper-back k (omega arith)) ∙ one-if-is (has-helper m k))
-      (λ k i l. sym (is_false (has-helper m k) (λ h. omega (arith, s.links.owned k h))))
+      (λ k i l. ap (λ (b : ℕ). eqb b 1) (helper_back k (omega arith)) ∙ one_if_is (has_helper m k))
+      (λ k i l. sym (is_false (has_helper m k) (λ h. omega (arith, s.links.owned k h))))
 
-  links-back : links-in-file file (count-in-file file) ≡ m.edge
-  unfolding edge-link
-  links-back =
-      let c = count-back in
-      let w = s.links.edge-whole in
-      until-table 0 m.edge w (own (count-in-file file)) (link-in-file file (count-in-file file)) (λ d. d)
-      (λ d i l. link-back d (omega arith) ∙ get_d_any m.edge d d 0 (omega arith))
+  links_back : links_in_file file (count_in_file file) ≡ m.edge
+  unfolding edge_link
+  links_back =
+      let c = count_back in
+      let w = s.links.edge_whole in
+      until_table 0 m.edge w (own (count_in_file file)) (link_in_file file (count_in_file file)) (λ d. d)
+      (λ d i l. link_back d (omega arith) ∙ get_d_any m.edge d d 0 (omega arith))
       (λ d i l.
-      sym (s.links.absent d (λ t. omega (arith, present-below m d t)))
+      sym (s.links.absent d (λ t. omega (arith, present_below m d t)))
       ∙ get_d_any m.edge d d 0 (omega arith))
 
   -- the notes, where the version has some
-  arrivals-back : v ≢ old-version → arrivals-in-file file (count-in-file file) ≡ m.arrivals
+  arrivals_back : v ≢ old_version → arrivals_in_file file (count_in_file file) ≡ m.arrivals
   unfolding note
-  arrivals-back e =
-      let c = count-back in
-      until-table 0 m.arrivals s.notes.arrivals-whole (count-in-file file)
-      (arrival-in-file file (count-in-file file)) (λ k. 0)
-      (λ k i l. arrival-back e k (omega arith))
+  arrivals_back e =
+      let c = count_back in
+      until_table 0 m.arrivals s.notes.arrivals_whole (count_in_file file)
+      (arrival_in_file file (count_in_file file)) (λ k. 0)
+      (λ k i l. arrival_back e k (omega arith))
       (λ k i l. sym (ap (λ (a : Note). a.arrival) (s.notes.unnoted k (omega arith))))
 
-  lefts-back : v ≢ old-version → lefts-in-file file (count-in-file file) ≡ m.lefts
+  lefts_back : v ≢ old_version → lefts_in_file file (count_in_file file) ≡ m.lefts
   unfolding note
-  lefts-back e =
-      let c = count-back in
-      until-table no-dart m.lefts s.notes.lefts-whole (count-in-file file)
-      (left-in-file file (count-in-file file)) (λ k. no-dart)
+  lefts_back e =
+      let c = count_back in
+      until_table no_dart m.lefts s.notes.lefts_whole (count_in_file file)
+      (left_in_file file (count_in_file file)) (λ k. no_dart)
       (λ k i l. left_back e k (omega arith))
       (λ k i l. sym (ap (λ (a : Note). a.left) (s.notes.unnoted k (omega arith))))
 
-  rights-back : v ≢ old-version → rights-in-file file (count-in-file file) ≡ m.rights
+  rights_back : v ≢ old_version → rights_in_file file (count_in_file file) ≡ m.rights
   unfolding note
-  rights-back e =
-      let c = count-back in
-      until-table no-dart m.rights s.notes.rights-whole (count-in-file file)
-      (right-in-file file (count-in-file file)) (λ k. no-dart)
-      (λ k i l. right-back e k (omega arith))
+  rights_back e =
+      let c = count_back in
+      until_table no_dart m.rights s.notes.rights_whole (count_in_file file)
+      (right_in_file file (count_in_file file)) (λ k. no_dart)
+      (λ k i l. right_back e k (omega arith))
       (λ k i l. sym (ap (λ (a : Note). a.right) (s.notes.unnoted k (omega arith))))
 
   -- the old version has none: there the map must be the one that its points build
-  module _ (builds : v ≡ old-version → m ≡ built empty-map (map-points m)) where
+  module _ (builds : v ≡ old_version → m ≡ built empty_map (map_points m)) where
     -- an array of notes, read or rebuilt
-    noted_back : (array : Map → List ℕ) {read : List ℕ} → (v ≢ old-version → read ≡ array m) →
-        by-version file (array (built-in-file file)) read ≡ array m
+    noted_back : (array : Map → List ℕ) {read : List ℕ} → (v ≢ old_version → read ≡ array m) →
+        by_version file (array (built_in_file file)) read ≡ array m
     noted_back array found =
         ⊎_elim
-        (λ (e : v ≡ old-version).
-        rw (eq-eqb (number_at file version-place 1) old-version (version-back ∙ e))
-        (ap array (ap (built empty-map) points-back ∙ sym (builds e))))
-        (λ (e : v ≢ old-version).
-        rw (ne_eqb (number_at file version-place 1) old-version (λ o. e (sym version-back ∙ o))) (found e))
-        (same_or_not v old-version)
+        (λ (e : v ≡ old_version).
+        rw (eq-eqb (number_at file version_place 1) old_version (version_back ∙ e))
+        (ap array (ap (built empty_map) points_back ∙ sym (builds e))))
+        (λ (e : v ≢ old_version).
+        rw (ne_eqb (number_at file version_place 1) old_version (λ o. e (sym version_back ∙ o))) (found e))
+        (same_or_not v old_version)
 
-    pub map_back : map-in file ≡ m
-    unfolding map-in
+    pub map_back : map_in file ≡ m
+    unfolding map_in
     map_back =
-        same-fields xs-back ys-back helpers-back links-back
-        (noted_back (λ n. n.arrivals) arrivals-back)
-        (noted_back (λ n. n.lefts) lefts-back)
-        (noted_back (λ n. n.rights) rights-back)
-        count-back
-        (reference-read v m (reference-small s))
+        same_fields xs_back ys_back helpers_back links_back
+        (noted_back (λ n. n.arrivals) arrivals_back)
+        (noted_back (λ n. n.lefts) lefts_back)
+        (noted_back (λ n. n.rights) rights_back)
+        count_back
+        (reference_read v m (reference_small s))
 
 -- ---- no reader takes a file of another version for one of its own
 
-pub other-reader-7 : (v w : ℕ) → v < 256 → v ≢ w → (m : Map) → ¬ T (file-in-form-of w (saved-in v m))
-other-reader-7 v w small e m t = e (sym (version-read v m small) ∙ (form-holds w (saved-in v m) t).version-right)
+pub other_reader_7 : (v w : ℕ) → v < 256 → v ≢ w → (m : Map) → ¬ T (file_in_form_of w (saved_in v m))
+other_reader_7 v w small e m t = e (sym (version_read v m small) ∙ (form_holds w (saved_in v m) t).version_right)
 
 -- the reader of version 1 refuses what is saved now
-pub old-reader-7 : (m : Map) → ¬ T (file-in-form-of old-version (saved m))
-old-reader-7 = other-reader-7 version old-version (omega arith) (λ e. omega arith)
+pub old_reader_7 : (m : Map) → ¬ T (file_in_form_of old_version (saved m))
+old_reader_7 = other_reader_7 version old_version (omega arith) (λ e. omega arith)
 
 -- ---- the bytes of the map of a file in form are the file
 
@@ -289,119 +289,119 @@ old-reader-7 = other-reader-7 version old-version (omega arith) (λ e. omega ari
 joined : (s : List ℕ) (a b c : ℕ) → a + b ≡ c → take a s ++ take b (drop a s) ≡ take c s
 joined s a b c e = sym (take-add a b s) ∙ ap (λ (j : ℕ). take j s) e
 
-bit_is : (b : ℕ) → b ≤ 1 → one-if (eqb b 1) ≡ b
-unfolding one-if
+bit_is : (b : ℕ) → b ≤ 1 → one_if (eqb b 1) ≡ b
+unfolding one_if
 bit_is b l =
     ⊎_elim (λ (e : b ≡ 1). rw (eq-eqb b 1 e) (sym e)) (λ e. rw (ne_eqb b 1 e) (omega arith))
     (same_or_not b 1)
 
 module _ {v : ℕ} {s : List ℕ} (b : Bytes s) (f : Form v s) where
-  coordinate-held : (k d : ℕ) → k < count-in-file s →
-      get_or (coordinates-in-file s (count-in-file s) d) k (pos 0) ≡ coordinate-in-file s (2 * k + d)
-  coordinate-held k d l =
-      until-at point-limit (count-in-file s) (λ j. coordinate-in-file s (2 * j + d)) (λ j. pos 0) k
+  coordinate_held : (k d : ℕ) → k < count_in_file s →
+      get_or (coordinates_in_file s (count_in_file s) d) k (pos 0) ≡ coordinate_in_file s (2 * k + d)
+  coordinate_held k d l =
+      until_at point_limit (count_in_file s) (λ j. coordinate_in_file s (2 * j + d)) (λ j. pos 0) k
       (pos 0) f.few l
 
-  coordinate-is : (i : ℕ) → i < 2 * count-in-file s →
-      coordinate (map-in s) i ≡ coordinate-in-file s i
-  unfolding coordinate point map-in
-  coordinate-is i l =
-      let k : i / 2 < count-in-file s = omega arith in
+  coordinate_is : (i : ℕ) → i < 2 * count_in_file s →
+      coordinate (map_in s) i ≡ coordinate_in_file s i
+  unfolding coordinate point map_in
+  coordinate_is i l =
+      let k : i / 2 < count_in_file s = omega arith in
       ⊎_elim
       (λ (e : i % 2 ≡ 0).
       let h : 2 * (i / 2) + 0 ≡ i = omega arith in
-      rw (eq-eqb (i % 2) 0 e) (coordinate-held (i / 2) 0 k ∙ ap (coordinate-in-file s) h))
+      rw (eq-eqb (i % 2) 0 e) (coordinate_held (i / 2) 0 k ∙ ap (coordinate_in_file s) h))
       (λ (e : i % 2 ≢ 0).
       let h : 2 * (i / 2) + 1 ≡ i = omega arith in
-      rw (ne_eqb (i % 2) 0 e) (coordinate-held (i / 2) 1 k ∙ ap (coordinate-in-file s) h))
+      rw (ne_eqb (i % 2) 0 e) (coordinate_held (i / 2) 1 k ∙ ap (coordinate_in_file s) h))
       (same_or_not (i % 2) 0)
 
-  coordinate-written : (i : ℕ) → i < 2 * count-in-file s →
-      complement (coordinate (map-in s) i) ≡ field s coordinates-place 4 i
-  coordinate-written i l =
-      ap complement (coordinate-is i l)
-      ∙ complement-signed (field s coordinates-place 4 i)
-      (number_small b (coordinates-place + 4 * i) 4)
+  coordinate_written : (i : ℕ) → i < 2 * count_in_file s →
+      complement (coordinate (map_in s) i) ≡ field s coordinates_place 4 i
+  coordinate_written i l =
+      ap complement (coordinate_is i l)
+      ∙ complement_signed (field s coordinates_place 4 i)
+      (number_small b (coordinates_place + 4 * i) 4)
 
-  helper-written : (k : ℕ) → k < count-in-file s →
-      one-if (has-helper (map-in s) k) ≡ helper-in-file s (count-in-file s) k
-  unfolding has-helper map-in
-  helper-written k l =
-      ap one-if
-      (until-at point-limit (count-in-file s) (λ j. eqb (helper-in-file s (count-in-file s) j) 1)
+  helper_written : (k : ℕ) → k < count_in_file s →
+      one_if (has_helper (map_in s) k) ≡ helper_in_file s (count_in_file s) k
+  unfolding has_helper map_in
+  helper_written k l =
+      ap one_if
+      (until_at point_limit (count_in_file s) (λ j. eqb (helper_in_file s (count_in_file s) j) 1)
       (λ j. false) k false f.few l)
-      ∙ bit_is (helper-in-file s (count-in-file s) k) (f.helpers-right k l)
+      ∙ bit_is (helper_in_file s (count_in_file s) k) (f.helpers_right k l)
 
-  link-written : (d : ℕ) → d < 2 * count-in-file s →
-      edge-link (map-in s) d ≡ link-in-file s (count-in-file s) d
-  unfolding edge-link map-in
-  link-written d l =
-      until-at dart-limit (own (count-in-file s)) (link-in-file s (count-in-file s)) (λ e. e) d d
+  link_written : (d : ℕ) → d < 2 * count_in_file s →
+      edge_link (map_in s) d ≡ link_in_file s (count_in_file s) d
+  unfolding edge_link map_in
+  link_written d l =
+      until_at dart_limit (own (count_in_file s)) (link_in_file s (count_in_file s)) (λ e. e) d d
       (omega (arith, f.few)) l
 
   -- what is noted of a point, where the version has notes
-  note-written : (k : ℕ) → k < noted_in v (count-in-file s) →
-      packed-note (map-in s) k ≡ field s (notes-place (count-in-file s)) 5 k
-  unfolding packed-note note map-in
-  note-written k h =
-      let n = count-in-file s in
-      let below = noted-below v n k h in
+  note_written : (k : ℕ) → k < noted_in v (count_in_file s) →
+      packed_note (map_in s) k ≡ field s (notes_place (count_in_file s)) 5 k
+  unfolding packed_note note map_in
+  note_written k h =
+      let n = count_in_file s in
+      let below = noted_below v n k h in
       let l = below.1 in
       rw (
-        ne_eqb (number_at s version-place 1) old-version (λ o. below.0 (sym f.version-right ∙ o)),
-        until-at point-limit n (arrival-in-file s n) (λ j. 0) k 0 f.few l,
-        until-at point-limit n (left-in-file s n) (λ j. no-dart) k no-dart f.few l,
-        until-at point-limit n (right-in-file s n) (λ j. no-dart) k no-dart f.few l,
+        ne_eqb (number_at s version_place 1) old_version (λ o. below.0 (sym f.version_right ∙ o)),
+        until_at point_limit n (arrival_in_file s n) (λ j. 0) k 0 f.few l,
+        until_at point_limit n (left_in_file s n) (λ j. no_dart) k no_dart f.few l,
+        until_at point_limit n (right_in_file s n) (λ j. no_dart) k no_dart f.few l,
       )
-      (sym (groups-read s (notes-place n + 5 * k)))
+      (sym (groups_read s (notes_place n + 5 * k)))
 
-  notes-written :
-      notes-in v (map-in s) ≡ take (notes-length v (count-in-file s)) (drop (notes-place (count-in-file s)) s)
-  unfolding map-in
-  notes-written =
+  notes_written :
+      notes_in v (map_in s) ≡ take (notes_length v (count_in_file s)) (drop (notes_place (count_in_file s)) s)
+  unfolding map_in
+  notes_written =
       let w = f.whole in
-      let n = count-in-file s in
-      let length-is = noted-length v n in
-      notes-block v (map-in s)
-      ∙ (block_same (noted_in v n) 5 _ _ note-written
-      ∙ block_back b (notes-place n) (noted_in v n) 5 (omega arith)
-      ∙ ap (λ (j : ℕ). take j (drop (notes-place n) s)) (sym length-is))
+      let n = count_in_file s in
+      let length_is = noted_length v n in
+      notes_block v (map_in s)
+      ∙ (block_same (noted_in v n) 5 _ _ note_written
+      ∙ block_back b (notes_place n) (noted_in v n) 5 (omega arith)
+      ∙ ap (λ (j : ℕ). take j (drop (notes_place n) s)) (sym length_is))
 
-  header-written : header v (count-in-file s) (number_at s reference-place 2) ≡ take header-length s
+  header_written : header v (count_in_file s) (number_at s reference_place 2) ≡ take header_length s
   unfolding header
-  header-written =
+  header_written =
       let w = f.whole in
       ap₂ ◌++◌
       (ap₂ ◌++◌
-      (ap₂ ◌++◌ (ap (big_endian 4) (sym f.length-right) ∙ bytes_back b 0 4 (omega arith))
-      (ap (big_endian 1) (sym f.version-right) ∙ bytes_back b version-place 1 (omega arith))
-      ∙ joined s version-place 1 count-place refl)
-      (bytes_back b count-place 2 (omega arith))
-      ∙ joined s count-place 2 reference-place refl)
-      (bytes_back b reference-place 2 (omega arith))
-      ∙ joined s reference-place 2 header-length refl
+      (ap₂ ◌++◌ (ap (big_endian 4) (sym f.length_right) ∙ bytes_back b 0 4 (omega arith))
+      (ap (big_endian 1) (sym f.version_right) ∙ bytes_back b version_place 1 (omega arith))
+      ∙ joined s version_place 1 count_place refl)
+      (bytes_back b count_place 2 (omega arith))
+      ∙ joined s count_place 2 reference_place refl)
+      (bytes_back b reference_place 2 (omega arith))
+      ∙ joined s reference_place 2 header_length refl
 
-  pub file-back : saved-in v (map-in s) ≡ s
-  unfolding saved-in map-in
-  file-back =
+  pub file_back : saved_in v (map_in s) ≡ s
+  unfolding saved_in map_in
+  file_back =
       let w = f.whole in
-      let n = count-in-file s in
+      let n = count_in_file s in
       ap₂ ◌++◌
       (ap₂ ◌++◌
       (ap₂ ◌++◌
-      (ap₂ ◌++◌ header-written
-      (block_same (2 * n) 4 _ _ coordinate-written
-      ∙ block_back b coordinates-place (2 * n) 4 (omega arith))
-      ∙ joined s header-length (4 * (2 * n)) (helpers-place n) (omega arith))
-      (block_same n 1 _ _ helper-written ∙ block_back b (helpers-place n) n 1 (omega arith))
-      ∙ joined s (helpers-place n) (1 * n) (links-place n) (omega arith))
-      (block_same (2 * n) 2 _ _ link-written ∙ block_back b (links-place n) (2 * n) 2 (omega arith))
-      ∙ joined s (links-place n) (2 * (2 * n)) (notes-place n) (omega arith))
-      notes-written
-      ∙ joined s (notes-place n) (notes-length v n) (length s) (sym w)
+      (ap₂ ◌++◌ header_written
+      (block_same (2 * n) 4 _ _ coordinate_written
+      ∙ block_back b coordinates_place (2 * n) 4 (omega arith))
+      ∙ joined s header_length (4 * (2 * n)) (helpers_place n) (omega arith))
+      (block_same n 1 _ _ helper_written ∙ block_back b (helpers_place n) n 1 (omega arith))
+      ∙ joined s (helpers_place n) (1 * n) (links_place n) (omega arith))
+      (block_same (2 * n) 2 _ _ link_written ∙ block_back b (links_place n) (2 * n) 2 (omega arith))
+      ∙ joined s (links_place n) (2 * (2 * n)) (notes_place n) (omega arith))
+      notes_written
+      ∙ joined s (notes_place n) (notes_length v n) (length s) (sym w)
       ∙ take-length s
 
 -- the points of a file are those of its map
-pub points-in : (s : List ℕ) → points-in-file s ≡ map-points (map-in s)
-unfolding map-in point
-points-in s = refl
+pub points_in : (s : List ℕ) → points_in_file s ≡ map_points (map_in s)
+unfolding map_in point
+points_in s = refl

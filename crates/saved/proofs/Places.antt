@@ -9,41 +9,41 @@ use native.Mathlib.Omega.{arith}
 use borrow.Author.Tests.{eq-eqb, ne_eqb}
 use lib.ListN.{length, length-append}
 use Rattle.finite.specs.Tests.{same_or_not}
-use Rattle.finite.specs.Bounded.{one-if, table, table-onto}
+use Rattle.finite.specs.Bounded.{one_if, table, table_onto}
 use Rattle.model.specs.declared.Map.{Map}
-use Rattle.model.specs.Maps.{point-limit, has-helper, edge-link}
-use Rattle.model.specs.Saved.{version, old-version, big_endian, number_at, complement, block, field}
-use Rattle.model.specs.Saved.{version-place, count-place, reference-place, header-length}
-use Rattle.model.specs.Saved.{coordinates-place, helpers-place, links-place, notes-place, notes-length}
-use Rattle.model.specs.Saved.{saved-length, following, coordinate, header, packed-note, notes-in}
-use Rattle.model.specs.Saved.{saved-in, saved, count-in-file}
+use Rattle.model.specs.Maps.{point_limit, has_helper, edge_link}
+use Rattle.model.specs.Saved.{version, old_version, big_endian, number_at, complement, block, field}
+use Rattle.model.specs.Saved.{version_place, count_place, reference_place, header_length}
+use Rattle.model.specs.Saved.{coordinates_place, helpers_place, links_place, notes_place, notes_length}
+use Rattle.model.specs.Saved.{saved_length, following, coordinate, header, packed_note, notes_in}
+use Rattle.model.specs.Saved.{saved_in, saved, count_in_file}
 use Rattle.saved.specs.Fields.{unnoted, noted_in}
-use Rattle.layout.proofs.Form.{notes-short}
-use Rattle.layout.proofs.Blocks.{length-block, number-placed, block-part, block-placed}
+use Rattle.layout.proofs.Form.{notes_short}
+use Rattle.layout.proofs.Blocks.{length_block, number_placed, block_part, block_placed}
 
 -- of how many points a version has notes
-pub noted-length : (v n : ℕ) → notes-length v n ≡ 5 * noted_in v n
-unfolding notes-length
-noted-length v n =
-    ⊎_elim (λ (e : v ≡ old-version). rw (eq-eqb v old-version e))
-    (λ (e : v ≢ old-version). rw (ne_eqb v old-version e))
-    (same_or_not v old-version)
+pub noted_length : (v n : ℕ) → notes_length v n ≡ 5 * noted_in v n
+unfolding notes_length
+noted_length v n =
+    ⊎_elim (λ (e : v ≡ old_version). rw (eq-eqb v old_version e))
+    (λ (e : v ≢ old_version). rw (ne_eqb v old_version e))
+    (same_or_not v old_version)
 
-pub noted-all : (v n : ℕ) → v ≢ old-version → noted_in v n ≡ n
-noted-all v n e = rw (ne_eqb v old-version e)
+pub noted_all : (v n : ℕ) → v ≢ old_version → noted_in v n ≡ n
+noted_all v n e = rw (ne_eqb v old_version e)
 
-pub noted-most : (v n : ℕ) → noted_in v n ≤ n
-noted-most v n =
-    ⊎_elim (λ (e : v ≡ old-version). rw (eq-eqb v old-version e) (omega arith))
-    (λ (e : v ≢ old-version). rw (ne_eqb v old-version e) (omega arith))
-    (same_or_not v old-version)
+pub noted_most : (v n : ℕ) → noted_in v n ≤ n
+noted_most v n =
+    ⊎_elim (λ (e : v ≡ old_version). rw (eq-eqb v old_version e) (omega arith))
+    (λ (e : v ≢ old_version). rw (ne_eqb v old_version e) (omega arith))
+    (same_or_not v old_version)
 
-pub noted-below : (v n k : ℕ) → k < noted_in v n → (v ≢ old-version) × (k < n)
-noted-below v n k l =
+pub noted_below : (v n k : ℕ) → k < noted_in v n → (v ≢ old_version) × (k < n)
+noted_below v n k l =
     ⊎_elim
-    (λ (e : v ≡ old-version). let z = rw (eq-eqb v old-version e) at l in absurd (omega arith))
-    (λ (e : v ≢ old-version). (e, rw (ne_eqb v old-version e) at l))
-    (same_or_not v old-version)
+    (λ (e : v ≡ old_version). let z = rw (eq-eqb v old_version e) at l in absurd (omega arith))
+    (λ (e : v ≢ old_version). (e, rw (ne_eqb v old_version e) at l))
+    (same_or_not v old_version)
 
 module _ (v : ℕ) (m : Map) where
   abbrev n : ℕ
@@ -65,129 +65,129 @@ module _ (v : ℕ) (m : Map) where
   coordinates = block (2 * n) 4 (λ i. complement (coordinate m i))
 
   abbrev helpers : List ℕ
-  helpers = block n 1 (λ k. one-if (has-helper m k))
+  helpers = block n 1 (λ k. one_if (has_helper m k))
 
   abbrev links : List ℕ
-  links = block (2 * n) 2 (edge-link m)
+  links = block (2 * n) 2 (edge_link m)
 
   abbrev notes : List ℕ
-  notes = notes-in v m
+  notes = notes_in v m
 
   -- they are a block of as many as the version has notes of
-  pub notes-block : notes ≡ block (noted_in v n) 5 (packed-note m)
-  unfolding notes-in block table table-onto flatten
-  notes-block =
-      ⊎_elim (λ (e : v ≡ old-version). rw (eq-eqb v old-version e))
-      (λ (e : v ≢ old-version). rw (ne_eqb v old-version e))
-      (same_or_not v old-version)
+  pub notes_block : notes ≡ block (noted_in v n) 5 (packed_note m)
+  unfolding notes_in block table table_onto flatten
+  notes_block =
+      ⊎_elim (λ (e : v ≡ old_version). rw (eq-eqb v old_version e))
+      (λ (e : v ≢ old_version). rw (ne_eqb v old_version e))
+      (same_or_not v old_version)
 
-  length-notes : length notes ≡ notes-length v n
-  length-notes =
-      ap length notes-block ∙ length-block (noted_in v n) 5 (packed-note m) ∙ sym (noted-length v n)
+  length_notes : length notes ≡ notes_length v n
+  length_notes =
+      ap length notes_block ∙ length_block (noted_in v n) 5 (packed_note m) ∙ sym (noted_length v n)
 
-  pub length-header : length (header v n m.reference) ≡ header-length
+  pub length_header : length (header v n m.reference) ≡ header_length
   unfolding header big_endian
-  length-header = refl
+  length_header = refl
 
-  pub length-unnoted : length (unnoted v m) ≡ notes-place n
+  pub length_unnoted : length (unnoted v m) ≡ notes_place n
   unfolding unnoted
-  length-unnoted =
+  length_unnoted =
       simp length-append
       (omega (
         arith,
-        length-header,
-        length-block (2 * n) 4 (λ i. complement (coordinate m i)),
-        length-block n 1 (λ k. one-if (has-helper m k)),
-        length-block (2 * n) 2 (edge-link m),
+        length_header,
+        length_block (2 * n) 4 (λ i. complement (coordinate m i)),
+        length_block n 1 (λ k. one_if (has_helper m k)),
+        length_block (2 * n) 2 (edge_link m),
       ))
 
-  pub length-saved-in : length (saved-in v m) ≡ saved-length v n
-  unfolding saved-in unnoted
-  length-saved-in = length-append (unnoted v m) notes ∙ omega (arith, length-unnoted, length-notes)
+  pub length_saved_in : length (saved_in v m) ≡ saved_length v n
+  unfolding saved_in unnoted
+  length_saved_in = length-append (unnoted v m) notes ∙ omega (arith, length_unnoted, length_notes)
 
-  pub length-read : n ≤ point-limit → number_at (saved-in v m) 0 4 ≡ following v n
-  unfolding saved-in header
-  length-read l =
+  pub length_read : n ≤ point_limit → number_at (saved_in v m) 0 4 ≡ following v n
+  unfolding saved_in header
+  length_read l =
       subst (λ (s : List ℕ). number_at s 0 4 ≡ following v n)
       (simp append_assoc)
-      (number-placed [] (versions
+      (number_placed [] (versions
       ++ (counts ++ (references ++ (coordinates ++ (helpers ++ (links ++ notes)))))) 0 4 (following v n) refl
-      (omega (arith, notes-short v n)))
+      (omega (arith, notes_short v n)))
 
-  pub version-read : v < 256 → number_at (saved-in v m) version-place 1 ≡ v
-  unfolding saved-in header big_endian
-  version-read l =
-      subst (λ (s : List ℕ). number_at s version-place 1 ≡ v)
+  pub version_read : v < 256 → number_at (saved_in v m) version_place 1 ≡ v
+  unfolding saved_in header big_endian
+  version_read l =
+      subst (λ (s : List ℕ). number_at s version_place 1 ≡ v)
       (simp append_assoc)
-      (number-placed lengths (counts ++ (references ++ (coordinates ++ (helpers ++ (links ++ notes)))))
-      version-place 1 v refl (omega arith))
+      (number_placed lengths (counts ++ (references ++ (coordinates ++ (helpers ++ (links ++ notes)))))
+      version_place 1 v refl (omega arith))
 
-  pub count-read : n ≤ point-limit → count-in-file (saved-in v m) ≡ n
-  unfolding saved-in header big_endian
-  count-read l =
-      subst (λ (s : List ℕ). count-in-file s ≡ n)
+  pub count_read : n ≤ point_limit → count_in_file (saved_in v m) ≡ n
+  unfolding saved_in header big_endian
+  count_read l =
+      subst (λ (s : List ℕ). count_in_file s ≡ n)
       (simp append_assoc)
-      (number-placed (lengths ++ versions) (references ++ (coordinates ++ (helpers ++ (links ++ notes))))
-      count-place 2 n refl (omega arith))
+      (number_placed (lengths ++ versions) (references ++ (coordinates ++ (helpers ++ (links ++ notes))))
+      count_place 2 n refl (omega arith))
 
-  pub reference-read : m.reference < 256 ^ 2 →
-      number_at (saved-in v m) reference-place 2 ≡ m.reference
-  unfolding saved-in header big_endian
-  reference-read l =
-      subst (λ (s : List ℕ). number_at s reference-place 2 ≡ m.reference)
+  pub reference_read : m.reference < 256 ^ 2 →
+      number_at (saved_in v m) reference_place 2 ≡ m.reference
+  unfolding saved_in header big_endian
+  reference_read l =
+      subst (λ (s : List ℕ). number_at s reference_place 2 ≡ m.reference)
       (simp append_assoc)
-      (number-placed (lengths ++ versions ++ counts) (coordinates ++ (helpers ++ (links ++ notes)))
-      reference-place 2 m.reference refl l)
+      (number_placed (lengths ++ versions ++ counts) (coordinates ++ (helpers ++ (links ++ notes)))
+      reference_place 2 m.reference refl l)
 
-  pub coordinate-read : (i : ℕ) → i < 2 * n → complement (coordinate m i) < 256 ^ 4 →
-      field (saved-in v m) coordinates-place 4 i ≡ complement (coordinate m i)
-  unfolding saved-in
-  coordinate-read i l h =
-      subst (λ (s : List ℕ). field s coordinates-place 4 i ≡ complement (coordinate m i))
+  pub coordinate_read : (i : ℕ) → i < 2 * n → complement (coordinate m i) < 256 ^ 4 →
+      field (saved_in v m) coordinates_place 4 i ≡ complement (coordinate m i)
+  unfolding saved_in
+  coordinate_read i l h =
+      subst (λ (s : List ℕ). field s coordinates_place 4 i ≡ complement (coordinate m i))
       (simp append_assoc)
-      (block-placed (header v n m.reference) (helpers ++ (links ++ notes)) coordinates-place (2 * n) 4
-      (λ j. complement (coordinate m j)) length-header i l h)
+      (block_placed (header v n m.reference) (helpers ++ (links ++ notes)) coordinates_place (2 * n) 4
+      (λ j. complement (coordinate m j)) length_header i l h)
 
-  pub helper-read : (k : ℕ) → k < n → one-if (has-helper m k) < 256 ^ 1 →
-      field (saved-in v m) (helpers-place n) 1 k ≡ one-if (has-helper m k)
-  unfolding saved-in
-  helper-read k l h =
-      subst (λ (s : List ℕ). field s (helpers-place n) 1 k ≡ one-if (has-helper m k))
+  pub helper_read : (k : ℕ) → k < n → one_if (has_helper m k) < 256 ^ 1 →
+      field (saved_in v m) (helpers_place n) 1 k ≡ one_if (has_helper m k)
+  unfolding saved_in
+  helper_read k l h =
+      subst (λ (s : List ℕ). field s (helpers_place n) 1 k ≡ one_if (has_helper m k))
       (simp append_assoc)
-      (block-placed (header v n m.reference ++ coordinates) (links ++ notes) (helpers-place n) n 1
-      (λ j. one-if (has-helper m j))
+      (block_placed (header v n m.reference ++ coordinates) (links ++ notes) (helpers_place n) n 1
+      (λ j. one_if (has_helper m j))
       (length-append (header v n m.reference) coordinates ∙ omega
-      (arith, length-header, length-block (2 * n) 4 (λ i. complement (coordinate m i))))
+      (arith, length_header, length_block (2 * n) 4 (λ i. complement (coordinate m i))))
       k l h)
 
-  pub link-read : (d : ℕ) → d < 2 * n → edge-link m d < 256 ^ 2 →
-      field (saved-in v m) (links-place n) 2 d ≡ edge-link m d
-  unfolding saved-in
-  link-read d l h =
-      subst (λ (s : List ℕ). field s (links-place n) 2 d ≡ edge-link m d)
+  pub link_read : (d : ℕ) → d < 2 * n → edge_link m d < 256 ^ 2 →
+      field (saved_in v m) (links_place n) 2 d ≡ edge_link m d
+  unfolding saved_in
+  link_read d l h =
+      subst (λ (s : List ℕ). field s (links_place n) 2 d ≡ edge_link m d)
       (simp append_assoc)
-      (block-placed (header v n m.reference ++ coordinates ++ helpers) notes (links-place n)
-      (2 * n) 2 (edge-link m)
+      (block_placed (header v n m.reference ++ coordinates ++ helpers) notes (links_place n)
+      (2 * n) 2 (edge_link m)
       (simp length-append (omega (
         arith,
-        length-header,
-        length-block (2 * n) 4 (λ i. complement (coordinate m i)),
-        length-block n 1 (λ k. one-if (has-helper m k)),
+        length_header,
+        length_block (2 * n) 4 (λ i. complement (coordinate m i)),
+        length_block n 1 (λ k. one_if (has_helper m k)),
       )))
       d l h)
 
   -- the d bytes from byte j on of what is noted of point k
-  pub note-read : (k j d : ℕ) → k < noted_in v n → j + d ≤ 5 →
-      number_at (saved-in v m) (notes-place n + 5 * k + j) d ≡ number_at (big_endian 5 (packed-note m k)) j d
-  unfolding saved-in unnoted
-  note-read k j d l h =
+  pub note_read : (k j d : ℕ) → k < noted_in v n → j + d ≤ 5 →
+      number_at (saved_in v m) (notes_place n + 5 * k + j) d ≡ number_at (big_endian 5 (packed_note m k)) j d
+  unfolding saved_in unnoted
+  note_read k j d l h =
       subst
       (λ (s : List ℕ).
-      number_at s (notes-place n + 5 * k + j) d ≡ number_at (big_endian 5 (packed-note m k)) j d)
-      (simp (append_assoc, append-nil, notes-block))
-      (block-part (unnoted v m) [] (notes-place n) (noted_in v n) 5 (packed-note m) length-unnoted
+      number_at s (notes_place n + 5 * k + j) d ≡ number_at (big_endian 5 (packed_note m k)) j d)
+      (simp (append_assoc, append-nil, notes_block))
+      (block_part (unnoted v m) [] (notes_place n) (noted_in v n) 5 (packed_note m) length_unnoted
       k j d l h)
 
 -- in the version that is saved
-pub length-saved : (m : Map) → length (saved m) ≡ saved-length version m.count
-length-saved = length-saved-in version
+pub length_saved : (m : Map) → length (saved m) ≡ saved_length version m.count
+length_saved = length_saved_in version

@@ -2,11 +2,11 @@
 
 ghost use Rattle.std.specs.Prelude.{◌≡◌, ℕ, ◌≤◌, T, length};
 ghost use Rattle.finite.specs.Overwriting.{over};
-ghost use Rattle.model.specs.Plane.{in-range};
-ghost use Rattle.model.specs.Maps.{map-lent, point_at, point-limit};
+ghost use Rattle.model.specs.Plane.{in_range};
+ghost use Rattle.model.specs.Maps.{map_lent, point_at, point_limit};
 ghost use Rattle.model.specs.Shape.{Shaped};
-ghost use Rattle.model.specs.Saved.{notes-place, saved-in, saved-length};
-ghost use Rattle.saved.specs.Fields.{unnoted-by};
+ghost use Rattle.model.specs.Saved.{notes_place, saved_in, saved_length};
+ghost use Rattle.saved.specs.Fields.{unnoted_by};
 
 use layout::{HEADER_LENGTH, helpers_place, links_place, notes_place};
 use model::Map;
@@ -16,8 +16,8 @@ mod writing;
 // Writes a map in a version over the front of the lent list, which keeps its tail.
 pub fn write_map(map: Map, version: usize, lent: &mut [u8])
     requires shaped { Shaped map }
-    requires count_in_bounds { saved-length version map.count ≤ length lent.old }
-    ensures { lent.new ≡ over (saved-in version map) lent.old }
+    requires count_in_bounds { saved_length version map.count ≤ length lent.old }
+    ensures { lent.new ≡ over (saved_in version map) lent.old }
 {
     let count = map.count;
     let reference = map.reference;
@@ -50,10 +50,10 @@ pub fn write_arrays<'a>(
     version: usize,
     lent: &mut [u8],
 )
-    requires shaped { Shaped (map-lent xs ys helpers edge arrivals lefts rights count reference) }
-    requires count_in_bounds { saved-length version count ≤ length lent.old }
+    requires shaped { Shaped (map_lent xs ys helpers edge arrivals lefts rights count reference) }
+    requires count_in_bounds { saved_length version count ≤ length lent.old }
     ensures { lent.new ≡
-        over (saved-in version (map-lent xs.entry ys.entry helpers.entry edge.entry arrivals.entry
+        over (saved_in version (map_lent xs.entry ys.entry helpers.entry edge.entry arrivals.entry
         lefts.entry rights.entry count reference)) lent.old }
 {
     write_unnoted(xs, ys, helpers, edge, count, reference, version, lent);
@@ -73,10 +73,10 @@ fn write_unnoted<'a>(
     version: usize,
     lent: &mut [u8],
 )
-    requires by_index { (k : ℕ) → T (in-range (point_at xs.now ys.now k)) }
-    requires count_le_point_limit { (count ≤ point-limit) × (notes-place count ≤ length lent.old) }
+    requires by_index { (k : ℕ) → T (in_range (point_at xs.now ys.now k)) }
+    requires count_le_point_limit { (count ≤ point_limit) × (notes_place count ≤ length lent.old) }
     ensures { lent.new ≡
-        over (unnoted-by version xs.now ys.now helpers.now edge.now count reference)
+        over (unnoted_by version xs.now ys.now helpers.now edge.now count reference)
         lent.old }
 {
     writing::write_header(version, count, reference, lent);

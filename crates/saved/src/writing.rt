@@ -2,12 +2,12 @@
 
 ghost use Rattle.std.specs.Prelude.{◌≡◌, ℕ, ◌+◌, ◌*◌, ◌≤◌, T, length};
 ghost use Rattle.finite.specs.Overwriting.{over};
-ghost use Rattle.model.specs.Plane.{in-range};
-ghost use Rattle.model.specs.Maps.{point-limit};
-ghost use Rattle.model.specs.Saved.{block, header, header-length};
-ghost use Rattle.orbits.specs.Links.{link-of};
+ghost use Rattle.model.specs.Plane.{in_range};
+ghost use Rattle.model.specs.Maps.{point_limit};
+ghost use Rattle.model.specs.Saved.{block, header, header_length};
+ghost use Rattle.orbits.specs.Links.{link_of};
 ghost use Rattle.model.specs.Maps.{point_at};
-ghost use Rattle.saved.specs.Fields.{NotesFor, coordinate-field, helper-field, note-field, noted_in};
+ghost use Rattle.saved.specs.Fields.{NotesFor, coordinate_field, helper_field, note_field, noted_in};
 
 use layout::numbers::{complement, put_number};
 use layout::{COUNT_PLACE, OLD_VERSION, REFERENCE_PLACE, VERSION_PLACE, saved_length};
@@ -19,7 +19,7 @@ const HALF_WORD: usize = 65536;
 
 // The header in a version of a map of so many points with a reference.
 pub fn write_header(version: usize, count: usize, reference: usize, lent: &mut [u8])
-    requires { (count ≤ point-limit) × (header-length ≤ length lent.old) }
+    requires { (count ≤ point_limit) × (header_length ≤ length lent.old) }
     ensures { lent.new ≡
         over (header version count reference) lent.old }
 {
@@ -32,10 +32,10 @@ pub fn write_header(version: usize, count: usize, reference: usize, lent: &mut [
 
 // The coordinates of the points, x and y in turn.
 pub fn write_coordinates<'a>(xs: &'a [i64], ys: &'a [i64], count: usize, lent: &mut [u8])
-    requires count_le_point_limit { (count ≤ point-limit) × (4 * (2 * count) ≤ length lent.old) }
-    requires by_index { (k : ℕ) → T (in-range (point_at xs.now ys.now k)) }
+    requires count_le_point_limit { (count ≤ point_limit) × (4 * (2 * count) ≤ length lent.old) }
+    requires by_index { (k : ℕ) → T (in_range (point_at xs.now ys.now k)) }
     ensures { lent.new ≡
-        over (block (2 * count) 4 (coordinate-field xs.now ys.now))
+        over (block (2 * count) 4 (coordinate_field xs.now ys.now))
         lent.old }
 {
     for i in 0..2 * count {
@@ -47,8 +47,8 @@ pub fn write_coordinates<'a>(xs: &'a [i64], ys: &'a [i64], count: usize, lent: &
 
 // What stands for coordinate i of the points.
 fn coordinate_field<'a>(xs: &'a [i64], ys: &'a [i64], i: usize) -> usize
-    requires { (k : ℕ) → T (in-range (point_at xs.now ys.now k)) }
-    ensures { result ≡ coordinate-field xs.now ys.now i }
+    requires { (k : ℕ) → T (in_range (point_at xs.now ys.now k)) }
+    ensures { result ≡ coordinate_field xs.now ys.now i }
 {
     if i % 2 == 0 {
         complement(coordinate(xs, i / 2))
@@ -59,9 +59,9 @@ fn coordinate_field<'a>(xs: &'a [i64], ys: &'a [i64], i: usize) -> usize
 
 // The helper bytes of the points.
 pub fn write_helpers(helpers: &[bool], count: usize, lent: &mut [u8])
-    requires { (count ≤ point-limit) × (count ≤ length lent.old) }
+    requires { (count ≤ point_limit) × (count ≤ length lent.old) }
     ensures { lent.new ≡
-        over (block count 1 (helper-field helpers.now)) lent.old }
+        over (block count 1 (helper_field helpers.now)) lent.old }
 {
     for k in 0..count {
         let number = helper_field(helpers, k);
@@ -71,16 +71,16 @@ pub fn write_helpers(helpers: &[bool], count: usize, lent: &mut [u8])
 
 // What stands for the helper of point k.
 fn helper_field(helpers: &[bool], k: usize) -> usize
-    ensures { result ≡ helper-field helpers.now k }
+    ensures { result ≡ helper_field helpers.now k }
 {
     if has_helper(helpers, k) { 1 } else { 0 }
 }
 
 // The edge links of the darts of the points.
 pub fn write_links(edge: &[usize], count: usize, lent: &mut [u8])
-    requires { (count ≤ point-limit) × (2 * (2 * count) ≤ length lent.old) }
+    requires { (count ≤ point_limit) × (2 * (2 * count) ≤ length lent.old) }
     ensures { lent.new ≡
-        over (block (2 * count) 2 (link-of edge.now)) lent.old }
+        over (block (2 * count) 2 (link_of edge.now)) lent.old }
 {
     for d in 0..2 * count {
         let at = 2 * d;
@@ -104,10 +104,10 @@ pub fn write_notes<'a>(
     count: usize,
     lent: &mut [u8],
 )
-    requires count_le_point_limit { (count ≤ point-limit) × (5 * count ≤ length lent.old) }
+    requires count_le_point_limit { (count ≤ point_limit) × (5 * count ≤ length lent.old) }
     requires notes_for { NotesFor arrivals.now lefts.now rights.now count }
     ensures { lent.new ≡
-        over (block count 5 (note-field arrivals.now lefts.now rights.now))
+        over (block count 5 (note_field arrivals.now lefts.now rights.now))
         lent.old }
 {
     for k in 0..count {
@@ -121,7 +121,7 @@ pub fn write_notes<'a>(
 fn note_field<'a>(arrivals: &'a [u8], lefts: &'a [u16], rights: &'a [u16], k: usize) -> usize
     requires { NotesFor arrivals.now lefts.now rights.now (k + 1) }
     ensures { result ≡
-        note-field arrivals.now lefts.now rights.now k }
+        note_field arrivals.now lefts.now rights.now k }
 {
     let arrival = arrivals[k] as usize;
     let left = lefts[k] as usize;

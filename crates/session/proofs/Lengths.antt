@@ -6,12 +6,12 @@ use native.Mathlib.Omega.{arith}
 use lib.IntN.{ℤ, pos, negsuc, nat_abs}
 use lib.ListN.{length, take, length-take}
 use Rattle.model.specs.Spelling.{spelt}
-use Rattle.printing.proofs.Decimals.{spelt-length, spelt-negative}
+use Rattle.printing.proofs.Decimals.{spelt_length, spelt_negative}
 
-pub spelt-most : (z : ℤ) → length (spelt z) ≤ 21
-spelt-most (pos n) = omega (arith, spelt-length n)
-spelt-most (negsuc n) =
-    let z = negsuc n in omega (arith, spelt-length (nat_abs z), ap length (spelt-negative z refl))
+pub spelt_most : (z : ℤ) → length (spelt z) ≤ 21
+spelt_most (pos n) = omega (arith, spelt_length n)
+spelt_most (negsuc n) =
+    let z = negsuc n in omega (arith, spelt_length (nat_abs z), ap length (spelt_negative z refl))
 
 pub first_part : {A : Type 0} (n : ℕ) (l : List A) → n ≤ length l → n ≡ length (take n l)
 first_part n l h = omega (arith, length-take n l)

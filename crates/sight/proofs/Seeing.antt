@@ -12,68 +12,68 @@ use native.Mathlib.Omega.{arith}
 use lib.Dec.{T}
 use borrow.Author.Tests.{le-ltb}
 use Rattle.finite.specs.Tests.{either_way}
-use Rattle.finite.specs.Bounded.{one-if}
-use Rattle.finite.specs.Counting.{one-if-small}
-use Rattle.finite.specs.Lists.{elem, count-in, first-in, ring}
-use Rattle.finite.specs.Rings.{ring-last, ring-more}
+use Rattle.finite.specs.Bounded.{one_if}
+use Rattle.finite.specs.Counting.{one_if_small}
+use Rattle.finite.specs.Lists.{elem, count_in, first_in, ring}
+use Rattle.finite.specs.Rings.{ring_last, ring_more}
 use Rattle.model.specs.declared.Point.{Point}
 use Rattle.model.specs.declared.Map.{Map}
-use Rattle.model.specs.Maps.{own, helper, owner, point, edge-link}
-use Rattle.model.specs.Outline.{next-corner, previous-corner, corners-from, outline, sees, visible-edges}
+use Rattle.model.specs.Maps.{own, helper, owner, point, edge_link}
+use Rattle.model.specs.Outline.{next_corner, previous_corner, corners_from, outline, sees, visible_edges}
 use Rattle.model.specs.Shape.{Shaped}
-use Rattle.model.specs.Arrival.{turning-left, turning-right, is-farther, is-beyond, farther, left-corner, right-corner}
-use Rattle.maps.proofs.Links.{sound-linked}
-use Rattle.maps.proofs.Circuits.{edge-next, edge-previous}
-use Rattle.maps.proofs.Outline.{outline-first, outline-next, outline-previous}
+use Rattle.model.specs.Arrival.{turning_left, turning_right, is_farther, is_beyond, farther, left_corner, right_corner}
+use Rattle.maps.proofs.Links.{sound_linked}
+use Rattle.maps.proofs.Circuits.{edge_next, edge_previous}
+use Rattle.maps.proofs.Outline.{outline_first, outline_next, outline_previous}
 use Rattle.sight.specs.declared.Sought.{Sought}
-use Rattle.sight.specs.Requires.{OutlineFor, visible-at}
-use Rattle.sight.specs.Sight.{sought-at, outlined, turning, seen}
+use Rattle.sight.specs.Requires.{OutlineFor, visible_at}
+use Rattle.sight.specs.Sight.{sought_at, outlined, turning, seen}
 
 -- what else the map holds does not matter
 module _ (m : Map) (p : Point) where
-  abbrev pub by-arrays : Map
-  by-arrays = outlined m.xs m.ys m.edge m.count m.reference
+  abbrev pub by_arrays : Map
+  by_arrays = outlined m.xs m.ys m.edge m.count m.reference
 
-  pub turning-by-arrays : turning m p ≡ turning by-arrays p
-  unfolding turning-left turning-right visible-edges sees outline corners-from next-corner previous-corner edge-link point
-  turning-by-arrays = refl
+  pub turning_by_arrays : turning m p ≡ turning by_arrays p
+  unfolding turning_left turning_right visible_edges sees outline corners_from next_corner previous_corner edge_link point
+  turning_by_arrays = refl
 
-  pub farther-by-arrays : farther m p ≡ farther by-arrays p
-  unfolding farther is-farther outline corners-from next-corner edge-link point
-  farther-by-arrays = refl
+  pub farther_by_arrays : farther m p ≡ farther by_arrays p
+  unfolding farther is_farther outline corners_from next_corner edge_link point
+  farther_by_arrays = refl
 
-  pub seen-by-arrays : seen m p ≡ seen by-arrays p
-  unfolding left-corner right-corner is-beyond farther is-farther turning-left turning-right visible-edges sees
-      outline corners-from next-corner previous-corner edge-link point
-  seen-by-arrays = refl
+  pub seen_by_arrays : seen m p ≡ seen by_arrays p
+  unfolding left_corner right_corner is_beyond farther is_farther turning_left turning_right visible_edges sees
+      outline corners_from next_corner previous_corner edge_link point
+  seen_by_arrays = refl
 
 -- ---- a corner that is sought
 
 -- the corner sought if it is found, else the first ahead that passes
 abbrev settled : Sought → (ℕ → Bool) → List ℕ → ℕ
-settled s test ahead = cond s.found s.corner (first-in test s.corner ahead)
+settled s test ahead = cond s.found s.corner (first_in test s.corner ahead)
 
-sought-settles : (test : ℕ → Bool) (s : Sought) (before after : Bool) (a : ℕ) (ahead : List ℕ) →
-    test a ≡ (not before && after) → settled (sought-at s before after a) test ahead ≡ settled s test (a ∷ ahead)
-unfolding first-in
-sought-settles test s before after a ahead is = go s.found (not before && after) refl refl
+sought_settles : (test : ℕ → Bool) (s : Sought) (before after : Bool) (a : ℕ) (ahead : List ℕ) →
+    test a ≡ (not before && after) → settled (sought_at s before after a) test ahead ≡ settled s test (a ∷ ahead)
+unfolding first_in
+sought_settles test s before after a ahead is = go s.found (not before && after) refl refl
   where
     go : (f t : Bool) → s.found ≡ f → (not before && after) ≡ t →
-        settled (sought-at s before after a) test ahead ≡ settled s test (a ∷ ahead)
+        settled (sought_at s before after a) test ahead ≡ settled s test (a ∷ ahead)
     go true t e d = rw e
     go false true e d = rw (is, e, d)
     go false false e d = rw (is, e, d)
 
-settled-end : (s : Sought) (test : ℕ → Bool) → settled s test [] ≡ s.corner
-unfolding first-in
-settled-end s test = either_way s.found s.corner
+settled_end : (s : Sought) (test : ℕ → Bool) → settled s test [] ≡ s.corner
+unfolding first_in
+settled_end s test = either_way s.found s.corner
 
 -- ---- the corners ahead
 
 module _ (m : Map) where
   -- from a on, at most so many
-  abbrev corners-ahead : ℕ → ℕ → List ℕ
-  corners-ahead ahead a = ring (next-corner m) (owner m.reference) ahead a
+  abbrev corners_ahead : ℕ → ℕ → List ℕ
+  corners_ahead ahead a = ring (next_corner m) (owner m.reference) ahead a
 
 -- ---- a corner whose two edges are both visible, or both hidden, is not sought
 
@@ -83,114 +83,114 @@ tests_agree true false e = e
 tests_agree false true e = sym e
 tests_agree false false e = refl
 
-not-sought : (s : Sought) (b : Bool) (a : ℕ) → s ≡ sought-at s b b a
-not-sought s true a = sym (either_way s.found s)
-not-sought s false a = sym (either_way s.found s)
+not_sought : (s : Sought) (b : Bool) (a : ℕ) → s ≡ sought_at s b b a
+not_sought s true a = sym (either_way s.found s)
+not_sought s false a = sym (either_way s.found s)
 
-pub unsought : (s : Sought) (a : ℕ) {b c : Bool} → b ≡ c → s ≡ sought-at s b c a
-unsought s a {b} {c} e = subst (λ (t : Bool). s ≡ sought-at s b t a) e (not-sought s b a)
+pub unsought : (s : Sought) (a : ℕ) {b c : Bool} → b ≡ c → s ≡ sought_at s b c a
+unsought s a {b} {c} e = subst (λ (t : Bool). s ≡ sought_at s b t a) e (not_sought s b a)
 
 -- ---- the invariant
 
 module _ (m : Map) (p : Point) where
-  abbrev is-left : ℕ → Bool
-  is-left a = not (sees m p (previous-corner m a)) && sees m p a
+  abbrev is_left : ℕ → Bool
+  is_left a = not (sees m p (previous_corner m a)) && sees m p a
 
   abbrev is_right : ℕ → Bool
-  is_right a = sees m p (previous-corner m a) && not (sees m p a)
+  is_right a = sees m p (previous_corner m a) && not (sees m p a)
 
   -- a is the first corner ahead, and `entering` says whether its entering edge is visible
   pub record SightAhead (entering : Bool) (left right : Sought) (visible a ahead : ℕ) : Type 0 where
     pub on : T (elem a (outline m))
     pub few : visible + ahead ≤ m.count
-    pub entered : entering ≡ sees m p (previous-corner m a)
-    pub left_is : settled left is-left (corners-ahead m ahead a) ≡ turning-left m p
-    pub right_is : settled right is_right (corners-ahead m ahead a) ≡ turning-right m p
-    pub visible-is : visible + count-in (sees m p) (corners-ahead m ahead a) ≡ visible-edges m p
+    pub entered : entering ≡ sees m p (previous_corner m a)
+    pub left_is : settled left is_left (corners_ahead m ahead a) ≡ turning_left m p
+    pub right_is : settled right is_right (corners_ahead m ahead a) ≡ turning_right m p
+    pub visible_is : visible + count_in (sees m p) (corners_ahead m ahead a) ≡ visible_edges m p
 
   -- what the code tests of an edge
-  leaves : {leaving : Bool} (a b : ℕ) → b ≡ next-corner m a →
-      leaving ≡ visible-at m.xs m.ys a b p → leaving ≡ sees m p a
+  leaves : {leaving : Bool} (a b : ℕ) → b ≡ next_corner m a →
+      leaving ≡ visible_at m.xs m.ys a b p → leaving ≡ sees m p a
   unfolding sees point
   leaves a b to e = rw to at e
 
   module _ (o : OutlineFor m p) where
     abbrev s : Shaped m
-    s = o.accepted.is-sound
+    s = o.accepted.is_sound
 
     -- nothing is found at first, and all of the outline is ahead
-    pub at_first : {last ahead : ℕ} {entering : Bool} → ahead ≡ m.count → last ≡ previous-corner m (owner m.reference) →
-        entering ≡ visible-at m.xs m.ys last (owner m.reference) p →
+    pub at_first : {last ahead : ℕ} {entering : Bool} → ahead ≡ m.count → last ≡ previous_corner m (owner m.reference) →
+        entering ≡ visible_at m.xs m.ys last (owner m.reference) p →
         SightAhead entering (record { corner = 0; found = false }) (record { corner = 0; found = false }) 0
         (owner m.reference) ahead
-    unfolding outline corners-from turning-left turning-right visible-edges
+    unfolding outline corners_from turning_left turning_right visible_edges
     at_first {last} {ahead} {entering} all from e =
         rw all
         (let start = owner m.reference in
-        let first = outline-first s o.two in
-        let edge : edge-link m (own last) ≡ helper start =
+        let first = outline_first s o.two in
+        let edge : edge_link m (own last) ≡ helper start =
         rw from
-        (ap (edge-link m) (sym (outline-previous s o.two start first).0) ∙ s.links.undone (helper start)) in
+        (ap (edge_link m) (sym (outline_previous s o.two start first).0) ∙ s.links.undone (helper start)) in
         record {
           on = first;
           few = omega arith;
-          entered = leaves last start (sym (edge-next m last start edge)) e ∙ ap (sees m p) from;
+          entered = leaves last start (sym (edge_next m last start edge)) e ∙ ap (sees m p) from;
           left_is = rw (le-ltb m.count 2 o.two);
           right_is = rw (le-ltb m.count 2 o.two);
-          visible-is = rw (le-ltb m.count 2 o.two) (omega arith);
+          visible_is = rw (le-ltb m.count 2 o.two) (omega arith);
         })
 
     module _ {entering leaving : Bool} {left right left' right' : Sought} {visible visible' a b ahead : ℕ}
         (u : SightAhead entering left right visible a ahead) (more : 0 < ahead)
-        (to : b ≡ next-corner m a) (edge : leaving ≡ visible-at m.xs m.ys a b p)
-        (l : left' ≡ sought-at left entering leaving a) (r : right' ≡ sought-at right leaving entering a)
-        (v : visible' ≡ visible + one-if leaving) where
+        (to : b ≡ next_corner m a) (edge : leaving ≡ visible_at m.xs m.ys a b p)
+        (l : left' ≡ sought_at left entering leaving a) (r : right' ≡ sought_at right leaving entering a)
+        (v : visible' ≡ visible + one_if leaving) where
       -- corner a is passed, and so many are ahead then
-      passed : (on : ℕ) → on < ahead → corners-ahead m ahead a ≡ a ∷ corners-ahead m on b →
+      passed : (on : ℕ) → on < ahead → corners_ahead m ahead a ≡ a ∷ corners_ahead m on b →
           SightAhead leaving left' right' visible' b on
-      unfolding count-in
+      unfolding count_in
       passed on h is =
-          let n = outline-next s o.two a u.on in
+          let n = outline_next s o.two a u.on in
           let e = leaves a b to edge in
           record {
             on = rw to n.1;
-            few = omega (arith, u.few, one-if-small leaving);
-            entered = rw to (e ∙ ap (sees m p) (sym (edge-previous (sound-linked s) a (next-corner m a) n.0)));
+            few = omega (arith, u.few, one_if_small leaving);
+            entered = rw to (e ∙ ap (sees m p) (sym (edge_previous (sound_linked s) a (next_corner m a) n.0)));
             left_is =
                 rw l
-                (sought-settles is-left left entering leaving a (corners-ahead m on b) (rw (u.entered, e))
-                ∙ (ap (settled left is-left) (sym is) ∙ u.left_is));
+                (sought_settles is_left left entering leaving a (corners_ahead m on b) (rw (u.entered, e))
+                ∙ (ap (settled left is_left) (sym is) ∙ u.left_is));
             right_is =
                 rw r
-                (sought-settles is_right right leaving entering a (corners-ahead m on b)
-                (rw (u.entered, e) (and_comm (sees m p (previous-corner m a)) (not (sees m p a))))
+                (sought_settles is_right right leaving entering a (corners_ahead m on b)
+                (rw (u.entered, e) (and_comm (sees m p (previous_corner m a)) (not (sees m p a))))
                 ∙ (ap (settled right is_right) (sym is) ∙ u.right_is));
-            visible-is = omega (arith, ap one-if e, ap (count-in (sees m p)) is, u.visible-is);
+            visible_is = omega (arith, ap one_if e, ap (count_in (sees m p)) is, u.visible_is);
           }
 
       -- none, since the next corner is the first ..
-      pub passed-last : b ≡ owner m.reference → SightAhead leaving left' right' visible' b 0
-      passed-last e =
+      pub passed_last : b ≡ owner m.reference → SightAhead leaving left' right' visible' b 0
+      passed_last e =
           passed 0 more
-          (rw to (ring-last (next-corner m) (owner m.reference) ahead a more (sym to ∙ e)))
+          (rw to (ring_last (next_corner m) (owner m.reference) ahead a more (sym to ∙ e)))
 
       -- .. or one less
-      pub passed-one : {on : ℕ} → on ≡ ahead - 1 → b ≢ owner m.reference → SightAhead leaving left' right' visible' b on
-      passed-one one_less n =
+      pub passed_one : {on : ℕ} → on ≡ ahead - 1 → b ≢ owner m.reference → SightAhead leaving left' right' visible' b on
+      passed_one one_less n =
           rw one_less
           (passed (ahead - 1) (omega arith)
-          (rw to (ring-more (next-corner m) (owner m.reference) ahead a more (λ e. n (to ∙ e)))))
+          (rw to (ring_more (next_corner m) (owner m.reference) ahead a more (λ e. n (to ∙ e)))))
 
     -- none is ahead, and all is found
-    pub at-end : {entering : Bool} {left right : Sought} {visible a ahead : ℕ} →
+    pub at_end : {entering : Bool} {left right : Sought} {visible a ahead : ℕ} →
         SightAhead entering left right visible a ahead → ahead ≤ 0 →
         record { left = left.corner; right = right.corner; visible = visible }
-        ≡ turning (by-arrays m p) p
-    unfolding ring count-in
-    at-end {entering} {left} {right} {visible} {a} {ahead} u h =
+        ≡ turning (by_arrays m p) p
+    unfolding ring count_in
+    at_end {entering} {left} {right} {visible} {a} {ahead} u h =
         let none : ahead ≡ 0 = omega arith in
         let w = subst (SightAhead entering left right visible a) none u in
-        let l = sym (settled-end left is-left) ∙ w.left_is in
-        let r = sym (settled-end right is_right) ∙ w.right_is in
-        let v : visible ≡ visible-edges m p = omega (arith, w.visible-is) in
-        (λ i. record { left = l i; right = r i; visible = v i }) ∙ turning-by-arrays m p
+        let l = sym (settled_end left is_left) ∙ w.left_is in
+        let r = sym (settled_end right is_right) ∙ w.right_is in
+        let v : visible ≡ visible_edges m p = omega (arith, w.visible_is) in
+        (λ i. record { left = l i; right = r i; visible = v i }) ∙ turning_by_arrays m p

@@ -1,12 +1,12 @@
 // What is seen of an outline from a point.
 
 ghost use Rattle.std.specs.Prelude.{◌≡◌, cond, not, ◌+◌, ◌<◌};
-ghost use Rattle.finite.specs.Bounded.{one-if};
-ghost use Rattle.model.specs.Maps.{point-limit};
+ghost use Rattle.finite.specs.Bounded.{one_if};
+ghost use Rattle.model.specs.Maps.{point_limit};
 ghost use Rattle.maps.specs.Places.{RangedQuery};
 ghost use Rattle.model.specs.Arrival.{farther};
-ghost use Rattle.sight.specs.Requires.{BeyondIn, OutlineIn, visible-at};
-ghost use Rattle.sight.specs.Sight.{outlined, sought-at, seen, turning};
+ghost use Rattle.sight.specs.Requires.{BeyondIn, OutlineIn, visible_at};
+ghost use Rattle.sight.specs.Sight.{outlined, sought_at, seen, turning};
 
 use maps::places::{partner, point_held};
 use maps::reading::{next_corner, point_at, previous_corner};
@@ -137,7 +137,7 @@ fn turning_from<'a>(
 // Whether the edge from point a to point b is visible from p.
 fn is_visible<'a>(xs: &'a [i64], ys: &'a [i64], a: usize, b: usize, p: Point) -> bool
     requires { RangedQuery xs.now ys.now p }
-    ensures { result ≡ visible-at xs.now ys.now a b p }
+    ensures { result ≡ visible_at xs.now ys.now a b p }
 {
     sees_edge(point_at(xs, ys, a), point_at(xs, ys, b), p)
 }
@@ -151,7 +151,7 @@ fn differ(before: bool, after: bool) -> bool
 
 // The corner sought if it is found; else corner a, where a test that failed before it passes after it.
 fn sought_at(sought: Sought, before: bool, after: bool, a: usize) -> Sought
-    ensures { result ≡ sought-at sought before after a }
+    ensures { result ≡ sought_at sought before after a }
 {
     let found = sought.found;
     if found {
@@ -172,8 +172,8 @@ fn sought_at(sought: Sought, before: bool, after: bool, a: usize) -> Sought
 
 // A number of edges, and one more if the test passes.
 fn plus_one_if(edges: usize, test: bool) -> usize
-    requires { edges < point-limit }
-    ensures { result ≡ edges + one-if test }
+    requires { edges < point_limit }
+    ensures { result ≡ edges + one_if test }
 {
     if test { edges + 1 } else { edges }
 }

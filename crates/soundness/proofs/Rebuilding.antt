@@ -10,38 +10,38 @@ use Rattle.model.specs.declared.Refusal.{Refusal}
 use Rattle.model.specs.declared.Outcome.{Outcome}
 use Rattle.model.specs.declared.Point.{Point}
 use Rattle.model.specs.declared.Map.{Map}
-use Rattle.model.specs.Answers.{outcome-by}
+use Rattle.model.specs.Answers.{outcome_by}
 use Rattle.finite.specs.Bounded.{table}
-use Rattle.orbits.specs.Sets.{dart-limit}
-use Rattle.model.specs.Maps.{point-limit, no-dart, empty-map, map_of}
-use Rattle.model.specs.Building.{building-rules}
-use Rattle.model.proofs.Answers.{unless-none, served-none}
-use Rattle.hull.proofs.Taking.{Taking, all-served, all-built}
+use Rattle.orbits.specs.Sets.{dart_limit}
+use Rattle.model.specs.Maps.{point_limit, no_dart, empty_map, map_of}
+use Rattle.model.specs.Building.{building_rules}
+use Rattle.model.proofs.Answers.{unless_none, served_none}
+use Rattle.hull.proofs.Taking.{Taking, all_served, all_built}
 use Rattle.soundness.specs.Rebuilding.{Rebuilds}
 
-pub rebuilt-whole : {ps : List Point} {k : ℕ} {m : Map} {hashes : List Bool} → Taking ps k m hashes → length ps ≤ k →
+pub rebuilt_whole : {ps : List Point} {k : ℕ} {m : Map} {hashes : List Bool} → Taking ps k m hashes → length ps ≤ k →
     Rebuilds ps true m
-rebuilt-whole t done =
+rebuilt_whole t done =
     record {
-      all-free = λ e. served-none _ (all-served t done);
-      is-built = λ e. all-built t done;
-      some-refused = λ e. absurd (let z : ◌≡◌ {A = ℕ} 0 1 = cc in omega arith);
+      all_free = λ e. served_none _ (all_served t done);
+      is_built = λ e. all_built t done;
+      some_refused = λ e. absurd (let z : ◌≡◌ {A = ℕ} 0 1 = cc in omega arith);
     }
 
-pub rebuilt-part : (ps : List Point) (m : Map) (r : Refusal) → Outcome.Refused r ≡ outcome-by (building-rules empty-map ps) →
+pub rebuilt_part : (ps : List Point) (m : Map) (r : Refusal) → Outcome.Refused r ≡ outcome_by (building_rules empty_map ps) →
     Rebuilds ps false m
-rebuilt-part ps m r refused =
+rebuilt_part ps m r refused =
     record {
-      all-free = λ e. absurd (let z : ◌≡◌ {A = ℕ} 0 1 = cc in omega arith);
-      is-built = λ e. absurd (let z : ◌≡◌ {A = ℕ} 0 1 = cc in omega arith);
-      some-refused = λ e free.
-          let served = refused ∙ unless-none Outcome.Refused Outcome.Served free in
+      all_free = λ e. absurd (let z : ◌≡◌ {A = ℕ} 0 1 = cc in omega arith);
+      is_built = λ e. absurd (let z : ◌≡◌ {A = ℕ} 0 1 = cc in omega arith);
+      some_refused = λ e free.
+          let served = refused ∙ unless_none Outcome.Refused Outcome.Served free in
           absurd (let z : ◌≡◌ {A = ℕ} 0 1 = cc in omega arith);
     }
 
 -- the arrays that are lent to it are those of the empty map
-pub empty-arrays : {edge : List ℕ} → edge ≡ table dart-limit (λ d. d) →
-    map_of (replicate point-limit (pos 0)) (replicate point-limit (pos 0)) (replicate point-limit false) edge
-    (replicate point-limit 0) (replicate point-limit no-dart) (replicate point-limit no-dart) 0 no-dart ≡ empty-map
-unfolding empty-map
-empty-arrays e = rw e
+pub empty_arrays : {edge : List ℕ} → edge ≡ table dart_limit (λ d. d) →
+    map_of (replicate point_limit (pos 0)) (replicate point_limit (pos 0)) (replicate point_limit false) edge
+    (replicate point_limit 0) (replicate point_limit no_dart) (replicate point_limit no_dart) 0 no_dart ≡ empty_map
+unfolding empty_map
+empty_arrays e = rw e

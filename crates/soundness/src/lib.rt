@@ -2,7 +2,7 @@
 
 ghost use Rattle.std.specs.Prelude.{◌≡◌};
 ghost use Rattle.finite.specs.Bounded.{table};
-ghost use Rattle.model.specs.Maps.{empty-map, map-lent, no-dart, point_at};
+ghost use Rattle.model.specs.Maps.{empty_map, map_lent, no_dart, point_at};
 ghost use Rattle.model.specs.Sound.{agree, sound};
 ghost use Rattle.soundness.specs.Rebuilding.{Rebuilds};
 
@@ -76,9 +76,9 @@ pub fn rebuild<'a>(
     lefts: &mut [u16; POINT_LIMIT],
     rights: &mut [u16; POINT_LIMIT],
 ) -> Anew
-    requires { map-lent xs ys helpers edge arrivals lefts rights 0 no-dart ≡ empty-map }
+    requires { map_lent xs ys helpers edge arrivals lefts rights 0 no_dart ≡ empty_map }
     ensures { Rebuilds (table count (point_at across.now upward.now)) result.complete
-        (map-lent xs.exit ys.exit helpers.exit edge.exit arrivals.exit lefts.exit
+        (map_lent xs.exit ys.exit helpers.exit edge.exit arrivals.exit lefts.exit
         rights.exit count result.reference) }
 {
     let mut reference = NO_DART;

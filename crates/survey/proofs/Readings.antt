@@ -14,142 +14,142 @@ use lib.ListN.{length, get_or, drop, length-drop}
 use lib.Seq.{get_or-drop}
 use Rattle.model.specs.declared.Line.{Line}
 use Rattle.model.specs.declared.Refusal.{Refusal}
-use Rattle.model.specs.Spelling.{line-feed, space}
+use Rattle.model.specs.Spelling.{line_feed, space}
 use Rattle.survey.specs.declared.numbers.Front.{Front}
 use Rattle.survey.specs.declared.lines.Read.{Read}
-use Rattle.survey.specs.Numbers.{front-number, named, value_of, no_number, number_read}
-use Rattle.survey.specs.Places.{line-bytes, line-end, next-line, line_at, found_at, read_at}
-use Rattle.survey.proofs.Separators.{before-short, before_at, ends-at-end, ends_found, ends-later, ends-not}
-use Rattle.survey.proofs.Fronts.{Leads, leads, front-short, front-number-before, whole-front, read_none, read_whole, read-part}
-use Rattle.survey.proofs.Fronts.{line-bad, line-unspaced, line-spaced, space-inside}
-use Rattle.survey.proofs.Texts.{bytes-within, next-within}
+use Rattle.survey.specs.Numbers.{front_number, named, value_of, no_number, number_read}
+use Rattle.survey.specs.Places.{line_bytes, line_end, next_line, line_at, found_at, read_at}
+use Rattle.survey.proofs.Separators.{before_short, before_at, ends_at_end, ends_found, ends_later, ends_not}
+use Rattle.survey.proofs.Fronts.{Leads, leads, front_short, front_number_before, whole_front, read_none, read_whole, read_part}
+use Rattle.survey.proofs.Fronts.{line_bad, line_unspaced, line_spaced, space_inside}
+use Rattle.survey.proofs.Texts.{bytes_within, next_within}
 
 module _ (text : List ℕ) (at : ℕ) where
-  front-here : front-number (line-bytes text at) ≡ front-number (drop at text)
-  unfolding line-bytes
-  front-here = front-number-before (drop at text)
+  front_here : front_number (line_bytes text at) ≡ front_number (drop at text)
+  unfolding line_bytes
+  front_here = front_number_before (drop at text)
 
   -- what is read after a first number x
-  abbrev second-read : ℤ → Read
-  second-read x = found_at (named (value_of x) (number_read (line-bytes text at))) text at
+  abbrev second_read : ℤ → Read
+  second_read x = found_at (named (value_of x) (number_read (line_bytes text at))) text at
 
   -- ---- no number stands there
 
-  module _ (none : front-number (drop at text) ≡ Front.Malformed) where
-    pub first-none : found_at (Line.Refused Refusal.BadLine) text at ≡ read_at text at
+  module _ (none : front_number (drop at text) ≡ Front.Malformed) where
+    pub first_none : found_at (Line.Refused Refusal.BadLine) text at ≡ read_at text at
     unfolding line_at
-    first-none =
+    first_none =
         ap (λ (l : Line). found_at l text at)
-        (sym (line-bad (line-bytes text at) (front-here ∙ none)))
+        (sym (line_bad (line_bytes text at) (front_here ∙ none)))
 
-    pub second_none : (x : ℤ) → found_at (Line.Refused Refusal.BadLine) text at ≡ second-read x
+    pub second_none : (x : ℤ) → found_at (Line.Refused Refusal.BadLine) text at ≡ second_read x
     unfolding named
     second_none x =
-        let l = line-bytes text at in rw (read_none l l (whole-front l) (front-here ∙ none))
+        let l = line_bytes text at in rw (read_none l l (whole_front l) (front_here ∙ none))
 
   -- ---- a number stands there, and ends n bytes on
 
-  module _ {z : ℤ} {n : ℕ} (some : front-number (drop at text) ≡ Front.Value z n) where
-    number-there : Leads (line-bytes text at) z n
-    number-there = leads (line-bytes text at) (front-here ∙ some)
+  module _ {z : ℤ} {n : ℕ} (some : front_number (drop at text) ≡ Front.Value z n) where
+    number_there : Leads (line_bytes text at) z n
+    number_there = leads (line_bytes text at) (front_here ∙ some)
 
-    within : n ≤ length (line-bytes text at)
-    within = omega (arith, number-there.ends, front-short (line-bytes text at))
+    within : n ≤ length (line_bytes text at)
+    within = omega (arith, number_there.ends, front_short (line_bytes text at))
 
-    pub not-past : n ≤ length (drop at text)
-    unfolding line-bytes
-    not-past = omega (arith, within, before-short line-feed (drop at text))
+    pub not_past : n ≤ length (drop at text)
+    unfolding line_bytes
+    not_past = omega (arith, within, before_short line_feed (drop at text))
 
-    byte-after : get_or text (at + n) 0 ≡ get_or (drop at text) n 0
-    byte-after = sym (get_or-drop at text n 0)
+    byte_after : get_or text (at + n) 0 ≡ get_or (drop at text) n 0
+    byte_after = sym (get_or-drop at text n 0)
 
     -- a line that is not in form, read up to there
-    pub refused-there : found_at (Line.Refused Refusal.BadLine) text (at + n)
+    pub refused_there : found_at (Line.Refused Refusal.BadLine) text (at + n)
         ≡ found_at (Line.Refused Refusal.BadLine) text at
-    refused-there =
+    refused_there =
         ap (λ (k : ℕ). record { line = Line.Refused Refusal.BadLine; next = k })
-        (next-within text at n within)
+        (next_within text at n within)
 
     -- ---- it is the first
 
-    pub first-unspaced : get_or text (at + n) 0 ≢ space →
+    pub first_unspaced : get_or text (at + n) 0 ≢ space →
         found_at (Line.Refused Refusal.BadLine) text (at + n) ≡ read_at text at
-    unfolding line_at line-bytes
-    first-unspaced other =
-        refused-there
+    unfolding line_at line_bytes
+    first_unspaced other =
+        refused_there
         ∙ ap (λ (l : Line). found_at l text at)
-        (sym (line-unspaced (line-bytes text at) number-there (λ e.
-        other (byte-after
-        ∙ sym (before_at line-feed (drop at text) n
-        (space-inside (line-bytes text at) number-there e))
+        (sym (line_unspaced (line_bytes text at) number_there (λ e.
+        other (byte_after
+        ∙ sym (before_at line_feed (drop at text) n
+        (space_inside (line_bytes text at) number_there e))
         ∙ e))))
 
-    module _ (is-space : get_or text (at + n) 0 ≡ space) where
-      inside : n < length (line-bytes text at)
-      unfolding line-bytes
+    module _ (is_space : get_or text (at + n) 0 ≡ space) where
+      inside : n < length (line_bytes text at)
+      unfolding line_bytes
       inside =
-          let b = sym byte-after ∙ is-space in
-          ends-not line-feed (drop at text) n within (λ e. omega arith) (λ e. omega arith)
+          let b = sym byte_after ∙ is_space in
+          ends_not line_feed (drop at text) n within (λ e. omega arith) (λ e. omega arith)
 
-      pub space-there : at + n < length text
-      unfolding line-bytes
-      space-there =
-          omega (arith, inside, before-short line-feed (drop at text), length-drop at text)
+      pub space_there : at + n < length text
+      unfolding line_bytes
+      space_there =
+          omega (arith, inside, before_short line_feed (drop at text), length-drop at text)
 
-      byte-there : get_or (line-bytes text at) n 0 ≡ get_or text (at + n) 0
-      unfolding line-bytes
-      byte-there = before_at line-feed (drop at text) n inside ∙ sym byte-after
+      byte_there : get_or (line_bytes text at) n 0 ≡ get_or text (at + n) 0
+      unfolding line_bytes
+      byte_there = before_at line_feed (drop at text) n inside ∙ sym byte_after
 
-      pub first-spaced : found_at
-          (named (value_of z) (number_read (line-bytes text (at + n + 1)))) text (at + n + 1)
+      pub first_spaced : found_at
+          (named (value_of z) (number_read (line_bytes text (at + n + 1)))) text (at + n + 1)
           ≡ read_at text at
       unfolding line_at
-      first-spaced =
+      first_spaced =
           let on : at + n + 1 ≡ at + (n + 1) = omega arith in
-          let small : n + 1 ≤ length (line-bytes text at) = omega (arith, inside) in
-          let spaced : get_or (line-bytes text at) n 0 ≡ space =
-          byte-there ∙ is-space in
-          rw (on, bytes-within text at (n + 1) small, next-within text at (n + 1) small)
+          let small : n + 1 ≤ length (line_bytes text at) = omega (arith, inside) in
+          let spaced : get_or (line_bytes text at) n 0 ≡ space =
+          byte_there ∙ is_space in
+          rw (on, bytes_within text at (n + 1) small, next_within text at (n + 1) small)
           (ap (λ (l : Line). found_at l text at)
-          (line-spaced (line-bytes text at) number-there spaced))
+          (line_spaced (line_bytes text at) number_there spaced))
 
     -- ---- it is the second, after a first number x
 
-    ends-line : n ≡ length (line-bytes text at) → line-end text at ≡ at + n
-    unfolding line-end
-    ends-line e = omega arith
+    ends_line : n ≡ length (line_bytes text at) → line_end text at ≡ at + n
+    unfolding line_end
+    ends_line e = omega arith
 
-    second-whole : (x : ℤ) {next : ℕ} → n ≡ length (line-bytes text at) →
-        next ≡ next-line text at →
-        record { line = Line.Named (record { x = x; y = z }); next = next } ≡ second-read x
+    second_whole : (x : ℤ) {next : ℕ} → n ≡ length (line_bytes text at) →
+        next ≡ next_line text at →
+        record { line = Line.Named (record { x = x; y = z }); next = next } ≡ second_read x
     unfolding named
-    second-whole x ends on = rw (read_whole (line-bytes text at) number-there ends, on)
+    second_whole x ends on = rw (read_whole (line_bytes text at) number_there ends, on)
 
-    pub second-last : (x : ℤ) → length text ≤ at + n →
-        record { line = Line.Named (record { x = x; y = z }); next = at + n } ≡ second-read x
-    unfolding next-line line-bytes
-    second-last x past =
-        let ends : n ≡ length (line-bytes text at) =
-        ends-at-end line-feed (drop at text) n within (omega (arith, length-drop at text)) in
-        let stop = ends-line ends in
-        second-whole x ends (rw (stop, le-ltb (at + n) (length text) past))
+    pub second_last : (x : ℤ) → length text ≤ at + n →
+        record { line = Line.Named (record { x = x; y = z }); next = at + n } ≡ second_read x
+    unfolding next_line line_bytes
+    second_last x past =
+        let ends : n ≡ length (line_bytes text at) =
+        ends_at_end line_feed (drop at text) n within (omega (arith, length-drop at text)) in
+        let stop = ends_line ends in
+        second_whole x ends (rw (stop, le-ltb (at + n) (length text) past))
 
     module _ (x : ℤ) (more : at + n < length text) where
-      pub second-fed : get_or text (at + n) 0 ≡ line-feed →
-          record { line = Line.Named (record { x = x; y = z }); next = at + n + 1 } ≡ second-read x
-      unfolding next-line line-bytes
-      second-fed feed =
-          let ends : n ≡ length (line-bytes text at) =
-          ends_found line-feed (drop at text) n within (sym byte-after ∙ feed) in
-          let stop = ends-line ends in
-          second-whole x ends (rw (stop, lt-ltb (at + n) (length text) more))
+      pub second_fed : get_or text (at + n) 0 ≡ line_feed →
+          record { line = Line.Named (record { x = x; y = z }); next = at + n + 1 } ≡ second_read x
+      unfolding next_line line_bytes
+      second_fed feed =
+          let ends : n ≡ length (line_bytes text at) =
+          ends_found line_feed (drop at text) n within (sym byte_after ∙ feed) in
+          let stop = ends_line ends in
+          second_whole x ends (rw (stop, lt-ltb (at + n) (length text) more))
 
-      pub second-followed : get_or text (at + n) 0 ≢ line-feed →
-          found_at (Line.Refused Refusal.BadLine) text (at + n) ≡ second-read x
-      unfolding named line-bytes
-      second-followed other =
-          let rest : number_read (line-bytes text at) ≡ no_number =
-          read-part (line-bytes text at) number-there
-          (ends-later line-feed (drop at text) n within (omega (arith, length-drop at text))
-          (λ e. other (byte-after ∙ e))) in
-          refused-there ∙ rw rest
+      pub second_followed : get_or text (at + n) 0 ≢ line_feed →
+          found_at (Line.Refused Refusal.BadLine) text (at + n) ≡ second_read x
+      unfolding named line_bytes
+      second_followed other =
+          let rest : number_read (line_bytes text at) ≡ no_number =
+          read_part (line_bytes text at) number_there
+          (ends_later line_feed (drop at text) n within (omega (arith, length-drop at text))
+          (λ e. other (byte_after ∙ e))) in
+          refused_there ∙ rw rest

@@ -12,7 +12,7 @@ use borrow.Author.Tests.{eq-eqb, ne_eqb}
 use lib.ListN.{length, get_or, take, drop, drop_of_length-le, get_or-eq_default}
 use lib.Seq.{drop-cons, get_or-take}
 use Rattle.finite.specs.Tests.{same_or_not}
-use Rattle.finite.specs.Bounded.{lt-or-ge}
+use Rattle.finite.specs.Bounded.{lt_or_ge}
 use Rattle.finite.specs.Lists.{before, beyond}
 use Rattle.model.specs.Refusals.{unless}
 use Rattle.model.specs.Spelling.{space}
@@ -21,152 +21,152 @@ use Rattle.survey.specs.Numbers.{named, number_read}
 
 -- the first byte is the one that is sought, or not
 module _ (x y : ℕ) (s : List ℕ) where
-  pub before-found : x ≡ y → before x (y ∷ s) ≡ []
+  pub before_found : x ≡ y → before x (y ∷ s) ≡ []
   unfolding before
-  before-found e = rw (eq-eqb x y e)
+  before_found e = rw (eq-eqb x y e)
 
-  pub before-other : (x ≡ y → ⊥) → before x (y ∷ s) ≡ y ∷ before x s
+  pub before_other : (x ≡ y → ⊥) → before x (y ∷ s) ≡ y ∷ before x s
   unfolding before
-  before-other n = rw (ne_eqb x y n)
+  before_other n = rw (ne_eqb x y n)
 
-  pub beyond-found : x ≡ y → beyond x (y ∷ s) ≡ s
+  pub beyond_found : x ≡ y → beyond x (y ∷ s) ≡ s
   unfolding beyond
-  beyond-found e = rw (eq-eqb x y e)
+  beyond_found e = rw (eq-eqb x y e)
 
-  pub beyond-other : (x ≡ y → ⊥) → beyond x (y ∷ s) ≡ beyond x s
+  pub beyond_other : (x ≡ y → ⊥) → beyond x (y ∷ s) ≡ beyond x s
   unfolding beyond
-  beyond-other n = rw (ne_eqb x y n)
+  beyond_other n = rw (ne_eqb x y n)
 
-pub before-part : (x : ℕ) (s : List ℕ) → before x s ≡ take (length (before x s)) s
+pub before_part : (x : ℕ) (s : List ℕ) → before x s ≡ take (length (before x s)) s
 unfolding before
-before-part x [] = refl
-before-part x (y ∷ s) =
+before_part x [] = refl
+before_part x (y ∷ s) =
     ⊎_elim
-    (λ (e : x ≡ y). rw (before-found x y s e))
-    (λ (n : x ≡ y → ⊥). rw (before-other x y s n) (ap (λ (l : List ℕ). y ∷ l) (before-part x s)))
+    (λ (e : x ≡ y). rw (before_found x y s e))
+    (λ (n : x ≡ y → ⊥). rw (before_other x y s n) (ap (λ (l : List ℕ). y ∷ l) (before_part x s)))
     (same_or_not x y)
 
-pub beyond-part : (x : ℕ) (s : List ℕ) → beyond x s ≡ drop (suc (length (before x s))) s
+pub beyond_part : (x : ℕ) (s : List ℕ) → beyond x s ≡ drop (suc (length (before x s))) s
 unfolding before beyond
-beyond-part x [] = refl
-beyond-part x (y ∷ s) =
+beyond_part x [] = refl
+beyond_part x (y ∷ s) =
     ⊎_elim
-    (λ (e : x ≡ y). rw (beyond-found x y s e, before-found x y s e))
-    (λ (n : x ≡ y → ⊥). rw (beyond-other x y s n, before-other x y s n) (beyond-part x s))
+    (λ (e : x ≡ y). rw (beyond_found x y s e, before_found x y s e))
+    (λ (n : x ≡ y → ⊥). rw (beyond_other x y s n, before_other x y s n) (beyond_part x s))
     (same_or_not x y)
 
-pub before-short : (x : ℕ) (s : List ℕ) → length (before x s) ≤ length s
+pub before_short : (x : ℕ) (s : List ℕ) → length (before x s) ≤ length s
 unfolding before
-before-short x [] = omega arith
-before-short x (y ∷ s) =
+before_short x [] = omega arith
+before_short x (y ∷ s) =
     ⊎_elim
-    (λ (e : x ≡ y). rw (before-found x y s e) (omega arith))
-    (λ (n : x ≡ y → ⊥). rw (before-other x y s n) (omega (arith, before-short x s)))
+    (λ (e : x ≡ y). rw (before_found x y s e) (omega arith))
+    (λ (n : x ≡ y → ⊥). rw (before_other x y s n) (omega (arith, before_short x s)))
     (same_or_not x y)
 
 -- what ends it is x, or the end of the list
-pub before-ends : (x : ℕ) (s : List ℕ) → length (before x s) < length s →
+pub before_ends : (x : ℕ) (s : List ℕ) → length (before x s) < length s →
     get_or s (length (before x s)) 0 ≡ x
 unfolding before
-before-ends x [] h = absurd (omega arith)
-before-ends x (y ∷ s) h =
+before_ends x [] h = absurd (omega arith)
+before_ends x (y ∷ s) h =
     ⊎_elim
-    (λ (e : x ≡ y). rw (before-found x y s e) (sym e))
+    (λ (e : x ≡ y). rw (before_found x y s e) (sym e))
     (λ (n : x ≡ y → ⊥).
-    let more = before-other x y s n in rw more (before-ends x s (omega (arith, rw more at h))))
+    let more = before_other x y s n in rw more (before_ends x s (omega (arith, rw more at h))))
     (same_or_not x y)
 
 -- no place of it holds x
-pub before-none : (x : ℕ) (s : List ℕ) (k : ℕ) → k < length (before x s) → get_or s k 0 ≢ x
+pub before_none : (x : ℕ) (s : List ℕ) (k : ℕ) → k < length (before x s) → get_or s k 0 ≢ x
 unfolding before
-before-none x [] k h = absurd (omega arith)
-before-none x (y ∷ s) zero h =
+before_none x [] k h = absurd (omega arith)
+before_none x (y ∷ s) zero h =
     ⊎_elim
-    (λ (e : x ≡ y). absurd (omega (arith, rw (before-found x y s e) at h)))
+    (λ (e : x ≡ y). absurd (omega (arith, rw (before_found x y s e) at h)))
     (λ (n : x ≡ y → ⊥). λ e. n (sym e))
     (same_or_not x y)
-before-none x (y ∷ s) (suc k) h =
+before_none x (y ∷ s) (suc k) h =
     ⊎_elim
-    (λ (e : x ≡ y). absurd (omega (arith, rw (before-found x y s e) at h)))
-    (λ (n : x ≡ y → ⊥). before-none x s k (omega (arith, rw (before-other x y s n) at h)))
+    (λ (e : x ≡ y). absurd (omega (arith, rw (before_found x y s e) at h)))
+    (λ (n : x ≡ y → ⊥). before_none x s k (omega (arith, rw (before_other x y s n) at h)))
     (same_or_not x y)
 
 -- from a place within it on
-pub before-drop : (x : ℕ) (s : List ℕ) (k : ℕ) → k ≤ length (before x s) →
+pub before_drop : (x : ℕ) (s : List ℕ) (k : ℕ) → k ≤ length (before x s) →
     before x (drop k s) ≡ drop k (before x s)
 unfolding before
-before-drop x s zero h = refl
-before-drop x [] (suc k) h = absurd (omega arith)
-before-drop x (y ∷ s) (suc k) h =
+before_drop x s zero h = refl
+before_drop x [] (suc k) h = absurd (omega arith)
+before_drop x (y ∷ s) (suc k) h =
     ⊎_elim
-    (λ (e : x ≡ y). absurd (omega (arith, rw (before-found x y s e) at h)))
+    (λ (e : x ≡ y). absurd (omega (arith, rw (before_found x y s e) at h)))
     (λ (n : x ≡ y → ⊥).
-    let more = before-other x y s n in rw more (before-drop x s k (omega (arith, rw more at h))))
+    let more = before_other x y s n in rw more (before_drop x s k (omega (arith, rw more at h))))
     (same_or_not x y)
 
 -- what stands at its places
 pub before_at : (x : ℕ) (s : List ℕ) (k : ℕ) → k < length (before x s) →
     get_or (before x s) k 0 ≡ get_or s k 0
 before_at x s k h =
-    ap (λ (l : List ℕ). get_or l k 0) (before-part x s) ∙ get_or-take (length (before x s)) s k 0 h
+    ap (λ (l : List ℕ). get_or l k 0) (before_part x s) ∙ get_or-take (length (before x s)) s k 0 h
 
 -- a place up to its end is its end just where x stands there or the list ends there
 module _ (x : ℕ) (s : List ℕ) (k : ℕ) (inside : k ≤ length (before x s)) where
-  pub ends-at-end : length s ≤ k → k ≡ length (before x s)
-  ends-at-end h = omega (arith, before-short x s)
+  pub ends_at_end : length s ≤ k → k ≡ length (before x s)
+  ends_at_end h = omega (arith, before_short x s)
 
   pub ends_found : get_or s k 0 ≡ x → k ≡ length (before x s)
   ends_found e =
       ⊎_elim
-      (λ (h : k < length (before x s)). absurd (before-none x s k h e))
+      (λ (h : k < length (before x s)). absurd (before_none x s k h e))
       (λ (h : length (before x s) ≤ k). omega arith)
-      (lt-or-ge k (length (before x s)))
+      (lt_or_ge k (length (before x s)))
 
-  pub ends-later : k < length s → get_or s k 0 ≢ x → k ≢ length (before x s)
-  ends-later h n e =
-      n (ap (λ (j : ℕ). get_or s j 0) e ∙ before-ends x s (omega arith))
+  pub ends_later : k < length s → get_or s k 0 ≢ x → k ≢ length (before x s)
+  ends_later h n e =
+      n (ap (λ (j : ℕ). get_or s j 0) e ∙ before_ends x s (omega arith))
 
-  pub ends-not : get_or s k 0 ≢ x → get_or s k 0 ≢ 0 → k < length (before x s)
-  ends-not n z =
+  pub ends_not : get_or s k 0 ≢ x → get_or s k 0 ≢ 0 → k < length (before x s)
+  ends_not n z =
       ⊎_elim
       (λ (h : k < length (before x s)). h)
       (λ (h : length (before x s) ≤ k).
       ⊎_elim
-      (λ (l : k < length s). absurd (ends-later l n (omega arith)))
+      (λ (l : k < length s). absurd (ends_later l n (omega arith)))
       (λ (l : length s ≤ k). absurd (z (get_or-eq_default s 0 l)))
-      (lt-or-ge k (length s)))
-      (lt-or-ge k (length (before x s)))
+      (lt_or_ge k (length s)))
+      (lt_or_ge k (length (before x s)))
 
 -- ---- a search from place `at` on
 
 -- the first x from place `at` on
-abbrev pub first-place : ℕ → List ℕ → ℕ → ℕ
-first-place x s at = at + length (before x (drop at s))
+abbrev pub first_place : ℕ → List ℕ → ℕ → ℕ
+first_place x s at = at + length (before x (drop at s))
 
 pub place_here : (x : ℕ) (s : List ℕ) (i : ℕ) → i < length s → get_or s i 0 ≡ x →
-    first-place x s i ≡ i
+    first_place x s i ≡ i
 place_here x s i h e =
-    rw (drop-cons s i 0, before-found x (get_or s i 0) (drop (suc i) s) (sym e)) (omega arith)
+    rw (drop-cons s i 0, before_found x (get_or s i 0) (drop (suc i) s) (sym e)) (omega arith)
 
-pub place-later : (x : ℕ) (s : List ℕ) (i : ℕ) → i < length s → (get_or s i 0 ≡ x → ⊥) →
-    first-place x s (i + 1) ≡ first-place x s i
-place-later x s i h n =
+pub place_later : (x : ℕ) (s : List ℕ) (i : ℕ) → i < length s → (get_or s i 0 ≡ x → ⊥) →
+    first_place x s (i + 1) ≡ first_place x s i
+place_later x s i h n =
     rw (
       drop-cons s i 0 h,
-      before-other x (get_or s i 0) (drop (suc i) s) (λ e. n (sym e)),
+      before_other x (get_or s i 0) (drop (suc i) s) (λ e. n (sym e)),
       add-one,
     ) (omega arith)
 
-pub place-past : (x : ℕ) (s : List ℕ) (i : ℕ) → length s ≤ i → first-place x s i ≡ i
+pub place_past : (x : ℕ) (s : List ℕ) (i : ℕ) → length s ≤ i → first_place x s i ≡ i
 unfolding before
-place-past x s i h = let none : drop i s ≡ [] = drop_of_length-le s h in rw none (omega arith)
+place_past x s i h = let none : drop i s ≡ [] = drop_of_length-le s h in rw none (omega arith)
 
 -- ---- a line is two numbers
 
-pub line-is : (s : List ℕ) → line_read s ≡ named (number_read (before space s)) (number_read
+pub line_is : (s : List ℕ) → line_read s ≡ named (number_read (before space s)) (number_read
     (beyond space s))
 unfolding line_read unless named number_read
-line-is s = go (is_number (before space s)) (is_number (beyond space s)) refl refl
+line_is s = go (is_number (before space s)) (is_number (beyond space s)) refl refl
   where
     go : (a b : Bool) → is_number (before space s) ≡ a → is_number (beyond space s) ≡ b →
         line_read s ≡ named (number_read (before space s)) (number_read (beyond space s))

@@ -13,44 +13,44 @@ use borrow.Author.Tests.{eq-eqb, ne_eqb, lt-ltb, le-ltb, leb-true, leb-false}
 use lib.ListN.{length, get_or, drop, length-drop, drop_of_length-le}
 use lib.Seq.{drop-cons, drop-drop}
 use Rattle.finite.specs.Tests.{same_or_not}
-use Rattle.finite.specs.Bounded.{lt-or-ge}
+use Rattle.finite.specs.Bounded.{lt_or_ge}
 use Rattle.finite.specs.Lists.{before, beyond}
 use Rattle.model.specs.declared.Line.{Line}
 use Rattle.model.specs.declared.Refusal.{Refusal}
 use Rattle.model.specs.Refusals.{unless}
-use Rattle.model.specs.Spelling.{line-feed, space}
-use Rattle.model.specs.Text.{in-first-line, is_number, digits, line_read, lines, one_line}
+use Rattle.model.specs.Spelling.{line_feed, space}
+use Rattle.model.specs.Text.{in_first_line, is_number, digits, line_read, lines, one_line}
 use Rattle.survey.specs.Numbers.{named, Number, value_of, no_number, number_read}
-use Rattle.survey.specs.Places.{at-end, line_at, line-bytes, line-end, next-line}
-use Rattle.survey.proofs.Separators.{before-short, before-drop, beyond-part, before-found, before-other, beyond-found, beyond-other, line-is}
+use Rattle.survey.specs.Places.{at_end, line_at, line_bytes, line_end, next_line}
+use Rattle.survey.proofs.Separators.{before_short, before_drop, beyond_part, before_found, before_other, beyond_found, beyond_other, line_is}
 
 -- from a place within a line on, the line ends where it ends, and the same line is next
-module _ (text : List ℕ) (at k : ℕ) (inside : k ≤ length (line-bytes text at)) where
-  pub bytes-within : line-bytes text (at + k) ≡ drop k (line-bytes text at)
-  unfolding line-bytes
-  bytes-within =
-      rw (← drop-drop k at text) (before-drop line-feed (drop at text) k inside)
+module _ (text : List ℕ) (at k : ℕ) (inside : k ≤ length (line_bytes text at)) where
+  pub bytes_within : line_bytes text (at + k) ≡ drop k (line_bytes text at)
+  unfolding line_bytes
+  bytes_within =
+      rw (← drop-drop k at text) (before_drop line_feed (drop at text) k inside)
 
-  end-within : line-end text (at + k) ≡ line-end text at
-  unfolding line-end
-  end-within =
-      omega (arith, ap length bytes-within ∙ length-drop k (line-bytes text at))
+  end_within : line_end text (at + k) ≡ line_end text at
+  unfolding line_end
+  end_within =
+      omega (arith, ap length bytes_within ∙ length-drop k (line_bytes text at))
 
-  pub next-within : next-line text (at + k) ≡ next-line text at
-  unfolding next-line
-  next-within = rw end-within
+  pub next_within : next_line text (at + k) ≡ next_line text at
+  unfolding next_line
+  next_within = rw end_within
 
-pub blank-refused : line_read [] ≡ Line.Refused Refusal.BadLine
+pub blank_refused : line_read [] ≡ Line.Refused Refusal.BadLine
 unfolding line_read unless before beyond is_number digits
-blank-refused = refl
+blank_refused = refl
 
 -- a line is refused as one that is not in form
-pub line-at-refused : (text : List ℕ) (at : ℕ) (r : Refusal) → line_at text at ≡ Line.Refused r →
+pub line_at_refused : (text : List ℕ) (at : ℕ) (r : Refusal) → line_at text at ≡ Line.Refused r →
     r ≡ Refusal.BadLine
 unfolding line_at named
-line-at-refused text at r e =
-    let s = line-bytes text at in
-    go (number_read (before space s)) (number_read (beyond space s)) (sym (line-is s) ∙ e)
+line_at_refused text at r e =
+    let s = line_bytes text at in
+    go (number_read (before space s)) (number_read (beyond space s)) (sym (line_is s) ∙ e)
   where
     go : (x y : Number) → named x y ≡ Line.Refused r → r ≡ Refusal.BadLine
     go (value_of x) (value_of y) e =
@@ -61,28 +61,28 @@ line-at-refused text at r e =
 -- ---- the lines of a text
 
 -- a byte before the lines of t goes into the first of them
-first_byte : (b : ℕ) (t : List ℕ) → (in-first-line b (lines t) ≡ (b ∷ before line-feed t) ∷ lines
-    (beyond line-feed t)) →
-    lines (b ∷ t) ≡ before line-feed (b ∷ t) ∷ lines (beyond line-feed (b ∷ t))
+first_byte : (b : ℕ) (t : List ℕ) → (in_first_line b (lines t) ≡ (b ∷ before line_feed t) ∷ lines
+    (beyond line_feed t)) →
+    lines (b ∷ t) ≡ before line_feed (b ∷ t) ∷ lines (beyond line_feed (b ∷ t))
 unfolding lines
 first_byte b t e =
     ⊎_elim
-    (λ (f : line-feed ≡ b).
-    rw (eq-eqb b line-feed (sym f), before-found line-feed b t f, beyond-found line-feed b t f))
-    (λ (n : line-feed ≡ b → ⊥).
+    (λ (f : line_feed ≡ b).
+    rw (eq-eqb b line_feed (sym f), before_found line_feed b t f, beyond_found line_feed b t f))
+    (λ (n : line_feed ≡ b → ⊥).
     rw (
-      ne_eqb b line-feed (λ f. n (sym f)),
-      before-other line-feed b t n,
-      beyond-other line-feed
+      ne_eqb b line_feed (λ f. n (sym f)),
+      before_other line_feed b t n,
+      beyond_other line_feed
           b t n,
     ) e)
-    (same_or_not line-feed b)
+    (same_or_not line_feed b)
 
-pub lines-some : (b : ℕ) (s : List ℕ) →
-    lines (b ∷ s) ≡ before line-feed (b ∷ s) ∷ lines (beyond line-feed (b ∷ s))
-unfolding lines in-first-line before beyond
-lines-some b [] = first_byte b [] refl
-lines-some b (c ∷ t) = first_byte b (c ∷ t) (ap (in-first-line b) (lines-some c t))
+pub lines_some : (b : ℕ) (s : List ℕ) →
+    lines (b ∷ s) ≡ before line_feed (b ∷ s) ∷ lines (beyond line_feed (b ∷ s))
+unfolding lines in_first_line before beyond
+lines_some b [] = first_byte b [] refl
+lines_some b (c ∷ t) = first_byte b (c ∷ t) (ap (in_first_line b) (lines_some c t))
 
 -- ---- by places
 
@@ -92,65 +92,65 @@ module _ (text : List ℕ) (at : ℕ) where
   lines_end h = let none : drop at text ≡ [] = drop_of_length-le text h in rw none
 
   -- the next place, with a feed and without one
-  next-cases : ((next-line text at ≡ line-end text at + 1) × (line-end text at < length text))
-      ⊎ ((next-line text at ≡ line-end text at) × (length text ≤ line-end text at))
-  unfolding next-line
-  next-cases =
+  next_cases : ((next_line text at ≡ line_end text at + 1) × (line_end text at < length text))
+      ⊎ ((next_line text at ≡ line_end text at) × (length text ≤ line_end text at))
+  unfolding next_line
+  next_cases =
       ⊎_elim
-      (λ (h : line-end text at < length text). inl (
-        rw (lt-ltb (line-end text at) (length text)
+      (λ (h : line_end text at < length text). inl (
+        rw (lt-ltb (line_end text at) (length text)
             h),
         h,
       ))
-      (λ (h : length text ≤ line-end text at). inr (
-        rw (le-ltb (line-end text at) (length text)
+      (λ (h : length text ≤ line_end text at). inr (
+        rw (le-ltb (line_end text at) (length text)
             h),
         h,
       ))
-      (lt-or-ge (line-end text at) (length text))
+      (lt_or_ge (line_end text at) (length text))
 
-  beyond-next : beyond line-feed (drop at text) ≡ drop (next-line text at) text
-  unfolding line-end line-bytes
-  beyond-next =
-      beyond-part line-feed (drop at text) ∙ drop-drop (suc (length (line-bytes text at))) at text ∙
+  beyond_next : beyond line_feed (drop at text) ≡ drop (next_line text at) text
+  unfolding line_end line_bytes
+  beyond_next =
+      beyond_part line_feed (drop at text) ∙ drop-drop (suc (length (line_bytes text at))) at text ∙
       ⊎_elim
       (λ w.
-      let e : at + suc (length (line-bytes text at)) ≡ next-line text at = omega (arith, w.0) in
+      let e : at + suc (length (line_bytes text at)) ≡ next_line text at = omega (arith, w.0) in
       ap (λ (k : ℕ). drop k text) e)
       (λ w.
-      let far : length text ≤ at + suc (length (line-bytes text at)) = omega (arith, w.1) in
-      let past : length text ≤ next-line text at = omega (arith, w.0, w.1) in
+      let far : length text ≤ at + suc (length (line_bytes text at)) = omega (arith, w.1) in
+      let past : length text ≤ next_line text at = omega (arith, w.0, w.1) in
       drop_of_length-le text far ∙ sym (drop_of_length-le text past))
-      next-cases
+      next_cases
 
   pub lines_from : at < length text →
-      lines (drop at text) ≡ line-bytes text at ∷ lines (drop (next-line text at) text)
-  unfolding line-bytes
+      lines (drop at text) ≡ line_bytes text at ∷ lines (drop (next_line text at) text)
+  unfolding line_bytes
   lines_from h =
       let some = drop-cons text at 0 h in
-      ap lines some ∙ lines-some (get_or text at 0) (drop (suc at) text) ∙
-      ap (λ (l : List ℕ). before line-feed l ∷ lines (beyond line-feed l)) (sym some) ∙
-      ap (λ (l : List ℕ). before line-feed (drop at text) ∷ lines l) beyond-next
+      ap lines some ∙ lines_some (get_or text at 0) (drop (suc at) text) ∙
+      ap (λ (l : List ℕ). before line_feed l ∷ lines (beyond line_feed l)) (sym some) ∙
+      ap (λ (l : List ℕ). before line_feed (drop at text) ∷ lines l) beyond_next
 
   -- a line that is there brings the place further, and not past the end
-  pub next-further : at < length text → (at < next-line text at) × (next-line text at ≤ length text)
-  unfolding line-end line-bytes
-  next-further h =
-      let short = before-short line-feed (drop at text) in
+  pub next_further : at < length text → (at < next_line text at) × (next_line text at ≤ length text)
+  unfolding line_end line_bytes
+  next_further h =
+      let short = before_short line_feed (drop at text) in
       ⊎_elim
       (λ w. (omega (arith, w.0), omega (arith, w.0, w.1)))
       (λ w. (omega (arith, w.0, w.1), omega (arith, w.0, w.1, short, length-drop at text)))
-      next-cases
+      next_cases
 
 -- the test of the end says which of the two it is
 module _ (text : List ℕ) (at : ℕ) where
-  pub none_left : at-end text at ≡ true → lines (drop at text) ≡ []
-  unfolding at-end
+  pub none_left : at_end text at ≡ true → lines (drop at text) ≡ []
+  unfolding at_end
   none_left e = lines_end text at (leb-true (length text) at e)
 
-  pub one_left : at-end text at ≡ false →
-      lines (drop at text) ≡ line-bytes text at ∷ lines (drop (next-line text at) text)
-  unfolding at-end
+  pub one_left : at_end text at ≡ false →
+      lines (drop at text) ≡ line_bytes text at ∷ lines (drop (next_line text at) text)
+  unfolding at_end
   one_left e = lines_from text at (leb-false (length text) at e)
 
 -- a line that is lent by itself is the line at the first place, where no other follows
@@ -159,34 +159,34 @@ module _ (s : List ℕ) where
   lent_none : length s ≤ 0 → lines s ≡ []
   lent_none h = lines_end s 0 h
 
-  pub lent-line : next-line s 0 ≡ length s → line_at s 0 ≡ line_read (one_line (lines s))
-  unfolding line_at line-bytes before one_line
-  lent-line e =
+  pub lent_line : next_line s 0 ≡ length s → line_at s 0 ≡ line_read (one_line (lines s))
+  unfolding line_at line_bytes before one_line
+  lent_line e =
       ⊎_elim
       (λ (h : 0 < length s).
-      let last : lines (drop (next-line s 0) s) ≡ [] = lines_end s (next-line s 0) (omega arith) in
+      let last : lines (drop (next_line s 0) s) ≡ [] = lines_end s (next_line s 0) (omega arith) in
       sym (ap (λ (ls : List (List ℕ)). line_read (one_line ls))
-      (lines_from s 0 h ∙ ap (λ (ls : List (List ℕ)). line-bytes s 0 ∷ ls) last)))
+      (lines_from s 0 h ∙ ap (λ (ls : List (List ℕ)). line_bytes s 0 ∷ ls) last)))
       (λ (h : length s ≤ 0).
       let none : drop 0 s ≡ [] = drop_of_length-le s h in
-      ap (λ (l : List ℕ). line_read (before line-feed l)) none
+      ap (λ (l : List ℕ). line_read (before line_feed l)) none
       ∙ sym (ap (λ (ls : List (List ℕ)). line_read (one_line ls)) (lent_none h)))
-      (lt-or-ge 0 (length s))
+      (lt_or_ge 0 (length s))
 
-  pub lent-lines : next-line s 0 ≢ length s →
+  pub lent_lines : next_line s 0 ≢ length s →
       Line.Refused Refusal.BadLine ≡ line_read (one_line (lines s))
   unfolding one_line
-  lent-lines n =
-      sym blank-refused
+  lent_lines n =
+      sym blank_refused
       ∙ ⊎_elim
       (λ (h : 0 < length s).
-      let most = (next-further s 0 h).1 in
-      let more : next-line s 0 < length s =
-      ⊎_elim (λ l. l) (λ (l : length s ≤ next-line s 0). absurd (n (omega arith)))
-      (lt-or-ge (next-line s 0) (length s)) in
+      let most = (next_further s 0 h).1 in
+      let more : next_line s 0 < length s =
+      ⊎_elim (λ l. l) (λ (l : length s ≤ next_line s 0). absurd (n (omega arith)))
+      (lt_or_ge (next_line s 0) (length s)) in
       sym (ap (λ (ls : List (List ℕ)). line_read (one_line ls))
-      (lines_from s 0 h ∙ ap (λ (ls : List (List ℕ)). line-bytes s 0 ∷ ls)
-      (lines_from s (next-line s 0) more))))
+      (lines_from s 0 h ∙ ap (λ (ls : List (List ℕ)). line_bytes s 0 ∷ ls)
+      (lines_from s (next_line s 0) more))))
       (λ (h : length s ≤ 0).
       sym (ap (λ (ls : List (List ℕ)). line_read (one_line ls)) (lent_none h)))
-      (lt-or-ge 0 (length s))
+      (lt_or_ge 0 (length s))

@@ -5,30 +5,30 @@ use Rattle.std.specs.Prelude.{Bool, not, cond, ◌&&◌, ◌||◌, List, ℕ, le
 use Rattle.finite.specs.Lists.{all_in}
 use Rattle.model.specs.declared.Line.{Line}
 use Rattle.model.specs.declared.Refusal.{Refusal}
-use Rattle.model.specs.Spelling.{digit-zero}
-use Rattle.model.specs.Text.{digit-limit, is_digit, value_after, is_number, number-value, leading-digits, front}
+use Rattle.model.specs.Spelling.{digit_zero}
+use Rattle.model.specs.Text.{digit_limit, is_digit, value_after, is_number, number_value, leading_digits, front}
 use Rattle.survey.specs.declared.numbers.Front.{Front}
 use Rattle.survey.specs.declared.numbers.Magnitude.{Magnitude}
 
 -- "no leading zero save 0 itself"
-unfoldable pub no-leading-zero : List ℕ → Bool
-no-leading-zero d = not (eqb (get_or d 0 0) digit-zero) || eqb (length d) 1
+unfoldable pub no_leading_zero : List ℕ → Bool
+no_leading_zero d = not (eqb (get_or d 0 0) digit_zero) || eqb (length d) 1
 
 -- "1 to .. digits, no leading zero save 0 itself"
-unfoldable pub is-magnitude : List ℕ → Bool
-is-magnitude d =
-    leb 1 (length d) && leb (length d) digit-limit && all_in is_digit d && no-leading-zero d
+unfoldable pub is_magnitude : List ℕ → Bool
+is_magnitude d =
+    leb 1 (length d) && leb (length d) digit_limit && all_in is_digit d && no_leading_zero d
 
 -- what the digits at the front of a list stand for, and how many they are
-unfoldable pub magnitude-read : List ℕ → Magnitude
-magnitude-read s =
-    let d = leading-digits s in
-    cond (is-magnitude d) (Magnitude.Value (value_after 0 d) (length d)) Magnitude.Malformed
+unfoldable pub magnitude_read : List ℕ → Magnitude
+magnitude_read s =
+    let d = leading_digits s in
+    cond (is_magnitude d) (Magnitude.Value (value_after 0 d) (length d)) Magnitude.Malformed
 
 -- the number at the front of a list, and the place after it
-unfoldable pub front-number : List ℕ → Front
-front-number s =
-    let f = front s in cond (is_number f) (Front.Value (number-value f) (length f)) Front.Malformed
+unfoldable pub front_number : List ℕ → Front
+front_number s =
+    let f = front s in cond (is_number f) (Front.Value (number_value f) (length f)) Front.Malformed
 
 -- what a list of bytes stands for: a number that it spells, or none
 pub data Number : Type 0 where
@@ -36,7 +36,7 @@ pub data Number : Type 0 where
   no_number : Number
 
 unfoldable pub number_read : List ℕ → Number
-number_read s = cond (is_number s) (value_of (number-value s)) no_number
+number_read s = cond (is_number s) (value_of (number_value s)) no_number
 
 -- the point of two numbers, or number 8
 unfoldable pub named : Number → Number → Line

@@ -7,9 +7,9 @@ ghost use Rattle.finite.specs.Lists.{before};
 ghost use Rattle.model.specs.declared.Line.{Line};
 ghost use Rattle.model.specs.declared.Refusal.{Refusal};
 ghost use Rattle.model.specs.Text.{line_read, lines, one_line};
-ghost use Rattle.model.specs.Report.{text-limit};
-ghost use Rattle.survey.specs.Numbers.{front-number, named, number_read, value_of};
-ghost use Rattle.survey.specs.Places.{at-end, found_at, line-bytes, read_at};
+ghost use Rattle.model.specs.Report.{text_limit};
+ghost use Rattle.survey.specs.Numbers.{front_number, named, number_read, value_of};
+ghost use Rattle.survey.specs.Places.{at_end, found_at, line_bytes, read_at};
 
 use super::numbers::{Front, front_number};
 use model::{Line, Point, Refusal};
@@ -26,7 +26,7 @@ pub struct Read {
 
 // Whether a text is too long to be read: number 9.
 pub fn is_too_long(text: &[u8]) -> bool
-    ensures { result ≡ ltb text-limit (length text.now) }
+    ensures { result ≡ ltb text_limit (length text.now) }
 {
     TEXT_LIMIT < text.len()
 }
@@ -45,7 +45,7 @@ pub fn read_line(line: &[u8]) -> Line
 
 // Whether no line is left at place `at`.
 pub fn at_end(text: &[u8], at: usize) -> bool
-    ensures { result ≡ at-end text.now at }
+    ensures { result ≡ at_end text.now at }
 {
     text.len() <= at
 }
@@ -71,7 +71,7 @@ pub fn read_at(text: &[u8], at: usize) -> Read
 // The line whose first number is x, read on from the second number, at place `at`.
 fn read_second(text: &[u8], at: usize, x: i64) -> Read
     ensures { result ≡ found_at
-        (named (value_of x) (number_read (line-bytes text.now at)))
+        (named (value_of x) (number_read (line_bytes text.now at)))
         text.now at }
 {
     let second = front_at(text, at);
@@ -112,7 +112,7 @@ fn refused_from(text: &[u8], at: usize) -> Read
 
 // The number at the front of what stands from place `at` on.
 fn front_at(text: &[u8], at: usize) -> Front
-    ensures { result ≡ front-number (drop at text.now) }
+    ensures { result ≡ front_number (drop at text.now) }
 {
     if at < text.len() {
         front_number(&text[at..])

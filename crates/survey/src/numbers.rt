@@ -2,9 +2,9 @@
 // from the front of a list, up to the first byte that is no digit.
 
 ghost use Rattle.std.specs.Prelude.{◌≡◌, not, ◌||◌, ◌-◌, T, eqb};
-ghost use Rattle.model.specs.Spelling.{digit-zero};
+ghost use Rattle.model.specs.Spelling.{digit_zero};
 ghost use Rattle.model.specs.Text.{is_digit};
-ghost use Rattle.survey.specs.Numbers.{front-number, magnitude-read};
+ghost use Rattle.survey.specs.Numbers.{front_number, magnitude_read};
 
 // The most digits of a number.
 pub const DIGIT_LIMIT: usize = 10;
@@ -25,7 +25,7 @@ pub enum Front {
 
 // The number at the front of a list: an optional minus and all digits that follow.
 pub fn front_number(s: &[u8]) -> Front
-    ensures { result ≡ front-number s.now }
+    ensures { result ≡ front_number s.now }
 {
     let negative = 0 < s.len() && s[0] == b'-';
     let first = if negative { 1 } else { 0 };
@@ -53,7 +53,7 @@ pub fn front_number(s: &[u8]) -> Front
 // What the digits at the front of a list stand for: 1 to DIGIT_LIMIT of them, with no leading zero
 // save 0 itself.
 fn front_digits(s: &[u8]) -> Magnitude
-    ensures { result ≡ magnitude-read s.now }
+    ensures { result ≡ magnitude_read s.now }
 {
     let mut value: u64 = 0;
     let mut count = 0;
@@ -80,7 +80,7 @@ fn front_digits(s: &[u8]) -> Magnitude
 
 // Whether digits have no leading zero save 0 itself, told from the first of them and their number.
 fn has_no_leading_zero(first: u8, count: usize) -> bool
-    ensures { result ≡ (not (eqb first digit-zero) || eqb count 1) }
+    ensures { result ≡ (not (eqb first digit_zero) || eqb count 1) }
 {
     first != b'0' || count == 1
 }
@@ -93,7 +93,7 @@ fn is_digit(b: u8) -> bool
 
 fn digit_value(b: u8) -> u64
     requires { T (is_digit b) }
-    ensures { result ≡ b - digit-zero }
+    ensures { result ≡ b - digit_zero }
 {
     (b - b'0') as u64
 }

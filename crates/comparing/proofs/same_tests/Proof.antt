@@ -3,7 +3,7 @@ use borrow.Author.Rules.{rules}
 use Prim.Native.Nat.{◌-◌}
 use native.Mathlib.Omega.{arith}
 use mathlib.Core.Bool.{false, beq}
-use Rattle.comparing.proofs.Alike.{Comparing, different-lengths, none-compared, one-differs, one_alike, all_alike}
+use Rattle.comparing.proofs.Alike.{Comparing, different_lengths, none_compared, one_differs, one_alike, all_alike}
 use Rattle.comparing.proofs.same_tests.Statement.{statement}
 use Rattle.comparing.proofs.same_tests.Tie as tie
 
@@ -14,13 +14,13 @@ abbrev decreases-loop : tie.decreases-loop
 decreases-loop a b k₀ k-end k = k-end - k
 
 returns : tie.Need-returns invariant-loop decreases-loop
-returns c = different-lengths beq _ _ c.if1.true
+returns c = different_lengths beq _ _ c.if1.true
 
 loop-holds : tie.Need-loop-init invariant-loop decreases-loop
-loop-holds c = none-compared c.if1.false
+loop-holds c = none_compared c.if1.false
 
 returns-2 : tie.Need-returns-2 invariant-loop decreases-loop
-returns-2 c = one-differs c.before.before.before.before.loop.invariant (omega arith) c.if2.true
+returns-2 c = one_differs c.before.before.before.before.loop.invariant (omega arith) c.if2.true
 
 loop-again : tie.Need-loop-preserved invariant-loop decreases-loop
 loop-again c = one_alike c.before.before.before.before.loop.invariant c.if2.false
@@ -28,8 +28,8 @@ loop-again c = one_alike c.before.before.before.before.loop.invariant c.if2.fals
 returns-3 : tie.Need-returns-3 invariant-loop decreases-loop
 returns-3 c = all_alike c.before.loop.invariant (omega arith)
 
-pub same-tests-spec : {M : Type 1} → statement M
-same-tests-spec =
+pub same_tests_spec : {M : Type 1} → statement M
+same_tests_spec =
     tie.close
     (tie.spec
     invariant-loop

@@ -57,7 +57,7 @@ use Rattle.model.specs.declared.Line.{Line}
 use Rattle.model.specs.declared.Map.{Map}
 use Rattle.model.specs.Maps.{map_of}
 use Rattle.model.specs.contracts.Line as L
-use Rattle.survey.specs.Places.{at-end, next-line}
+use Rattle.survey.specs.Places.{at_end, next_line}
 use Rattle.survey.specs.Readers.{line_of, moved_on}
 use Rattle.model.proofs.Line.TheLaws as L'
 use Rattle.survey.specs.declared.reader.Reader.{Reader}
@@ -76,8 +76,8 @@ use Rattle.deciding.specs.declared.Tally.{Tally}
 use Rattle.deciding.specs.Deciding.{Surveying, Decidable, DecidedLine, Surveys}
 use Rattle.deciding.specs.contracts.Tally as U
 use Rattle.deciding.proofs.Tally.TheLaws as U'
-use Rattle.deciding.proofs.Lending.{Loan, Values, Names, lent, held, handed, tokens, kept, returned, own-tokens, lifetimes, whole-shares, refs, values_of, places, row, further, front, hold, unhold, lends-all, come-back}
-use Rattle.deciding.proofs.Decisions.{decidable, line-decided, nearer, all-decided}
+use Rattle.deciding.proofs.Lending.{Loan, Values, Names, lent, held, handed, tokens, kept, returned, own_tokens, lifetimes, whole_shares, refs, values_of, places, row, further, front, hold, unhold, lends_all, come_back}
+use Rattle.deciding.proofs.Decisions.{decidable, line_decided, nearer, all_decided}
 use Rattle.deciding.specs.contracts.decide_line as deciding
 use Rattle.deciding.proofs.decide_line.Symbol as deciding-def
 use Rattle.deciding.proofs.decide_line.Symbol.{name as #decide-line}
@@ -89,47 +89,47 @@ use Rattle.deciding.proofs.survey.Code as code
 use Rattle.deciding.proofs.survey.Code.Mir as parts
 
 -- the arrays, as they stand in the signature
-abbrev of-coordinates : Slot 10
-of-coordinates = ArrayOf (plain (λ _. i64)) (λ _. tt) 512
+abbrev of_coordinates : Slot 10
+of_coordinates = ArrayOf (plain (λ _. i64)) (λ _. tt) 512
 
-abbrev of-helpers : Slot 10
-of-helpers = ArrayOf (plain (λ _. bool)) (λ _. tt) 512
+abbrev of_helpers : Slot 10
+of_helpers = ArrayOf (plain (λ _. bool)) (λ _. tt) 512
 
-abbrev of-links : Slot 10
-of-links = ArrayOf (plain (λ _. usize)) (λ _. tt) 1024
+abbrev of_links : Slot 10
+of_links = ArrayOf (plain (λ _. usize)) (λ _. tt) 1024
 
-abbrev of-kinds : Slot 10
-of-kinds = ArrayOf (plain (λ _. u8)) (λ _. tt) 512
+abbrev of_kinds : Slot 10
+of_kinds = ArrayOf (plain (λ _. u8)) (λ _. tt) 512
 
-abbrev of-darts : Slot 10
-of-darts = ArrayOf (plain (λ _. u16)) (λ _. tt) 512
+abbrev of_darts : Slot 10
+of_darts = ArrayOf (plain (λ _. u16)) (λ _. tt) 512
 
-abbrev of-hashes : Slot 10
-of-hashes = ArrayOf (plain (λ _. bool)) (λ _. tt) 16384
+abbrev of_hashes : Slot 10
+of_hashes = ArrayOf (plain (λ _. bool)) (λ _. tt) 16384
 
-abbrev of-answers : Slot 10
-of-answers = ArrayOf (plain (λ _. u32)) (λ _. tt) 65536
+abbrev of_answers : Slot 10
+of_answers = ArrayOf (plain (λ _. u32)) (λ _. tt) 65536
 
 abbrev stayed : Stays (this.ended).signature.params (this.ended).kept
 stayed = (
   stay_none_slice (0 ∷ []) tt (plain (λ _. u8)) yes,
   (
-    stay_ref (1 ∷ []) tt of-coordinates,
+    stay_ref (1 ∷ []) tt of_coordinates,
     (
-      stay_ref (2 ∷ []) tt of-coordinates,
+      stay_ref (2 ∷ []) tt of_coordinates,
       (
-        stay_ref (3 ∷ []) tt of-helpers,
+        stay_ref (3 ∷ []) tt of_helpers,
         (
-          stay_ref (4 ∷ []) tt of-links,
+          stay_ref (4 ∷ []) tt of_links,
           (
-            stay_ref (5 ∷ []) tt of-kinds,
+            stay_ref (5 ∷ []) tt of_kinds,
             (
-              stay_ref (6 ∷ []) tt of-darts,
+              stay_ref (6 ∷ []) tt of_darts,
               (
-                stay_ref (7 ∷ []) tt of-darts,
+                stay_ref (7 ∷ []) tt of_darts,
                 (
-                  stay_ref (8 ∷ []) tt of-hashes,
-                  (stay_ref (9 ∷ []) tt of-answers, (stay_none (λ _. U.the_row) yes, tt)),
+                  stay_ref (8 ∷ []) tt of_hashes,
+                  (stay_ref (9 ∷ []) tt of_answers, (stay_none (λ _. U.the_row) yes, tt)),
                 ),
               ),
             ),
@@ -179,18 +179,18 @@ module _ {M : Type 1} {𝓤 : Ura M} (𝓛 : Logic 𝓤)
   -- the arrays, as they are lent to the function
   abbrev loans : List Loan
   loans =
-      lent (of-coordinates.row κs) κs.1.0 qs.1.0 a.1.0 ∷
-      lent (of-coordinates.row κs) κs.1.1.0 qs.1.1.0 a.1.1.0 ∷
-      lent (of-helpers.row κs) κs.1.1.1.0 qs.1.1.1.0 a.1.1.1.0 ∷
-      lent (of-links.row κs) κs.1.1.1.1.0 qs.1.1.1.1.0 a.1.1.1.1.0 ∷
-      lent (of-kinds.row κs) κs.1.1.1.1.1.0 qs.1.1.1.1.1.0 a.1.1.1.1.1.0 ∷
-      lent (of-darts.row κs) κs.1.1.1.1.1.1.0 qs.1.1.1.1.1.1.0
+      lent (of_coordinates.row κs) κs.1.0 qs.1.0 a.1.0 ∷
+      lent (of_coordinates.row κs) κs.1.1.0 qs.1.1.0 a.1.1.0 ∷
+      lent (of_helpers.row κs) κs.1.1.1.0 qs.1.1.1.0 a.1.1.1.0 ∷
+      lent (of_links.row κs) κs.1.1.1.1.0 qs.1.1.1.1.0 a.1.1.1.1.0 ∷
+      lent (of_kinds.row κs) κs.1.1.1.1.1.0 qs.1.1.1.1.1.0 a.1.1.1.1.1.0 ∷
+      lent (of_darts.row κs) κs.1.1.1.1.1.1.0 qs.1.1.1.1.1.1.0
       a.1.1.1.1.1.1.0 ∷
-      lent (of-darts.row κs) κs.1.1.1.1.1.1.1.0 qs.1.1.1.1.1.1.1.0
+      lent (of_darts.row κs) κs.1.1.1.1.1.1.1.0 qs.1.1.1.1.1.1.1.0
       a.1.1.1.1.1.1.1.0 ∷
-      lent (of-hashes.row κs) κs.1.1.1.1.1.1.1.1.0 qs.1.1.1.1.1.1.1.1.0
+      lent (of_hashes.row κs) κs.1.1.1.1.1.1.1.1.0 qs.1.1.1.1.1.1.1.1.0
       a.1.1.1.1.1.1.1.1.0 ∷
-      lent (of-answers.row κs) κs.1.1.1.1.1.1.1.1.1.0
+      lent (of_answers.row κs) κs.1.1.1.1.1.1.1.1.1.0
       qs.1.1.1.1.1.1.1.1.1.0 a.1.1.1.1.1.1.1.1.1.0 ∷
       []
 
@@ -202,8 +202,8 @@ module _ {M : Type 1} {𝓤 : Ura M} (𝓛 : Logic 𝓤)
   map_at xs t = map_of xs.0 xs.1.0 xs.1.1.0 xs.1.1.1.0 xs.1.1.1.1.0
       xs.1.1.1.1.1.0 xs.1.1.1.1.1.1.0 t.count t.reference
 
-  abbrev hashes-at : Values loans → List Bool
-  hashes-at xs = xs.1.1.1.1.1.1.1.0
+  abbrev hashes_at : Values loans → List Bool
+  hashes_at xs = xs.1.1.1.1.1.1.1.0
 
   abbrev answers_at : Values loans → List ℕ
   answers_at xs = xs.1.1.1.1.1.1.1.1.0
@@ -259,17 +259,17 @@ module _ {M : Type 1} {𝓤 : Ura M} (𝓛 : Logic 𝓤)
       (qed 𝓛 (Token ∷ ‵ (owns (ShrSlice (named 0) κ u8 ∷ usize ∷ []) (s, (n, tt))
       (v ∷ [], (vint w64 n ∷ [], tt))) ∷ []) ∵ join ! $ frame ! $ done !) $ frame ! $ done !
 
-  said-end : (n : ℕ) (r : Bool) → ent 𝓤
+  said_end : (n : ℕ) (r : Bool) → ent 𝓤
       (ensured 𝓛 ending.ended (ending.clauses 𝓛 mem run) (κ, tt) (s, (n, tt)) tt r)
-      (fact 𝓤 (r ≡ at-end text n))
-  said-end n r = ex_e 𝓤 _
+      (fact 𝓤 (r ≡ at_end text n))
+  said_end n r = ex_e 𝓤 _
       (λ ws. snd∗ 𝓤 (sem 𝓛 (lasts ending.ended (κ, tt) (s, (n, tt)) ws))
-      (fact 𝓤 (r ≡ at-end text n)))
+      (fact 𝓤 (r ≡ at_end text n)))
 
   -- the call of `next`: what the reader owns, and the reader that is lent for it
-  reader-own : (n : ℕ) → n < 2 ^ 64 → ent 𝓤 (⋆ 𝓛 (Token ∷ ‵ Own ∷ []))
+  reader_own : (n : ℕ) → n < 2 ^ 64 → ent 𝓤 (⋆ 𝓛 (Token ∷ ‵ Own ∷ []))
       (sep 𝓤 (A.lft κ q) (sep 𝓤 (sem 𝓛 (R.own_val (reader n) (mach n ∷ []))) (sem 𝓛 Own)))
-  reader-own n ok =
+  reader_own n ok =
       qed 𝓛 (Token ∷ ‵ Own ∷ []) ∵ split ! $ frame ! $ drop ! $
       use1 𝓛 (‵ Own ⊛ ‵ Own) ((shr_slice_copy 𝓛 (named 0) κ u8).twice s (v ∷ [])) $ split ! $
       nothing ! $ owned ! usize (Is usize) (uint_Makes 𝓛 w64) n _ (refl, ok) $ fjoin ! $
@@ -277,8 +277,8 @@ module _ {M : Type 1} {𝓤 : Ura M} (𝓛 : Logic 𝓤)
       use1 𝓛 (‵ (R.own_val (reader n) (mach n ∷ [])))
       (own_shut 𝓛 (T.the_type α) (T'.the_laws α) (s, (n, tt))) $ frame ! $ done !
 
-  abbrev to-next : ℕ → ℕ → GName → ℕ → (Reads 𝓛 mem run).Ghost
-  to-next l ν γ n = (
+  abbrev to_next : ℕ → ℕ → GName → ℕ → (Reads 𝓛 mem run).Ghost
+  to_next l ν γ n = (
     (
       (ν ∷ κ, (κ, tt)),
       (PosShare.left q, (PosShare.right q, tt)),
@@ -289,10 +289,10 @@ module _ {M : Type 1} {𝓤 : Ura M} (𝓛 : Logic 𝓤)
     tt,
   )
 
-  goes-next : (l ν : ℕ) (γ : GName) (n : ℕ) → ent 𝓤
+  goes_next : (l ν : ℕ) (γ : GName) (n : ℕ) → ent 𝓤
       (sep 𝓤 (sem 𝓛 (Cut R κ q l ν)) (sem 𝓛 (lent_at R κ q l (ν ∷ κ) γ (reader n))))
-      ((Reads 𝓛 mem run).pre (to-next l ν γ n))
-  goes-next l ν γ n =
+      ((Reads 𝓛 mem run).pre (to_next l ν γ n))
+  goes_next l ν γ n =
       qed 𝓛 (‵ (Cut R κ q l ν) ∷ ‵ (lent_at R κ q l (ν ∷ κ) γ (reader n)) ∷ []) ∵ fsplit ! $
       nothing ! $ move ! (2 ∷ 0 ∷ []) $ join ! $ move ! (1 ∷ 0 ∷ []) $ join ! $
       nothing ! $ move ! (2 ∷ 0 ∷ []) $ fjoin ! $ move ! (1 ∷ 0 ∷ []) $ join ! $ frame ! $ done !
@@ -302,21 +302,21 @@ module _ {M : Type 1} {𝓤 : Ura M} (𝓛 : Logic 𝓤)
   Moved n l d = (l ≡ line_of (reader n)) × (d ≡ moved_on (reader n))
 
   -- the call of `decide_line`, where the arrays are lent again
-  abbrev call-lfts : Names loans → Lfts 9
-  call-lfts ns = lifetimes loans ns
+  abbrev call_lfts : Names loans → Lfts 9
+  call_lfts ns = lifetimes loans ns
 
-  abbrev call-args : (ns : Names loans) → Values loans → Tally → Line → Args deciding.signature
-      (call-lfts ns)
-  call-args ns xs t l = refs loans ns xs (t, (l, tt))
+  abbrev call_args : (ns : Names loans) → Values loans → Tally → Line → Args deciding.signature
+      (call_lfts ns)
+  call_args ns xs t l = refs loans ns xs (t, (l, tt))
 
-  abbrev to-decide : (ns : Names loans) → Values loans → Tally → Line → Val → (Decides 𝓛 mem
+  abbrev to_decide : (ns : Names loans) → Values loans → Tally → Line → Val → (Decides 𝓛 mem
       run).Ghost
-  to-decide ns xs t l w = (
+  to_decide ns xs t l w = (
     (
-      call-lfts ns,
-      whole-shares loans,
+      call_lfts ns,
+      whole_shares loans,
       tt,
-      call-args ns xs t l,
+      call_args ns xs t l,
       places loans
           (U'.lowered t ∷ [], (w ∷ [], tt)),
     ),
@@ -326,24 +326,24 @@ module _ {M : Type 1} {𝓤 : Ura M} (𝓛 : Logic 𝓤)
   abbrev Passed : Tally → Line → Val → Fml
   Passed t l w = fsep (Tallied t) (fsep ((L.the_row).own_val l (w ∷ [])) ftrue)
 
-  goes-decide : (ns : Names loans) (xs : Values loans) (t : Tally) (l : Line) (w : Val) → Decidable
-      (map_at xs t) (hashes-at xs) (answers_at xs) t.lines l
+  goes_decide : (ns : Names loans) (xs : Values loans) (t : Tally) (l : Line) (w : Val) → Decidable
+      (map_at xs t) (hashes_at xs) (answers_at xs) t.lines l
       → ent 𝓤 (sep 𝓤 (sem 𝓛 (tokens loans ns)) (sem 𝓛 (handed loans ns xs (Passed t l w))))
-      ((Decides 𝓛 mem run).pre (to-decide ns xs t l w))
-  goes-decide ns xs t l w d = qed 𝓛
+      ((Decides 𝓛 mem run).pre (to_decide ns xs t l w))
+  goes_decide ns xs t l w d = qed 𝓛
       (‵ (tokens loans ns) ∷ ‵ (handed loans ns xs (Passed t l w)) ∷ []) ∵ says ! d $ frame ! $
       done !
 
   -- what it says of a line: the arrays at last, and the tally
   abbrev Ends : (ns : Names loans) → Values loans → Tally → Line → Type 0
-  Ends ns xs t l = Lasts deciding.ended (call-lfts ns) (call-args ns xs t l)
+  Ends ns xs t l = Lasts deciding.ended (call_lfts ns) (call_args ns xs t l)
 
   abbrev at_last : (ns : Names loans) (xs : Values loans) (t : Tally) (l : Line) → Ends ns xs t l →
       Values loans
   at_last ns xs t l ws = front (Unit {0} × (Unit {0} × Unit {0})) loans ws
 
   abbrev Says : Values loans → Values loans → Tally → Tally → Line → Type 0
-  Says xs ys t u l = DecidedLine (map_at xs t) (map_at ys u) (hashes-at ys) (answers_at xs)
+  Says xs ys t u l = DecidedLine (map_at xs t) (map_at ys u) (hashes_at ys) (answers_at xs)
       (answers_at ys) t.lines u.lines l
 
   exits : (xs : Values loans) (t : Tally) → Surveys text (map_at xs t) (answers_at xs) t.lines
@@ -357,27 +357,27 @@ module _ {M : Type 1} {𝓤 : Ura M} (𝓛 : Logic 𝓤)
       split ! $ move ! (1 ∷ []) $ drop ! $ nothing ! $ move ! (4 ∷ 0 ∷ []) $ fjoin ! $
       -- [what begun owns; the text's token; what the text owns; the arrays; what the tally owns]
       move ! (3 ∷ 0 ∷ []) $
-      use2 𝓛 (‵ (own-tokens loans) ⊛ ‵ (returned loans xs Begun)) (unhold 𝓛 loans xs Begun) $
+      use2 𝓛 (‵ (own_tokens loans) ⊛ ‵ (returned loans xs Begun)) (unhold 𝓛 loans xs Begun) $
       split ! $
       move ! (2 ∷ 0 ∷ []) $ join ! $ frame ! $ move ! (1 ∷ 0 ∷ []) $ fjoin ! $ done !
 
   -- how far the reader has come: the arrays, the tally and the place; the order is what is left of the text
   abbrev Come : Type 0
   Come = (xs : Values loans) × (t : Tally) × (n : ℕ) × Is U.the_row t (U'.lowered t ∷ []) ×
-      Surveying text (map_at xs t) (hashes-at xs) (answers_at xs) t.lines n
+      Surveying text (map_at xs t) (hashes_at xs) (answers_at xs) t.lines n
 
   abbrev Nearer : Come → Come → Type 0
   Nearer j i = length text - j.2 < length text - i.2
 
-  Nearer-wf : WellFounded Nearer
-  Nearer-wf = InvImage.wf (λ (i : Come). length text - i.2) lt-wf_rel.wf
+  Nearer_wf : WellFounded Nearer
+  Nearer_wf = InvImage.wf (λ (i : Come). length text - i.2) lt-wf_rel.wf
 
   -- the types of the locals
   abbrev word : Ty
   word = ty_int w64
 
-  abbrev given-text : Ty
-  given-text = slice_ty (ty_ref (named 0) imm (ty_int w8))
+  abbrev given_text : Ty
+  given_text = slice_ty (ty_ref (named 0) imm (ty_int w8))
 
   abbrev slice : Ty
   slice = slice_ty (ty_ref erased imm (ty_int w8))
@@ -416,8 +416,8 @@ module _ {M : Type 1} {𝓤 : Ura M} (𝓛 : Logic 𝓤)
   abbrev given : ℕ → Ty → Ty
   given k t = ty_ref (named k) mut t
 
-  abbrev again-to : Ty → Ty
-  again-to t = ty_ref erased mut t
+  abbrev again_to : Ty → Ty
+  again_to t = ty_ref erased mut t
 
   abbrev pointer : {X : Type 0} → Bor X → Val
   pointer r = vptr r.ptr.0 r.ptr.1
@@ -429,8 +429,8 @@ module _ {M : Type 1} {𝓤 : Ura M} (𝓛 : Logic 𝓤)
     room : length text < 2 ^ 64
     room = p.0.1.0
 
-    at-fits : (i : Come) → i.2 < 2 ^ 64
-    at-fits i = omega (arith, i.4.inside, room)
+    at_fits : (i : Come) → i.2 < 2 ^ 64
+    at_fits i = omega (arith, i.4.inside, room)
 
     abbrev C : Calls 𝓤 H
     C = 𝓣.C
@@ -445,25 +445,25 @@ module _ {M : Type 1} {𝓤 : Ura M} (𝓛 : Logic 𝓤)
         l24 l25 l26 l27 l28 : ℕ) where
       abbrev En : Env 𝓤 H
       En =
-          (tallied, l0) ∷ (given-text, l1) ∷ (given 1 coordinates, l2) ∷ (given 2 coordinates, l3) ∷
+          (tallied, l0) ∷ (given_text, l1) ∷ (given 1 coordinates, l2) ∷ (given 2 coordinates, l3) ∷
           (given 3 helped, l4) ∷ (given 4 links, l5) ∷ (given 5 kinds, l6) ∷ (given 6 darts, l7) ∷
           (given 7 darts, l8) ∷ (given 8 hashed, l9) ∷ (given 9 answered, l10) ∷ (tallied, l11) ∷
           (holding, l12) ∷ (tallied, l13) ∷ (L'.mir, l14) ∷ (ty_bool, l15) ∷ (slice, l16) ∷
-          (word, l17) ∷ (ty_bool, l18) ∷ (loan, l19) ∷ (again-to coordinates, l20) ∷
-          (again-to coordinates, l21) ∷ (again-to helped, l22) ∷ (again-to links, l23) ∷
-          (again-to kinds, l24) ∷ (again-to darts, l25) ∷ (again-to darts, l26) ∷
-          (again-to hashed, l27) ∷ (again-to answered, l28) ∷ []
+          (word, l17) ∷ (ty_bool, l18) ∷ (loan, l19) ∷ (again_to coordinates, l20) ∷
+          (again_to coordinates, l21) ∷ (again_to helped, l22) ∷ (again_to links, l23) ∷
+          (again_to kinds, l24) ∷ (again_to darts, l25) ∷ (again_to darts, l26) ∷
+          (again_to hashed, l27) ∷ (again_to answered, l28) ∷ []
 
       -- the invariant: the reader stands at its place, and the arrays are at hand
       abbrev At : Come → List (Item 𝓤)
       At i =
           Token ∷ ‵ Own ∷ ‵ (held loans i.0) ∷ ‵ (Tallied begun) ∷ ‵ (Tallied i.1) ∷
           locals 𝓤 (
-          vacant (again-to answered) l28 ∷ vacant (again-to hashed) l27 ∷ vacant (again-to darts)
+          vacant (again_to answered) l28 ∷ vacant (again_to hashed) l27 ∷ vacant (again_to darts)
           l26 ∷
-          vacant (again-to darts) l25 ∷ vacant (again-to kinds) l24 ∷ vacant (again-to links) l23 ∷
-          vacant (again-to helped) l22 ∷ vacant (again-to coordinates) l21 ∷
-          vacant (again-to coordinates) l20 ∷ vacant loan l19 ∷ vacant ty_bool l18 ∷ vacant word l17
+          vacant (again_to darts) l25 ∷ vacant (again_to kinds) l24 ∷ vacant (again_to links) l23 ∷
+          vacant (again_to helped) l22 ∷ vacant (again_to coordinates) l21 ∷
+          vacant (again_to coordinates) l20 ∷ vacant loan l19 ∷ vacant ty_bool l18 ∷ vacant word l17
           ∷
           vacant slice l16 ∷ vacant ty_bool l15 ∷ vacant L'.mir l14 ∷
           filled tallied l13 (U'.lowered i.1) ∷ filled holding l12 (mach i.2) ∷
@@ -476,7 +476,7 @@ module _ {M : Type 1} {𝓤 : Ura M} (𝓛 : Logic 𝓤)
           filled (given 4 links) l5 (pointer a.1.1.1.1.0) ∷
           filled (given 3 helped) l4 (pointer a.1.1.1.0) ∷
           filled (given 2 coordinates) l3 (pointer a.1.1.0) ∷
-          filled (given 1 coordinates) l2 (pointer a.1.0) ∷ filled given-text l1 v ∷
+          filled (given 1 coordinates) l2 (pointer a.1.0) ∷ filled given_text l1 v ∷
           vacant tallied l0 ∷ [])
 
       abbrev Turned : Come → Out → SProp 𝓤
@@ -493,9 +493,9 @@ module _ {M : Type 1} {𝓤 : Ura M} (𝓛 : Logic 𝓤)
           (init ! 29 refl (tt, (tt, (record { fits = room }, tt)))) $
           assigns ! (of_opd ! (load ! (from ! (fld ! refl (stop !)))
           (look_in ! 37 (sub ! 1 refl (whole !))))) (from ! (stop !))
-          (init ! 27 refl (tt, record { fits = at-fits i })) $
+          (init ! 27 refl (tt, record { fits = at_fits i })) $
           use2 𝓛 (raw ((AtEnd 𝓛 mem run).pre (to_end i.2)) ⊛ ‵ Own)
-          (goes_end i.2 (at-fits i)) $ split ! $
+          (goes_end i.2 (at_fits i)) $ split ! $
           calls_at ! fm (AtEnd 𝓛 mem run) known-end (to_end i.2)
           (and_then ! (load ! (from ! (stop !)) (look ! 29 refl))
           (and_then ! (load ! (from ! (stop !)) (look ! 27 refl)) (no_more !))) (λ u.
@@ -503,8 +503,8 @@ module _ {M : Type 1} {𝓤 : Ura M} (𝓛 : Logic 𝓤)
           (ensured 𝓛 ending.ended (ending.clauses 𝓛 mem run) (κ, tt) (s, (i.2, tt)) tt
           r)))) (id⊢ 𝓤 _) $ await ! tt $ pick ! (λ y.
           split ! $ move ! (1 ∷ []) $
-          use1 𝓛 (raw (fact 𝓤 (y ≡ at-end text i.2))) (said-end i.2 y) $
-          heard ! (y ≡ at-end text i.2) (λ e. split ! $ move ! (1 ∷ []) $
+          use1 𝓛 (raw (fact 𝓤 (y ≡ at_end text i.2))) (said_end i.2 y) $
+          heard ! (y ≡ at_end text i.2) (λ e. split ! $ move ! (1 ∷ []) $
           peeks ! Boolean (Is Boolean) (shows 𝓛 Boolean) y (u ∷ [])
           (λ is. land ! (from ! (stop !))
           (init ! 32 refl ((bool_Lawful 𝓛).typed y _ is).0) $
@@ -541,7 +541,7 @@ module _ {M : Type 1} {𝓤 : Ura M} (𝓛 : Logic 𝓤)
                 move ! (13 ∷ 14 ∷ []) $ free1 ! $ move ! (11 ∷ 12 ∷ []) $ free1 ! $
                 move ! (9 ∷ 10 ∷ []) $ free1 ! $ move ! (7 ∷ 8 ∷ []) $ free1 ! $
                 move ! (5 ∷ 6 ∷ []) $ free1 ! $ free0 ! $
-                by ! (exits i.0 i.1 (all-decided i.4 (sym e ∙ ended)))
+                by ! (exits i.0 i.1 (all_decided i.4 (sym e ∙ ended)))
             | inr failed ↦
                 let more = is_false y (T_not y failed) in
                 let there = sym e ∙ more in
@@ -551,7 +551,7 @@ module _ {M : Type 1} {𝓤 : Ura M} (𝓛 : Logic 𝓤)
                 -- the reader is lent
                 assigns ! (addr ! (from ! (stop !))) (from ! (stop !)) (init ! 23 refl (tt, tt)) $
                 use2 𝓛 (‵ (flft κ q) ⊛ ‵ (R.own_val (reader i.2) (mach i.2 ∷ [])) ⊛ ‵ Own)
-                (reader-own i.2 (at-fits i)) $ split ! $ move ! (1 ∷ []) $ split ! $
+                (reader_own i.2 (at_fits i)) $ split ! $ move ! (1 ∷ []) $ split ! $
                 move ! (38 ∷ []) $ use1 𝓛 (‵ (cell_at full_share R.mir (mach i.2 ∷ []) l12 0))
                 (𝓛.laws.at_raw full_share holding l12 0 (mach i.2)) $
                 move ! (0 ∷ 1 ∷ 3 ∷ []) $
@@ -561,10 +561,10 @@ module _ {M : Type 1} {𝓤 : Ura M} (𝓛 : Logic 𝓤)
                 (lends_local R κ q l12 𝓛 (reader i.2) (mach i.2 ∷ [])) $
                 await ! tt $ pick ! (λ m.
                 split ! $ move ! (1 ∷ []) $ split ! $ move ! (2 ∷ 0 ∷ []) $
-                use2 𝓛 (raw ((Reads 𝓛 mem run).pre (to-next l12 m.0 m.1 i.2)))
-                (goes-next l12 m.0 m.1 i.2) $
+                use2 𝓛 (raw ((Reads 𝓛 mem run).pre (to_next l12 m.0 m.1 i.2)))
+                (goes_next l12 m.0 m.1 i.2) $
                 -- `next`
-                calls_at ! fm (Reads 𝓛 mem run) known_read (to-next l12 m.0 m.1 i.2)
+                calls_at ! fm (Reads 𝓛 mem run) known_read (to_next l12 m.0 m.1 i.2)
                 (and_then ! (load ! (from ! (stop !)) (look ! 24 refl)) (no_more !)) (λ u'.
                 use1 𝓛 (later (some (λ (l : Line).
                 ((‵ (flft (m.0 ∷ κ) (PosShare.left q)) ⊛ ‵ (flft κ (PosShare.right q))
@@ -630,14 +630,14 @@ module _ {M : Type 1} {𝓤 : Ura M} (𝓛 : Logic 𝓤)
                 move ! (3 ∷ 0 ∷ []) $
                 use2 𝓛 (later (some (λ (ns : Names loans). ‵ (tokens loans ns)
                 ⊛ ‵ (handed loans ns i.0 (Passed i.1 l u')) ⊛ ‵ (kept loans ns i.0))))
-                (lends-all 𝓛 loans i.0 (Passed i.1 l u')) $ await ! tt $
+                (lends_all 𝓛 loans i.0 (Passed i.1 l u')) $ await ! tt $
                 pick ! (λ ns.
                 split ! $ move ! (1 ∷ []) $ split ! $ move ! (2 ∷ 0 ∷ []) $
-                use2 𝓛 (raw ((Decides 𝓛 mem run).pre (to-decide ns i.0 i.1 l u')))
-                (goes-decide ns i.0 i.1 l u' (decidable i.4 there moved.0)) $
+                use2 𝓛 (raw ((Decides 𝓛 mem run).pre (to_decide ns i.0 i.1 l u')))
+                (goes_decide ns i.0 i.1 l u' (decidable i.4 there moved.0)) $
                 -- `decide_line`
                 calls_at_last ! fm (Decides 𝓛 mem run) known-decide
-                (to-decide ns i.0 i.1 l u')
+                (to_decide ns i.0 i.1 l u')
                 (and_then ! (load ! (from ! (stop !)) (look ! 21 refl))
                 (and_then ! (load ! (from ! (stop !)) (look ! 19 refl))
                 (and_then ! (load ! (from ! (stop !)) (look ! 17 refl))
@@ -652,11 +652,11 @@ module _ {M : Type 1} {𝓤 : Ura M} (𝓛 : Logic 𝓤)
                 (λ u''.
                 use1 𝓛 (later (some (λ (t : Tally).
                 (‵ (tokens loans ns) ⊛ ‵ ((U.the_row).own_val t (u'' ∷ []))) ⊛ raw
-                (ensured 𝓛 deciding.ended (deciding.clauses 𝓛 mem run) (call-lfts ns)
-                (call-args ns i.0 i.1 l) tt t)))) (id⊢ 𝓤 _) $ await ! tt $ pick ! (λ t.
+                (ensured 𝓛 deciding.ended (deciding.clauses 𝓛 mem run) (call_lfts ns)
+                (call_args ns i.0 i.1 l) tt t)))) (id⊢ 𝓤 _) $ await ! tt $ pick ! (λ t.
                 split ! $ move ! (1 ∷ []) $
                 use1 𝓛 (some (λ (zs : Ends ns i.0 i.1 l).
-                ‵ (lasts deciding.ended (call-lfts ns) (call-args ns i.0 i.1 l) zs) ⊛ raw
+                ‵ (lasts deciding.ended (call_lfts ns) (call_args ns i.0 i.1 l) zs) ⊛ raw
                 (fact 𝓤 (Says i.0 (at_last ns i.0 i.1 l zs) i.1 t l)))) (id⊢ 𝓤 _) $
                 pick ! (λ zs.
                 split ! $ move ! (1 ∷ []) $
@@ -665,7 +665,7 @@ module _ {M : Type 1} {𝓤 : Ura M} (𝓛 : Logic 𝓤)
                 -- [the tokens; what the tally owns; the last values; what is kept; the token; what the text owns; what begun owns; …]: the arrays come back
                 move ! (0 ∷ 3 ∷ 2 ∷ []) $
                 use3 𝓛 (later (‵ (held loans (at_last ns i.0 i.1 l zs))))
-                (come-back 𝓛 loans ns i.0 (at_last ns i.0 i.1 l zs)
+                (come_back 𝓛 loans ns i.0 (at_last ns i.0 i.1 l zs)
                 (fsep ftrue (fsep ftrue ftrue))) $ await ! tt $
                 move ! (1 ∷ []) $ peeks ! U.the_row (Is U.the_row) (shows 𝓛 U.the_row) t
                 (u'' ∷ []) (λ is''.
@@ -683,10 +683,10 @@ module _ {M : Type 1} {𝓤 : Ura M} (𝓛 : Logic 𝓤)
                 again ! Nearer At i (
                   at_last ns i.0 i.1 l zs,
                   t,
-                  next-line text i.2,
+                  next_line text i.2,
                   subst
                       (Is U.the_row t) (LL.tells U.the_type U'.the_laws t _ is'') is'',
-                  line-decided
+                  line_decided
                       i.4 there moved.0 decided,
                 ) (nearer i.4 there)))))))))))))))
           ]))))
@@ -694,13 +694,13 @@ module _ {M : Type 1} {𝓤 : Ura M} (𝓛 : Logic 𝓤)
       -- the loop, and what comes after it
       looped : (i : Come) → Sq 𝓛 (At i) (runs C Λ En parts.t-3 (at_ret En Post))
       looped i = first ! {a = parts.s-3} {b = parts.t-4} $ blocks ! {b = loop parts.turn-1} $
-          loops ! 𝓣 Nearer Nearer-wf At {b = parts.turn-1} turns i
+          loops ! 𝓣 Nearer Nearer_wf At {b = parts.turn-1} turns i
 
     walk : Is U.the_row begun (U'.lowered begun ∷ []) → Surveying text (map_at entry begun)
-        (hashes-at entry) (answers_at entry) begun.lines 0
+        (hashes_at entry) (answers_at entry) begun.lines 0
         → ent 𝓤 (on_entry 𝓛 this.signature κs qs a vals) (WpFn 𝓤 H C Λ code.function flat Post)
     walk fits ready =
-        qed 𝓛 ((‵ (flft κ q) ⊛ ‵ (own-tokens loans)) ∷ ‵ (fsep Own (returned loans entry Begun))
+        qed 𝓛 ((‵ (flft κ q) ⊛ ‵ (own_tokens loans)) ∷ ‵ (fsep Own (returned loans entry Begun))
         ∷ []) ∵ enter ! C Λ code.function flat _ $
         alloc1 ! (λ l0. alloc1 ! (λ l1.
         alloc1 ! (λ l2. alloc1 ! (λ l3.
@@ -750,9 +750,9 @@ module _ {M : Type 1} {𝓤 : Ura M} (𝓛 : Logic 𝓤)
     (known-decide : Triple 𝓤 (𝓣.C #decide-line) (Decides 𝓛 mem run)) where
   open 𝓛 use {H}
 
-  survey-walks : Walks 𝓛 this.ended stayed (WpFn 𝓤 H 𝓣.C 𝓣.Λ code.function)
+  survey_walks : Walks 𝓛 this.ended stayed (WpFn 𝓤 H 𝓣.C 𝓣.Λ code.function)
       (this.clauses 𝓛 mem run)
-  survey-walks = walked 𝓛 this.ended stayed (this.clauses 𝓛 mem run)
+  survey_walks = walked 𝓛 this.ended stayed (this.clauses 𝓛 mem run)
       (WpFn 𝓤 H 𝓣.C 𝓣.Λ code.function)
       (λ κs. (
         shr_slice_vals,
@@ -778,22 +778,22 @@ module _ {M : Type 1} {𝓤 : Ura M} (𝓛 : Logic 𝓤)
       in (
         shr_slice_Tells (named 0) κs.0 u8,
         (
-          tells (of-coordinates.row κs),
+          tells (of_coordinates.row κs),
           (
-            tells (of-coordinates.row κs),
+            tells (of_coordinates.row κs),
             (
-              tells (of-helpers.row κs),
+              tells (of_helpers.row κs),
               (
-                tells (of-links.row κs),
+                tells (of_links.row κs),
                 (
-                  tells (of-kinds.row κs),
+                  tells (of_kinds.row κs),
                   (
-                    tells (of-darts.row κs),
+                    tells (of_darts.row κs),
                     (
-                      tells (of-darts.row κs),
+                      tells (of_darts.row κs),
                       (
-                        tells (of-hashes.row κs),
-                        (tells (of-answers.row κs), (LL.tells U.the_type U'.the_laws, tt)),
+                        tells (of_hashes.row κs),
+                        (tells (of_answers.row κs), (LL.tells U.the_type U'.the_laws, tt)),
                       ),
                     ),
                   ),
@@ -807,29 +807,29 @@ module _ {M : Type 1} {𝓤 : Ura M} (𝓛 : Logic 𝓤)
       (λ ready. walk 𝓛 mem run κs qs a are.0 𝓣 known-end known_read known-decide
       are.1.1.1.1.1.1.1.1.1.1.0 ready))
 
-  survey-meets : Meets 𝓛 this.signature (WpFn 𝓤 H 𝓣.C 𝓣.Λ code.function)
+  survey_meets : Meets 𝓛 this.signature (WpFn 𝓤 H 𝓣.C 𝓣.Λ code.function)
       (this.spec 𝓛 mem run)
-  survey-meets =
+  survey_meets =
       walk_Meets 𝓛 this.ended stayed (
         Goes-none_slice 𝓛 10 (0 ∷ []) tt (plain (λ _. u8)) yes,
         (
-          Goes-ref 𝓛 10 1 tt of-coordinates,
+          Goes-ref 𝓛 10 1 tt of_coordinates,
           (
-            Goes-ref 𝓛 10 2 tt of-coordinates,
+            Goes-ref 𝓛 10 2 tt of_coordinates,
             (
-              Goes-ref 𝓛 10 3 tt of-helpers,
+              Goes-ref 𝓛 10 3 tt of_helpers,
               (
-                Goes-ref 𝓛 10 4 tt of-links,
+                Goes-ref 𝓛 10 4 tt of_links,
                 (
-                  Goes-ref 𝓛 10 5 tt of-kinds,
+                  Goes-ref 𝓛 10 5 tt of_kinds,
                   (
-                    Goes-ref 𝓛 10 6 tt of-darts,
+                    Goes-ref 𝓛 10 6 tt of_darts,
                     (
-                      Goes-ref 𝓛 10 7 tt of-darts,
+                      Goes-ref 𝓛 10 7 tt of_darts,
                       (
-                        Goes-ref 𝓛 10 8 tt of-hashes,
+                        Goes-ref 𝓛 10 8 tt of_hashes,
                         (
-                          Goes-ref 𝓛 10 9 tt of-answers,
+                          Goes-ref 𝓛 10 9 tt of_answers,
                           (Goes-none 𝓛 10 (λ _. U.the_row) yes (λ κs x f. refl), tt),
                         ),
                       ),
@@ -842,18 +842,18 @@ module _ {M : Type 1} {𝓤 : Ura M} (𝓛 : Logic 𝓤)
         ),
       )
       (this.clauses 𝓛 mem run) (WpFn 𝓤 H 𝓣.C 𝓣.Λ code.function)
-      (WpFn-mono 𝓤 H 𝓛.laws 𝓣 code.function) survey-walks
+      (WpFn-mono 𝓤 H 𝓛.laws 𝓣 code.function) survey_walks
 
-pub survey-spec : {M : Type 1} → stated.statement M
+pub survey_spec : {M : Type 1} → stated.statement M
 unfolding code.routine tables_of
-survey-spec 𝓤 𝓛 𝓜 𝓡 =
+survey_spec 𝓤 𝓛 𝓜 𝓡 =
     entered 𝓤 𝓛.H (triple_of 𝓛 this.signature (this.spec 𝓛 𝓜.mem 𝓡.run))
     (tables 𝓤 𝓛.H 𝓜 𝓡 code.env).C (tables 𝓤 𝓛.H 𝓜 𝓡 code.env).Λ #this code.function
     (code.unfolded 𝓤 𝓛.H 𝓜 𝓡)
-    (survey-meets 𝓛 𝓜.mem 𝓡.run
+    (survey_meets 𝓛 𝓜.mem 𝓡.run
     (tables_of 𝓤 𝓛.H 𝓜 (tables 𝓤 𝓛.H 𝓜 𝓡 code.env))
     (cited 𝓤 𝓛.H (AtEnd 𝓛 𝓜.mem 𝓡.run) 𝓜 𝓡 code.env #at-end ending-def.routine
-    code.calls-survey::lines::at-end (ending-thm.met 𝓤 𝓛 𝓜 𝓡))
+    code.calls-survey::lines::at_end (ending-thm.met 𝓤 𝓛 𝓜 𝓡))
     (cited 𝓤 𝓛.H (Reads 𝓛 𝓜.mem 𝓡.run) 𝓜 𝓡 code.env #next reading-def.routine
     code.calls-survey::reader::next (reading-thm.met 𝓤 𝓛 𝓜 𝓡))
     (cited 𝓤 𝓛.H (Decides 𝓛 𝓜.mem 𝓡.run) 𝓜 𝓡 code.env #decide-line

@@ -8,12 +8,12 @@ use lib.IntN.{ℤ}
 use lib.ListN.{length, length-append}
 use Rattle.model.specs.declared.Point.{Point}
 use Rattle.model.specs.Spelling.{bytes}
-use Rattle.model.specs.Maps.{point-limit}
+use Rattle.model.specs.Maps.{point_limit}
 use Rattle.model.specs.Outlines.{joined}
-use Rattle.drawings.specs.Positions.{points-at, next-text}
-use Rattle.drawings.proofs.Joined.{position-most, next-length}
-use Rattle.drawings.proofs.Outlines.{text-none, text-one, text-two, text-more}
-use Rattle.drawings.proofs.Outlines.{others, others-few, length_three, positions-most}
+use Rattle.drawings.specs.Positions.{points_at, next_text}
+use Rattle.drawings.proofs.Joined.{position_most, next_length}
+use Rattle.drawings.proofs.Outlines.{text_none, text_one, text_two, text_more}
+use Rattle.drawings.proofs.Outlines.{others, others_few, length_three, positions_most}
 use Rattle.drawings.proofs.outline_length.Statement.{statement}
 use Rattle.drawings.proofs.outline_length.Tie as tie
 
@@ -21,12 +21,12 @@ returns : tie.Need-returns
 unfolding bytes
 returns c =
     let a = c.before.before.args in
-    omega (arith, ap length (text-none a.xs.now a.ys.now a.corners.now c.if1.true))
+    omega (arith, ap length (text_none a.xs.now a.ys.now a.corners.now c.if1.true))
 
 positions-length-requires : tie.Need-positions-length-requires
 positions-length-requires c κs =
     let s = c.before.before.before.before.before in
-    others-few s.args.corners.now s.requires
+    others_few s.args.corners.now s.requires
 
 -- where the positions' length is known
 module _ (c : tie.After-positions-length) where
@@ -49,10 +49,10 @@ module _ (c : tie.After-positions-length) where
   first = at_first.point_at.result
 
   abbrev positions : List ℕ
-  positions = joined first (points-at xs ys (others corners))
+  positions = joined first (points_at xs ys (others corners))
 
-  few : c.positions-length.result ≤ 43 + 45 * point-limit
-  few = omega (arith, c.positions-length.ensures, positions-most xs ys first corners s.pre)
+  few : c.positions-length.result ≤ 43 + 45 * point_limit
+  few = omega (arith, c.positions-length.ensures, positions_most xs ys first corners s.pre)
 
 add-result : tie.Need-overflow-add-result
 add-result c = omega (arith, few c.before)
@@ -64,7 +64,7 @@ returns-2 : tie.Need-returns-2
 unfolding bytes
 returns-2 c =
     let p = c.before in
-    let text = text-one (xs p) (ys p) (corners p) (at_first p).point_at.ensures c.if2.true in
+    let text = text_one (xs p) (ys p) (corners p) (at_first p).point_at.ensures c.if2.true in
     omega (
       arith,
       p.positions-length.ensures,
@@ -82,7 +82,7 @@ returns-3 : tie.Need-returns-3
 unfolding bytes
 returns-3 c =
     let p = c.before.before in
-    let text = text-two (xs p) (ys p) (corners p) (at_first p).point_at.ensures c.if3.true in
+    let text = text_two (xs p) (ys p) (corners p) (at_first p).point_at.ensures c.if3.true in
     omega (
       arith,
       p.positions-length.ensures,
@@ -95,39 +95,39 @@ module _ (c : tie.After-position-length) where
   abbrev p : tie.After-positions-length
   p = c.before.before.before
 
-  last-few : 10 + p.positions-length.result + (2 + c.position-length.result) + 2
-      ≤ 100 + 45 * point-limit
-  last-few = omega (arith, few p, c.position-length.ensures, position-most (first p))
+  last_few : 10 + p.positions-length.result + (2 + c.position_length.result) + 2
+      ≤ 100 + 45 * point_limit
+  last_few = omega (arith, few p, c.position_length.ensures, position_most (first p))
 
 add-closing : tie.Need-overflow-add-closing
-add-closing c = omega (arith, last-few c)
+add-closing c = omega (arith, last_few c)
 
 add-result-5 : tie.Need-overflow-add-result-5
-add-result-5 c = omega (arith, last-few c)
+add-result-5 c = omega (arith, last_few c)
 
 add-result-6 : tie.Need-overflow-add-result-6
-add-result-6 c = omega (arith, last-few c)
+add-result-6 c = omega (arith, last_few c)
 
 add-result-7 : tie.Need-overflow-add-result-7
-add-result-7 c = omega (arith, last-few c)
+add-result-7 c = omega (arith, last_few c)
 
 returns-4 : tie.Need-returns-4
 unfolding bytes
 returns-4 c =
     let q = p c in
-    let text = text-more (xs q) (ys q) (corners q) (at_first q).point_at.ensures (omega arith) in
+    let text = text_more (xs q) (ys q) (corners q) (at_first q).point_at.ensures (omega arith) in
     omega (
       arith,
       q.positions-length.ensures,
-      c.position-length.ensures,
-      next-length (first q),
+      c.position_length.ensures,
+      next_length (first q),
       ap length text,
-      length_three (bytes "POLYGON ((" ++ positions q) (next-text (first q)) (bytes "))"),
+      length_three (bytes "POLYGON ((" ++ positions q) (next_text (first q)) (bytes "))"),
       length-append (bytes "POLYGON ((") (positions q),
     )
 
-pub outline-length-spec : {M : Type 1} → statement M
-outline-length-spec =
+pub outline_length_spec : {M : Type 1} → statement M
+outline_length_spec =
     tie.close
     (tie.spec
     returns

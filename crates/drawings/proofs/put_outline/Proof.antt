@@ -6,24 +6,24 @@ use mathlib.Core.List.{List, ◌++◌}
 use Prim.Native.Nat.{ℕ}
 use native.Mathlib.Omega.{arith}
 use Rattle.model.specs.Spelling.{bytes}
-use Rattle.model.specs.Outlines.{outline-text, joined}
+use Rattle.model.specs.Outlines.{outline_text, joined}
 use Rattle.printing.specs.Writing.{Room, PutAt}
-use Rattle.printing.proofs.Overwriting.{room-first, room-second, room_as, wrote_then, wrote_as}
-use Rattle.drawings.specs.Positions.{points-at, next-text}
-use Rattle.drawings.proofs.Parts.{front-room, back-room, both-written}
-use Rattle.drawings.proofs.Outlines.{others, text-none, text-one, text-two, text-more}
+use Rattle.printing.proofs.Overwriting.{room_first, room_second, room_as, wrote_then, wrote_as}
+use Rattle.drawings.specs.Positions.{points_at, next_text}
+use Rattle.drawings.proofs.Parts.{front_room, back_room, both_written}
+use Rattle.drawings.proofs.Outlines.{others, text_none, text_one, text_two, text_more}
 use Rattle.drawings.proofs.put_outline.Statement.{statement}
 use Rattle.drawings.proofs.put_outline.Tie as tie
 
 abbrev text_of : tie.Start → List ℕ
-text_of s = outline-text (points-at s.args.xs.now s.args.ys.now s.args.corners.now)
+text_of s = outline_text (points_at s.args.xs.now s.args.ys.now s.args.corners.now)
 
 -- ---- no corner
 
 none : (t : tie.Then1) → text_of t.before.before.before ≡ bytes "POLYGON EMPTY"
 none t =
     let a = t.before.before.before.args in
-    text-none a.xs.now a.ys.now a.corners.now t.if1.true
+    text_none a.xs.now a.ys.now a.corners.now t.if1.true
 
 put-word-requires : tie.Need-put-word-requires
 unfolding bytes
@@ -38,16 +38,16 @@ returns c =
 
 -- ---- some corners: the first was read, and the others are lent
 
-abbrev at-start : tie.After-others → tie.Start
-at-start o = o.before.before.before.before.before.before
+abbrev at_start : tie.After-others → tie.Start
+at_start o = o.before.before.before.before.before.before
 
 -- a word, and then the positions
 abbrev opened : List ℕ → tie.After-others → List ℕ
 opened word o =
-    let a = (at-start o).args in
+    let a = (at_start o).args in
     word
     ++ joined o.before.point_at.result
-    (points-at a.xs.now a.ys.now (others a.corners.now))
+    (points_at a.xs.now a.ys.now (others a.corners.now))
 
 -- ---- one corner
 
@@ -55,17 +55,17 @@ module _ (t : tie.Then2) where
   abbrev point : List ℕ
   point = opened (bytes "POINT (") t.before
 
-  one : text_of (at-start t.before) ≡ point ++ bytes ")"
+  one : text_of (at_start t.before) ≡ point ++ bytes ")"
   one =
-      let a = (at-start t.before).args in
-      text-one a.xs.now a.ys.now a.corners.now t.before.before.point_at.ensures
+      let a = (at_start t.before).args in
+      text_one a.xs.now a.ys.now a.corners.now t.before.before.point_at.ensures
       t.if2.taken
 
 put-positions-requires : tie.Need-put-positions-requires
 unfolding bytes
 put-positions-requires c κs =
     let t = c.before.before in
-    front-room (point t) (bytes ")") (one t) (at-start t.before).requires
+    front_room (point t) (bytes ")") (one t) (at_start t.before).requires
 
 abbrev at-point : tie.After-put-positions → tie.Then2
 at-point c = c.before.before.before
@@ -75,7 +75,7 @@ unfolding bytes
 put-byte-requires c κs =
     let call = c.before.before.before in
     let t = at-point call in
-    back-room (point t) (bytes ")") (one t) (at-start t.before).requires
+    back_room (point t) (bytes ")") (one t) (at_start t.before).requires
     call.put-positions.ensures
 
 returns-2 : tie.Need-returns-2
@@ -84,7 +84,7 @@ returns-2 c =
     let last = c.before.before in
     let call = last.before.before.before.before in
     let t = at-point call in
-    both-written (point t) (bytes ")") (one t) (at-start t.before).requires
+    both_written (point t) (bytes ")") (one t) (at_start t.before).requires
     call.put-positions.ensures last.put_byte.ensures
 
 -- ---- two corners
@@ -93,18 +93,18 @@ module _ (t : tie.Then3) where
   abbrev line : List ℕ
   line = opened (bytes "LINESTRING (") t.before.before
 
-  two : text_of (at-start t.before.before) ≡ line ++ bytes ")"
+  two : text_of (at_start t.before.before) ≡ line ++ bytes ")"
   two =
       let o = t.before.before in
-      let a = (at-start o).args in
-      text-two a.xs.now a.ys.now a.corners.now o.before.point_at.ensures
+      let a = (at_start o).args in
+      text_two a.xs.now a.ys.now a.corners.now o.before.point_at.ensures
       t.if3.taken
 
 put-positions-requires-2 : tie.Need-put-positions-requires-2
 unfolding bytes
 put-positions-requires-2 c κs =
     let t = c.before.before in
-    front-room (line t) (bytes ")") (two t) (at-start t.before.before).requires
+    front_room (line t) (bytes ")") (two t) (at_start t.before.before).requires
 
 abbrev at-line : tie.After-put-positions2 → tie.Then3
 at-line c = c.before.before.before
@@ -114,7 +114,7 @@ unfolding bytes
 put-byte-requires-2 c κs =
     let call = c.before.before.before in
     let t = at-line call in
-    back-room (line t) (bytes ")") (two t) (at-start t.before.before).requires
+    back_room (line t) (bytes ")") (two t) (at_start t.before.before).requires
     call.put-positions2.ensures
 
 returns-3 : tie.Need-returns-3
@@ -123,7 +123,7 @@ returns-3 c =
     let last = c.before.before in
     let call = last.before.before.before.before in
     let t = at-line call in
-    both-written (line t) (bytes ")") (two t) (at-start t.before.before).requires
+    both_written (line t) (bytes ")") (two t) (at_start t.before.before).requires
     call.put-positions2.ensures last.put-byte2.ensures
 
 -- ---- three corners or more: the first one again, and then two brackets
@@ -136,21 +136,21 @@ module _ (t : tie.Else3) where
   polygon = opened (bytes "POLYGON ((") o
 
   abbrev again : List ℕ
-  again = next-text o.before.point_at.result
+  again = next_text o.before.point_at.result
 
-  more : text_of (at-start o) ≡ polygon ++ again ++ bytes "))"
+  more : text_of (at_start o) ≡ polygon ++ again ++ bytes "))"
   more =
-      let a = (at-start o).args in
-      text-more a.xs.now a.ys.now a.corners.now o.before.point_at.ensures
+      let a = (at_start o).args in
+      text_more a.xs.now a.ys.now a.corners.now o.before.point_at.ensures
       (omega (arith, t.if3.left, t.before.if2.left, o.before.before.before.if1.left))
 
-  room-ring : Room (at-start o).args.lent.now (at-start o).args.at (polygon ++ again)
-  room-ring = front-room (polygon ++ again) (bytes "))") more (at-start o).pre
+  room_ring : Room (at_start o).args.lent.now (at_start o).args.at (polygon ++ again)
+  room_ring = front_room (polygon ++ again) (bytes "))") more (at_start o).pre
 
 put-positions-requires-3 : tie.Need-put-positions-requires-3
 unfolding bytes
 put-positions-requires-3 c κs =
-    let t = c.before.before in room-first (polygon t) (again t) (room-ring t)
+    let t = c.before.before in room_first (polygon t) (again t) (room_ring t)
 
 abbrev at-ring : tie.After-put-positions3 → tie.Else3
 at-ring c = c.before.before.before
@@ -160,7 +160,7 @@ unfolding bytes
 put-next-requires c κs =
     let call = c.before.before.before in
     let t = at-ring call in
-    room-second {s = polygon t} call.put-positions3.ensures (again t) (room-ring t)
+    room_second {s = polygon t} call.put-positions3.ensures (again t) (room_ring t)
 
 -- where the ring is closed
 module _ (c : tie.After-put-next) where
@@ -170,18 +170,18 @@ module _ (c : tie.After-put-next) where
   abbrev t : tie.Else3
   t = at-ring call
 
-  closed : PutAt (at-start (o t)).args.lent.now (at-start (o t)).args.at (polygon t ++ again t)
+  closed : PutAt (at_start (o t)).args.lent.now (at_start (o t)).args.at (polygon t ++ again t)
       c.put_next.new.0 c.put_next.result
   unfolding bytes
   closed =
-      wrote_then {s = polygon t} call.put-positions3.ensures (room-ring t)
+      wrote_then {s = polygon t} call.put-positions3.ensures (room_ring t)
       c.put_next.ensures
 
 put-word-requires-2 : tie.Need-put-word-requires-2
 unfolding bytes
 put-word-requires-2 c κs =
     let r = c.before.before.before.before in
-    back-room (polygon (t r) ++ again (t r)) (bytes "))") (more (t r)) (at-start (o (t r))).requires
+    back_room (polygon (t r) ++ again (t r)) (bytes "))") (more (t r)) (at_start (o (t r))).requires
     (closed r)
 
 returns-4 : tie.Need-returns-4
@@ -189,11 +189,11 @@ unfolding bytes
 returns-4 c =
     let last = c.before.before in
     let r = last.before.before.before.before.before in
-    both-written (polygon (t r) ++ again (t r)) (bytes "))") (more (t r)) (at-start (o (t r))).requires
+    both_written (polygon (t r) ++ again (t r)) (bytes "))") (more (t r)) (at_start (o (t r))).requires
     (closed r) last.put-word2.ensures
 
-pub put-outline-spec : {M : Type 1} → statement M
-put-outline-spec =
+pub put_outline_spec : {M : Type 1} → statement M
+put_outline_spec =
     tie.close
     (tie.spec
     (λ c. search rules)

@@ -2,17 +2,17 @@
 -- front on.
 use borrow.Author.Rules.{rules}
 use mathlib.Core.Path.{◌∙◌}
-use Rattle.finite.specs.Overwriting.{over-front}
-use Rattle.drawings.proofs.Outlines.{first-length}
+use Rattle.finite.specs.Overwriting.{over_front}
+use Rattle.drawings.proofs.Outlines.{first_length}
 use Rattle.drawings.proofs.write_text.Statement.{statement}
 use Rattle.drawings.proofs.write_text.Tie as tie
 
 slice-aggregate-put-outline : tie.Need-slice-aggregate-put-outline
-slice-aggregate-put-outline c = first-length c.before.before.before.before.requires.0
+slice-aggregate-put-outline c = first_length c.before.before.before.before.requires.0
 
 returns : tie.Need-returns
-returns c = c.before.before.put-outline.ensures.holds ∙ over-front _ _
+returns c = c.before.before.put-outline.ensures.holds ∙ over_front _ _
 
-pub write-text-spec : {M : Type 1} → statement M
-write-text-spec =
+pub write_text_spec : {M : Type 1} → statement M
+write_text_spec =
     tie.close (tie.spec slice-aggregate-put-outline (λ c κs. search rules) (λ c. search rules) returns)

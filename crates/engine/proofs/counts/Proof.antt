@@ -2,28 +2,28 @@
 use borrow.Author.Rules.{rules}
 use mathlib.Core.Path.{refl, ap, ◌∙◌}
 use Rattle.model.specs.declared.Counted.{Counted}
-use Rattle.model.specs.Answers.{counted-answer}
-use Rattle.model.proofs.Answers.{answered, rule-applies, rule-passes, no-rule}
-use Rattle.engine.proofs.Rules.{tested, found-sound}
+use Rattle.model.specs.Answers.{counted_answer}
+use Rattle.model.proofs.Answers.{answered, rule_applies, rule_passes, no_rule}
+use Rattle.engine.proofs.Rules.{tested, found_sound}
 use Rattle.engine.proofs.counts.Statement.{statement}
 use Rattle.engine.proofs.counts.Tie as tie
 
 returns : tie.Need-returns
-unfolding counted-answer
+unfolding counted_answer
 returns c =
     answered _ (λ r. refl)
-    (rule-applies Counted.Refused _ _ _ (tested c.before.is-sound.ensures c.if1.true))
+    (rule_applies Counted.Refused _ _ _ (tested c.before.is_sound.ensures c.if1.true))
 
 counts-of-requires : tie.Need-counts-of-requires
-counts-of-requires c κs = found-sound c.before.is-sound.ensures c.if1.false
+counts-of-requires c κs = found_sound c.before.is_sound.ensures c.if1.false
 
 returns-2 : tie.Need-returns-2
-unfolding counted-answer
+unfolding counted_answer
 returns-2 c =
     let d = c.before in
     answered _ (λ r. refl)
-    (rule-passes Counted.Refused _ _ _ (tested d.before.is-sound.ensures d.if1.false)
-    (ap Counted.Numbers c.counts_of.ensures ∙ no-rule Counted.Refused _))
+    (rule_passes Counted.Refused _ _ _ (tested d.before.is_sound.ensures d.if1.false)
+    (ap Counted.Numbers c.counts_of.ensures ∙ no_rule Counted.Refused _))
 
-pub counts-spec : {M : Type 1} → statement M
-counts-spec = tie.close (tie.spec (λ c κs. search rules) returns counts-of-requires returns-2)
+pub counts_spec : {M : Type 1} → statement M
+counts_spec = tie.close (tie.spec (λ c κs. search rules) returns counts-of-requires returns-2)

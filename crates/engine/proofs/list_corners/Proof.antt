@@ -6,21 +6,21 @@ use mathlib.Core.List.{List}
 use Prim.Native.Nat.{ℕ}
 use native.Mathlib.Omega.{arith}
 use Rattle.finite.specs.Overwriting.{over}
-use Rattle.engine.proofs.Rules.{tested, found-sound}
-use Rattle.engine.proofs.Entries.{rule-refused, short-refused, result-written}
+use Rattle.engine.proofs.Rules.{tested, found_sound}
+use Rattle.engine.proofs.Entries.{rule_refused, short_refused, result_written}
 use Rattle.engine.proofs.list_corners.Statement.{statement}
 use Rattle.engine.proofs.list_corners.Tie as tie
 
 returns : tie.Need-returns
-returns c = rule-refused (tested c.before.is-sound.ensures c.if1.true)
+returns c = rule_refused (tested c.before.is_sound.ensures c.if1.true)
 
 corners-of-requires : tie.Need-corners-of-requires
-corners-of-requires c κs = found-sound c.before.is-sound.ensures c.if1.false
+corners-of-requires c κs = found_sound c.before.is_sound.ensures c.if1.false
 
 returns-2 : tie.Need-returns-2
 returns-2 c =
     let d = c.before.before in
-    short-refused (tested d.before.is-sound.ensures d.if1.false)
+    short_refused (tested d.before.is_sound.ensures d.if1.false)
     (omega (arith, c.before.corners-of.ensures.number, c.if2.true))
 
 returns-3 : tie.Need-returns-3
@@ -29,13 +29,13 @@ returns-3 c =
     let room = w.before.before in
     let lists = room.before.corners-of.ensures in
     let d = room.before.before in
-    result-written (tested d.before.is-sound.ensures d.if1.false) lists.number
+    result_written (tested d.before.is_sound.ensures d.if1.false) lists.number
     (omega (arith, lists.number, room.if2.false))
     (w.write-corners.ensures
     ∙ ap (λ (s : List ℕ). over s d.before.before.before.args.lent.now) lists.members)
 
-pub list-corners-spec : {M : Type 1} → statement M
-list-corners-spec =
+pub list_corners_spec : {M : Type 1} → statement M
+list_corners_spec =
     tie.close
     (tie.spec
     (λ c κs. search rules)

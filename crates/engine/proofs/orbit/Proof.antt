@@ -4,38 +4,38 @@ use mathlib.Core.Path.{refl, sym, ap, ◌∙◌}
 use Rattle.orbits.specs.declared.DartSet.{DartSet}
 use Rattle.model.specs.declared.Orbit.{Orbit}
 use Rattle.model.specs.declared.Outcome.{Outcome}
-use Rattle.model.specs.Answers.{orbit-answer}
-use Rattle.engine.proofs.Rules.{checked-sound, checked-present}
-use Rattle.engine.proofs.Entries.{refused-first, served-first}
+use Rattle.model.specs.Answers.{orbit_answer}
+use Rattle.engine.proofs.Rules.{checked_sound, checked_present}
+use Rattle.engine.proofs.Entries.{refused_first, served_first}
 use Rattle.engine.proofs.orbit.Statement.{statement}
 use Rattle.engine.proofs.orbit.Tie as tie
 
 -- the answer that has this outcome and this set
-abbrev with-set : Outcome → DartSet → Orbit
-with-set outcome darts = record { outcome = outcome; darts = darts }
+abbrev with_set : Outcome → DartSet → Orbit
+with_set outcome darts = record { outcome = outcome; darts = darts }
 
 orbit-of-requires : tie.Need-orbit-of-requires
 orbit-of-requires c κs =
     let d = c.before.before in
     let s = d.before.args in
     let served = sym c.enum_told.given.1 ∙ d.check-dart.ensures in
-    (checked-sound s.map s.dart served, checked-present s.map s.dart served)
+    (checked_sound s.map s.dart served, checked_present s.map s.dart served)
 
 returns : tie.Need-returns
-unfolding orbit-answer
+unfolding orbit_answer
 returns c =
     rw c.empty.ensures
-    (refused-first c.before.before.before.before.check-dart.ensures
+    (refused_first c.before.before.before.before.check-dart.ensures
     c.before.before.checked.given.1 (λ r. refl))
 
 returns-2 : tie.Need-returns-2
-unfolding orbit-answer
+unfolding orbit_answer
 returns-2 c =
-    served-first c.before.before.before.check-dart.ensures c.before.enum_told.given.1
-    (ap (with-set Outcome.Served) c.orbit-of.ensures) (λ r. refl)
+    served_first c.before.before.before.check-dart.ensures c.before.enum_told.given.1
+    (ap (with_set Outcome.Served) c.orbit_of.ensures) (λ r. refl)
 
-pub orbit-spec : {M : Type 1} → statement M
-orbit-spec =
+pub orbit_spec : {M : Type 1} → statement M
+orbit_spec =
     tie.close
     (tie.spec
     (λ c κs. search rules)

@@ -2,46 +2,46 @@
 use borrow.Author.Rules.{rules}
 use mathlib.Core.Path.{refl, sym, ◌∙◌}
 use borrow.Author.Tests.{not-false}
-use Rattle.finite.specs.Tests.{of-true}
+use Rattle.finite.specs.Tests.{of_true}
 use Rattle.model.specs.declared.Placed.{Placed}
-use Rattle.model.specs.Answers.{placed-answer}
-use Rattle.model.proofs.Answers.{answered, rule-applies, rule-passes, no-rule}
-use Rattle.engine.proofs.Rules.{tested, found-sound}
+use Rattle.model.specs.Answers.{placed_answer}
+use Rattle.model.proofs.Answers.{answered, rule_applies, rule_passes, no_rule}
+use Rattle.engine.proofs.Rules.{tested, found_sound}
 use Rattle.engine.proofs.place.Statement.{statement}
 use Rattle.engine.proofs.place.Tie as tie
 
 returns : tie.Need-returns
-unfolding placed-answer
+unfolding placed_answer
 returns c =
     answered _ (λ r. refl)
-    (rule-applies Placed.Refused _ _ _ (tested c.before.is-sound.ensures c.if1.true))
+    (rule_applies Placed.Refused _ _ _ (tested c.before.is_sound.ensures c.if1.true))
 
 returns-2 : tie.Need-returns-2
-unfolding placed-answer
+unfolding placed_answer
 returns-2 c =
     let d = c.before.before in
     answered _ (λ r. refl)
-    (rule-passes Placed.Refused _ _ _ (tested d.before.is-sound.ensures d.if1.false)
-    (rule-applies Placed.Refused _ _ _ (tested c.before.in-range.ensures c.if2.true)))
+    (rule_passes Placed.Refused _ _ _ (tested d.before.is_sound.ensures d.if1.false)
+    (rule_applies Placed.Refused _ _ _ (tested c.before.in_range.ensures c.if2.true)))
 
 placed-requires : tie.Need-placed-requires
 placed-requires c κs =
     let d = c.before.before in (
-      found-sound d.before.is-sound.ensures d.if1.false,
-      of-true _ (sym c.before.in-range.ensures ∙ not-false _ c.if2.false),
+      found_sound d.before.is_sound.ensures d.if1.false,
+      of_true _ (sym c.before.in_range.ensures ∙ not-false _ c.if2.false),
     )
 
 returns-3 : tie.Need-returns-3
-unfolding placed-answer
+unfolding placed_answer
 returns-3 c =
     let e = c.before in
     let d = e.before.before in
     answered _ (λ r. refl)
-    (rule-passes Placed.Refused _ _ _ (tested d.before.is-sound.ensures d.if1.false)
-    (rule-passes Placed.Refused _ _ _ (tested e.before.in-range.ensures e.if2.false)
-    (c.placed.ensures ∙ no-rule Placed.Refused _)))
+    (rule_passes Placed.Refused _ _ _ (tested d.before.is_sound.ensures d.if1.false)
+    (rule_passes Placed.Refused _ _ _ (tested e.before.in_range.ensures e.if2.false)
+    (c.placed.ensures ∙ no_rule Placed.Refused _)))
 
-pub place-spec : {M : Type 1} → statement M
-place-spec =
+pub place_spec : {M : Type 1} → statement M
+place_spec =
     tie.close
     (tie.spec (λ c κs. search rules) returns (λ c κs. search rules) returns-2 placed-requires returns-3)

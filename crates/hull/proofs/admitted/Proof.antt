@@ -3,46 +3,46 @@
 use borrow.Author.Rules.{rules}
 use mathlib.Core.Path.{sym, ◌∙◌}
 use Rattle.model.specs.Maps.{point}
-use Rattle.model.specs.Arrival.{arrive, refusing, admission-rules, is-repeated, admitted}
-use Rattle.model.proofs.Answers.{outcome-refuses, outcome-serves}
-use Rattle.admission.specs.Admission.{admission-by}
-use Rattle.hull.proofs.Admissions.{whole-places, admission-accepted}
+use Rattle.model.specs.Arrival.{arrive, refusing, admission_rules, is_repeated, admitted}
+use Rattle.model.proofs.Answers.{outcome_refuses, outcome_serves}
+use Rattle.admission.specs.Admission.{admission_by}
+use Rattle.hull.proofs.Admissions.{whole_places, admission_accepted}
 use Rattle.hull.proofs.admitted.Statement.{statement}
 use Rattle.hull.proofs.admitted.Tie as tie
 
 -- where the function starts
-abbrev at-start : tie.After-admission → tie.Start
-at-start c = c.before.before.before.before.before.before
+abbrev at_start : tie.After-admission → tie.Start
+at_start c = c.before.before.before.before.before.before
 
 admission-requires : tie.Need-admission-requires
-admission-requires c κs = whole-places c.before.before.before.before.before.requires
+admission-requires c κs = whole_places c.before.before.before.before.before.requires
 
 arrive-requires : tie.Need-arrive-requires
 arrive-requires c κs =
     let d = c.before.before in
-    let s = at-start d in
-    admission-accepted s.pre s.args.p (sym c.enum_told.given.1 ∙ d.admission.ensures)
+    let s = at_start d in
+    admission_accepted s.pre s.args.p (sym c.enum_told.given.1 ∙ d.admission.ensures)
 
 returns : tie.Need-returns
-unfolding admission-by is-repeated point admitted
+unfolding admission_by is_repeated point admitted
 returns c =
     let d = c.before.before.before.before in
-    let s = (at-start d).args in
+    let s = (at_start d).args in
     c.refused.ensures
-    ∙ outcome-refuses (refusing s.t1) (arrive s.t1 s.p) (admission-rules s.t1 s.p) _
+    ∙ outcome_refuses (refusing s.t1) (arrive s.t1 s.p) (admission_rules s.t1 s.p) _
     (sym c.before.before.decided.given.1 ∙ d.admission.ensures)
 
 returns-2 : tie.Need-returns-2
-unfolding admission-by is-repeated point admitted
+unfolding admission_by is_repeated point admitted
 returns-2 c =
     let d = c.before.before.before in
-    let s = (at-start d).args in
+    let s = (at_start d).args in
     c.arrive.ensures
-    ∙ outcome-serves (refusing s.t1) (arrive s.t1 s.p) (admission-rules s.t1 s.p)
+    ∙ outcome_serves (refusing s.t1) (arrive s.t1 s.p) (admission_rules s.t1 s.p)
     (sym c.before.enum_told.given.1 ∙ d.admission.ensures)
 
-pub admitted-spec : {M : Type 1} → statement M
-admitted-spec =
+pub admitted_spec : {M : Type 1} → statement M
+admitted_spec =
     tie.close
     (tie.spec
     admission-requires

@@ -4,10 +4,10 @@ use mathlib.Core.Path.{refl, sym, subst, ◌∙◌, ap}
 use native.Mathlib.Omega.{arith}
 use Rattle.model.specs.declared.Map.{Map}
 use Rattle.model.specs.declared.Arrival.{Arrival}
-use Rattle.model.specs.Maps.{map-lent}
-use Rattle.model.specs.Arrival.{first_kind, second-kind, arrived, alone, pair}
+use Rattle.model.specs.Maps.{map_lent}
+use Rattle.model.specs.Arrival.{first_kind, second_kind, arrived, alone, pair}
 use Rattle.model.specs.Shape.{Fitting}
-use Rattle.maps.proofs.Points.{freeing-none-fits}
+use Rattle.maps.proofs.Points.{freeing_none_fits}
 use Rattle.hull.proofs.Cases.{first, second, later, grown}
 use Rattle.hull.proofs.grow.Statement.{statement}
 use Rattle.hull.proofs.grow.Tie as tie
@@ -15,7 +15,7 @@ use Rattle.hull.proofs.grow.Tie as tie
 -- the map whose arrays are lent
 abbrev lent : tie.Start → Map
 lent s =
-    map-lent s.args.xs s.args.ys s.args.helpers s.args.edge s.args.arrivals s.args.lefts
+    map_lent s.args.xs s.args.ys s.args.helpers s.args.edge s.args.arrivals s.args.lefts
     s.args.rights s.args.count s.args.reference
 
 returns : tie.Need-returns
@@ -26,7 +26,7 @@ returns c =
     let test = put.before.before.before in
     let s = test.before in
     ap (arrived Arrival.First)
-    (grown (lent s) s.args.p s.args.reference put.put-point.ensures noting.freeing-none.ensures
+    (grown (lent s) s.args.p s.args.reference put.put-point.ensures noting.freeing_none.ensures
     c.put-note.ensures (refl, refl))
     ∙ first (lent s) s.args.p test.if1.true
 
@@ -53,12 +53,12 @@ returns-3 c =
 put-note-requires : tie.Need-put-note-requires
 put-note-requires c κs =
     let s = c.before.before.before.before.before.before.before.before in
-    (s.requires.room, subst Fitting (sym c.freeing-none.ensures) (freeing-none-fits first_kind (omega arith)))
+    (s.requires.room, subst Fitting (sym c.freeing_none.ensures) (freeing_none_fits first_kind (omega arith)))
 
 put-note-requires-2 : tie.Need-put-note-requires-2
 put-note-requires-2 c κs =
     let s = c.before.before.before.before.before.before.before.before.before in
-    (s.requires.room, subst Fitting (sym c.freeing-none2.ensures) (freeing-none-fits second-kind (omega arith)))
+    (s.requires.room, subst Fitting (sym c.freeing-none2.ensures) (freeing_none_fits second_kind (omega arith)))
 
 pub grow_spec : {M : Type 1} → statement M
 grow_spec =

@@ -8,7 +8,7 @@ use native.Mathlib.Nat.{mul-le-mul_left, mul-suc}
 use native.Mathlib.Omega.{arith}
 use lib.Dec.{leb}
 use Rattle.model.specs.Saved.{number_at}
-use Rattle.finite.specs.Loops.{Passed, Iteration, none_passed, one-passed, one-failed, all-passed, below}
+use Rattle.finite.specs.Loops.{Passed, Iteration, none_passed, one_passed, one_failed, all_passed, below}
 use Rattle.layout.proofs.bytes_at_most.Statement.{statement}
 use Rattle.layout.proofs.bytes_at_most.Tie as tie
 
@@ -61,19 +61,19 @@ module _ (c : tie.After-number-at invariant-loop decreases-loop) where
 
 returns : tie.Need-returns invariant-loop decreases-loop
 returns c =
-    one-failed (step c.before) (below _ _) (omega arith)
+    one_failed (step c.before) (below _ _) (omega arith)
     (ap not (lt-leb c.before.number_at.result _ c.if1.true))
 
 loop-again : tie.Need-loop-preserved invariant-loop decreases-loop
 loop-again c =
-    one-passed (step c.before)
+    one_passed (step c.before)
     (ap not (le-leb c.before.number_at.result _ c.if1.false))
 
 returns-2 : tie.Need-returns-2 invariant-loop decreases-loop
-returns-2 c = all-passed (below _ _) c.before.loop.invariant (omega arith)
+returns-2 c = all_passed (below _ _) c.before.loop.invariant (omega arith)
 
-pub bytes-at-most-spec : {M : Type 1} → statement M
-bytes-at-most-spec =
+pub bytes_at_most_spec : {M : Type 1} → statement M
+bytes_at_most_spec =
     tie.close
     (tie.spec
     invariant-loop

@@ -17,14 +17,14 @@ partner c =
     let edge = c.before.args.edge.now in
     get_d_any edge d 0 d (omega arith)
 
-partner-below : (c : tie.After-e) → get_or c.before.args.edge.now c.before.args.d 0 < 1024
-partner-below c = rw (partner c) c.before.requires.partner-below
+partner_below : (c : tie.After-e) → get_or c.before.args.edge.now c.before.args.d 0 < 1024
+partner_below c = rw (partner c) c.before.requires.partner_below
 
 mul-edge : tie.Need-overflow-mul-edge
-mul-edge c = omega (arith, partner-below c)
+mul-edge c = omega (arith, partner_below c)
 
 element-write-edge : tie.Need-element-write-edge
-element-write-edge c = partner-below c
+element-write-edge c = partner_below c
 
 returns : tie.Need-returns
 unfolding cut

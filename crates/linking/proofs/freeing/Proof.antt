@@ -9,8 +9,8 @@ returns c =
     let right = c.freed2.ensures in
     λ i. record { arrival = 3; left = left i; right = right i }
 
-pub freeing-spec : {M : Type 1} → statement M
-freeing-spec =
+pub freeing_spec : {M : Type 1} → statement M
+freeing_spec =
     tie.close
     (tie.spec
     (λ c. search rules)

@@ -3,7 +3,7 @@
 use borrow.Author.Rules.{rules}
 use mathlib.Core.Path.{refl, ◌∙◌}
 use native.Mathlib.Omega.{arith}
-use Rattle.orbits.specs.Sets.{dart-limit}
+use Rattle.orbits.specs.Sets.{dart_limit}
 use Rattle.model.specs.Maps.{own, helper}
 use Rattle.maps.proofs.Edges.{length_cut}
 use Rattle.linking.proofs.Cutting.{cut_below}
@@ -16,7 +16,7 @@ cut-requires c κs =
     record {
       whole = s.requires.whole;
       below = omega arith;
-      partner-below = s.requires.links-below (own s.args.left) (omega arith);
+      partner_below = s.requires.links_below (own s.args.left) (omega arith);
     }
 
 cut-requires-2 : tie.Need-cut-requires-2
@@ -26,8 +26,8 @@ cut-requires-2 c κs =
     (record {
       whole = length_cut (own s.args.left) s.args.edge.now ∙ s.requires.whole;
       below = omega arith;
-      partner-below =
-          cut_below dart-limit s.args.edge.now s.requires.links-below (own s.args.left)
+      partner_below =
+          cut_below dart_limit s.args.edge.now s.requires.links_below (own s.args.left)
           (helper s.args.right) (omega arith) (omega arith);
     })
 
@@ -42,8 +42,8 @@ returns c = (
   ),
 )
 
-pub splice-spec : {M : Type 1} → statement M
-splice-spec =
+pub splice_spec : {M : Type 1} → statement M
+splice_spec =
     tie.close
     (tie.spec
     (λ c. search rules)

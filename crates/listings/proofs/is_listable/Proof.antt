@@ -5,8 +5,8 @@ use mathlib.Core.Logic.{⊎_elim}
 use mathlib.Core.Path.{◌≡◌, sym, ◌∙◌, ap}
 use mathlib.Core.Bool.{Bool, ◌&&◌}
 use lib.Dec.{leb}
-use Rattle.model.specs.Maps.{point-limit}
-use Rattle.listings.specs.Listings.{lowest-at, turns_at}
+use Rattle.model.specs.Maps.{point_limit}
+use Rattle.listings.specs.Listings.{lowest_at, turns_at}
 use Rattle.listings.proofs.Listed.{tests_same}
 use Rattle.listings.proofs.is_listable.Statement.{statement}
 use Rattle.listings.proofs.is_listable.Tie as tie
@@ -14,10 +14,10 @@ use Rattle.listings.proofs.is_listable.Tie as tie
 -- where the ways of the first two tests meet
 module _ (c : tie.Joined1) where
   abbrev lowest : Bool
-  lowest = lowest-at c.before.args.xs.now c.before.args.ys.now c.before.args.n
+  lowest = lowest_at c.before.args.xs.now c.before.args.ys.now c.before.args.n
 
   abbrev both : Bool
-  both = leb c.before.args.n point-limit && lowest
+  both = leb c.before.args.n point_limit && lowest
 
   first_two : c.if1.if2 ≡ both
   first_two =
@@ -42,5 +42,5 @@ returns-2 c =
     ∙ sym (ap (λ (t : Bool). t && turns_at args.xs.now args.ys.now args.n) (sym (first_two d) ∙ c.if2.false))
     ∙ tests_same args.xs.now args.ys.now args.n d.before.requires
 
-pub is-listable-spec : {M : Type 1} → statement M
-is-listable-spec = tie.close (tie.spec (λ c κs. search rules) (λ c κs. c.before.before.requires) returns returns-2)
+pub is_listable_spec : {M : Type 1} → statement M
+is_listable_spec = tie.close (tie.spec (λ c κs. search rules) (λ c κs. c.before.before.requires) returns returns-2)

@@ -7,31 +7,31 @@ use Prim.Native.Nat.{ℕ, ◌-◌}
 use native.Mathlib.Omega.{arith}
 use lib.Dec.{eqb}
 use lib.IntN.{ℤ}
-use Rattle.finite.specs.Tests.{implies-use, implies-by, differ-by, differ-use}
-use Rattle.finite.specs.Bounded.{all-at, all-by}
-use Rattle.finite.specs.Loops.{Tests, Passed, Iteration, none_passed, one-passed, one-failed, all-passed}
+use Rattle.finite.specs.Tests.{implies_use, implies_by, differ_by, differ_use}
+use Rattle.finite.specs.Bounded.{all_at, all_by}
+use Rattle.finite.specs.Loops.{Tests, Passed, Iteration, none_passed, one_passed, one_failed, all_passed}
 use Rattle.model.specs.Plane.{lower}
 use Rattle.model.specs.Maps.{point_at}
-use Rattle.listings.specs.Listings.{lowest-at}
+use Rattle.listings.specs.Listings.{lowest_at}
 use Rattle.listings.proofs.lowest_is_first.Statement.{statement}
 use Rattle.listings.proofs.lowest_is_first.Tie as tie
 
 abbrev here : List ℤ → List ℤ → ℕ → Bool
 here xs ys k = lower (point_at xs ys 0) (point_at xs ys k)
 
-tests : (xs ys : List ℤ) (n : ℕ) → Tests (lowest-at xs ys n) (here xs ys) 1 n
-unfolding lowest-at
+tests : (xs ys : List ℤ) (n : ℕ) → Tests (lowest_at xs ys n) (here xs ys) 1 n
+unfolding lowest_at
 tests xs ys n =
     record {
       each =
           λ t k h l.
-          implies-use (not (eqb k 0)) (here xs ys k) (all-at n _ t k l) (differ-by k 0 (λ e. omega arith));
+          implies_use (not (eqb k 0)) (here xs ys k) (all_at n _ t k l) (differ_by k 0 (λ e. omega arith));
       whole =
           λ f.
-          all-by n _
+          all_by n _
           (λ k l.
-          implies-by (not (eqb k 0)) (here xs ys k)
-          (λ d. f k (let not_first = differ-use k 0 d in omega (arith, not_first)) l));
+          implies_by (not (eqb k 0)) (here xs ys k)
+          (λ d. f k (let not_first = differ_use k 0 d in omega (arith, not_first)) l));
     }
 
 abbrev invariant-loop : tie.invariant-loop
@@ -47,10 +47,10 @@ module _ (c : tie.After-is-lower invariant-loop decreases-loop) where
   abbrev at-loop : tie.At-loop invariant-loop decreases-loop
   at-loop = c.before.before.before
 
-  abbrev at-start : tie.Start invariant-loop decreases-loop
-  at-start = at-loop.before.before
+  abbrev at_start : tie.Start invariant-loop decreases-loop
+  at_start = at-loop.before.before
 
-  iteration : Iteration (here at-start.args.xs.now at-start.args.ys.now) 1 at-loop.loop.k c.is-lower.result
+  iteration : Iteration (here at_start.args.xs.now at_start.args.ys.now) 1 at-loop.loop.k c.is-lower.result
   iteration =
       record {
         passed = at-loop.loop.inv;
@@ -59,19 +59,19 @@ module _ (c : tie.After-is-lower invariant-loop decreases-loop) where
 
 returns : tie.Need-returns invariant-loop decreases-loop
 returns c =
-    let args = (at-start c.before).args in
-    one-failed (iteration c.before) (tests args.xs.now args.ys.now args.n) (omega arith) c.if1.true
+    let args = (at_start c.before).args in
+    one_failed (iteration c.before) (tests args.xs.now args.ys.now args.n) (omega arith) c.if1.true
 
 loop-again : tie.Need-loop-preserved invariant-loop decreases-loop
-loop-again c = one-passed (iteration c.before) c.if1.false
+loop-again c = one_passed (iteration c.before) c.if1.false
 
 returns-2 : tie.Need-returns-2 invariant-loop decreases-loop
 returns-2 c =
     let args = c.before.before.before.args in
-    all-passed (tests args.xs.now args.ys.now args.n) c.before.loop.invariant (omega arith)
+    all_passed (tests args.xs.now args.ys.now args.n) c.before.loop.invariant (omega arith)
 
-pub lowest-is-first-spec : {M : Type 1} → statement M
-lowest-is-first-spec =
+pub lowest_is_first_spec : {M : Type 1} → statement M
+lowest_is_first_spec =
     tie.close
     (tie.spec
     invariant-loop

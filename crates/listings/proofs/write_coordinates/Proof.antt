@@ -8,10 +8,10 @@ use native.Mathlib.Omega.{arith}
 use lib.IntN.{ℤ, pos}
 use lib.ListN.{get_or, length-set}
 use Rattle.finite.specs.Bounded.{table}
-use Rattle.finite.specs.Overwriting.{over-front, Copied, none-copied, all-copied}
+use Rattle.finite.specs.Overwriting.{over_front, Copied, none_copied, all_copied}
 use Rattle.model.specs.Maps.{point_at}
 use Rattle.model.specs.Outlines.{coordinates}
-use Rattle.listings.proofs.Listed.{source-length, pair-copied}
+use Rattle.listings.proofs.Listed.{source_length, pair_copied}
 use Rattle.listings.proofs.write_coordinates.Statement.{statement}
 use Rattle.listings.proofs.write_coordinates.Tie as tie
 
@@ -22,14 +22,14 @@ abbrev decreases-loop : tie.decreases-loop
 decreases-loop xs ys n lent₀ k₀ lent k = n - k
 
 loop-holds : tie.Need-loop-init invariant-loop decreases-loop
-loop-holds c = none-copied
+loop-holds c = none_copied
 
 -- the room at place k, as the machine asks for it
 shared-slice-copy-out-lent : tie.Need-shared-slice-copy-out-lent invariant-loop decreases-loop
-shared-slice-copy-out-lent c = omega (arith, c.before.before.requires.0.xs-hold)
+shared-slice-copy-out-lent c = omega (arith, c.before.before.requires.0.xs_hold)
 
 shared-slice-copy-out-lent-2 : tie.Need-shared-slice-copy-out-lent-2 invariant-loop decreases-loop
-shared-slice-copy-out-lent-2 c = omega (arith, c.before.before.before.requires.0.ys-hold)
+shared-slice-copy-out-lent-2 c = omega (arith, c.before.before.before.requires.0.ys_hold)
 
 -- what was read from the arrays, as the machine has it
 module _ (c : tie.After-lent2 invariant-loop decreases-loop) where
@@ -42,8 +42,8 @@ module _ (c : tie.After-lent2 invariant-loop decreases-loop) where
   abbrev y : ℤ
   y = get_or at-loop.before.args.ys.now at-loop.loop.k (pos 0)
 
-  x-kept : to_z w64 (of_z w64 x) ≡ x
-  x-kept = to_z-of_z w64 x (record { sfits = c.before.lent.given })
+  x_kept : to_z w64 (of_z w64 x) ≡ x
+  x_kept = to_z-of_z w64 x (record { sfits = c.before.lent.given })
 
   y_kept : to_z w64 (of_z w64 y) ≡ y
   y_kept = to_z-of_z w64 y (record { sfits = c.lent2.given })
@@ -51,8 +51,8 @@ module _ (c : tie.After-lent2 invariant-loop decreases-loop) where
 loop-again : tie.Need-loop-preserved invariant-loop decreases-loop
 loop-again c =
     let args = (at-loop c).before.args in
-    rw (x-kept c, y_kept c)
-    (pair-copied args.xs.now args.ys.now args.n (at-loop c).loop.k (at-loop c).loop.invariant (omega arith)
+    rw (x_kept c, y_kept c)
+    (pair_copied args.xs.now args.ys.now args.n (at-loop c).loop.k (at-loop c).loop.invariant (omega arith)
     (at-loop c).before.requires.1)
 
 same_length : tie.Need-same-length invariant-loop decreases-loop
@@ -61,22 +61,22 @@ same_length c = c.before.loop.invariant.long
 returns : tie.Need-returns invariant-loop decreases-loop
 returns c =
     let args = c.before.before.args in
-    all-copied c.before.loop.invariant (omega (arith, source-length args.xs.now args.ys.now args.n))
-    ∙ over-front _ _
+    all_copied c.before.loop.invariant (omega (arith, source_length args.xs.now args.ys.now args.n))
+    ∙ over_front _ _
 
-pub write-coordinates-spec : {M : Type 1} → statement M
-write-coordinates-spec =
+pub write_coordinates_spec : {M : Type 1} → statement M
+write_coordinates_spec =
     tie.close
     (tie.spec
     invariant-loop
     decreases-loop
     loop-holds
-    (λ c. omega (arith, c.before.before.requires.0.xs-hold))
+    (λ c. omega (arith, c.before.before.requires.0.xs_hold))
     shared-slice-copy-out-lent
     (λ c. omega (arith, c.before.before.before.requires.1))
     (λ c. omega (arith, c.before.before.before.requires.1))
     (λ c. omega (arith, c.before.before.before.requires.1, c.before.before.loop.invariant.long))
-    (λ c. omega (arith, c.before.before.before.requires.0.ys-hold))
+    (λ c. omega (arith, c.before.before.before.requires.0.ys_hold))
     shared-slice-copy-out-lent-2
     (λ c. omega (arith, c.before.before.before.before.requires.1))
     (λ c. omega (arith, c.before.before.before.before.requires.1))

@@ -6,19 +6,19 @@ use Prim.Native.Nat.{ℕ, ◌≤◌}
 use native.Mathlib.Omega.{arith}
 use lib.ListN.{length, take, drop, replicate, length-replicate}
 use lib.Seq.{length-take-le, take-append_seam}
-use Rattle.finite.specs.Lists.{same-list}
-use Rattle.finite.specs.Overwriting.{over, over-length}
+use Rattle.finite.specs.Lists.{same_list}
+use Rattle.finite.specs.Overwriting.{over, over_length}
 use Rattle.model.specs.declared.Map.{Map}
-use Rattle.model.specs.Maps.{map-lent}
-use Rattle.model.specs.Saved.{saved-in, saved-length}
-use Rattle.layout.proofs.Form.{notes-short}
-use Rattle.saved.proofs.Places.{length-saved-in}
+use Rattle.model.specs.Maps.{map_lent}
+use Rattle.model.specs.Saved.{saved_in, saved_length}
+use Rattle.layout.proofs.Form.{notes_short}
+use Rattle.saved.proofs.Places.{length_saved_in}
 use Rattle.loading.proofs.writes.Statement.{statement}
 use Rattle.loading.proofs.writes.Tie as tie
 
 -- a file fits
-fits : (s : tie.Start) → saved-length s.args.version s.args.count ≤ 9225
-fits s = omega (arith, s.requires.0.links.fits, notes-short s.args.version s.args.count)
+fits : (s : tie.Start) → saved_length s.args.version s.args.count ≤ 9225
+fits s = omega (arith, s.requires.0.links.fits, notes_short s.args.version s.args.count)
 
 write-arrays-requires : tie.Need-write-arrays-requires
 write-arrays-requires c κs = let s = c.before.before.before.before.before.before.before in (s.requires.0, fits s)
@@ -33,21 +33,21 @@ module _ (c : tie.After-write-arrays) where
   -- the map whose arrays are lent
   abbrev map : Map
   map =
-      map-lent start.args.xs start.args.ys start.args.helpers start.args.edge start.args.arrivals
+      map_lent start.args.xs start.args.ys start.args.helpers start.args.edge start.args.arrivals
       start.args.lefts start.args.rights start.args.count start.args.reference
 
   abbrev bytes : List ℕ
-  bytes = saved-in start.args.version map
+  bytes = saved_in start.args.version map
 
   long : length bytes ≡ length file
-  long = length-saved-in start.args.version map ∙ sym start.pre.1
+  long = length_saved_in start.args.version map ∙ sym start.pre.1
 
   room : length bytes ≤ length (replicate {A = ℕ} 9225 0)
   room = omega (arith, fits start, start.pre.1, long, length-replicate {A = ℕ} 9225 0)
 
   whole : length file ≤ length c.write-arrays.new.1.1.1.1.1.1.1.1.1.1.0
   whole =
-      omega (arith, long, room, ap length c.write-arrays.ensures, over-length bytes (replicate {A = ℕ} 9225 0) room)
+      omega (arith, long, room, ap length c.write-arrays.ensures, over_length bytes (replicate {A = ℕ} 9225 0) room)
 
   front : take (length file) c.write-arrays.new.1.1.1.1.1.1.1.1.1.1.0 ≡ bytes
   front =
@@ -64,10 +64,10 @@ slice-aggregate-same-bytes c = sym (length-take-le _ _ (whole c.before.before))
 returns : tie.Need-returns
 returns c =
     let w = c.before.before.before in
-    c.same_bytes.ensures ∙ ap (λ (s : List ℕ). same-list s (file w)) (front w)
+    c.same_bytes.ensures ∙ ap (λ (s : List ℕ). same_list s (file w)) (front w)
 
-pub writes-spec : {M : Type 1} → statement M
-writes-spec =
+pub writes_spec : {M : Type 1} → statement M
+writes_spec =
     tie.close
     (tie.spec
     (λ c. search rules)

@@ -7,27 +7,27 @@ use Prim.Native.Nat.{ℕ}
 use lib.IntN.{pos}
 use lib.ListN.{replicate}
 use Rattle.model.specs.declared.Map.{Map}
-use Rattle.model.specs.Maps.{point-limit, no-dart, empty-map}
+use Rattle.model.specs.Maps.{point_limit, no_dart, empty_map}
 use Rattle.maps.proofs.empty_map.Statement.{statement}
 use Rattle.maps.proofs.empty_map.Tie as tie
 
 abbrev linked : List ℕ → Map
 linked edge =
     record {
-      xs = replicate point-limit (pos 0);
-      ys = replicate point-limit (pos 0);
-      helpers = replicate point-limit false;
+      xs = replicate point_limit (pos 0);
+      ys = replicate point_limit (pos 0);
+      helpers = replicate point_limit false;
       edge = edge;
-      arrivals = replicate point-limit 0;
-      lefts = replicate point-limit no-dart;
-      rights = replicate point-limit no-dart;
+      arrivals = replicate point_limit 0;
+      lefts = replicate point_limit no_dart;
+      rights = replicate point_limit no_dart;
       count = 0;
-      reference = no-dart;
+      reference = no_dart;
     }
 
 returns : tie.Need-returns
-unfolding empty-map
+unfolding empty_map
 returns c = ap linked c.fixed-links.ensures
 
-pub empty-map-spec : {M : Type 1} → statement M
-empty-map-spec = tie.close (tie.spec (λ c κs. search rules) returns)
+pub empty_map_spec : {M : Type 1} → statement M
+empty_map_spec = tie.close (tie.spec (λ c κs. search rules) returns)

@@ -8,8 +8,8 @@ use mir.Val.{to_z, of_z, SFits}
 use mir.ValLaws.{to_z-of_z}
 use lib.IntN.{ℤ, ◌+ℤ◌}
 use lib.ListN.{get_or}
-use Rattle.integers.specs.Range.{bounded-fits}
-use Rattle.measures.proofs.Sums.{SummingAt, at_first, within, one_more, at-end}
+use Rattle.integers.specs.Range.{bounded_fits}
+use Rattle.measures.proofs.Sums.{SummingAt, at_first, within, one_more, at_end}
 use Rattle.measures.proofs.fan_from.Statement.{statement}
 use Rattle.measures.proofs.fan_from.Tie as tie
 
@@ -23,21 +23,21 @@ module _ (c : tie.After-triangle invariant-loop decreases-loop) where
   abbrev at-loop : tie.At-loop invariant-loop decreases-loop
   at-loop = c.before.before.before
 
-  abbrev at-start : tie.Start invariant-loop decreases-loop
-  at-start = at-loop.before.before.before
+  abbrev at_start : tie.Start invariant-loop decreases-loop
+  at_start = at-loop.before.before.before
 
   -- the sum, as the machine has it
   abbrev sum : ℤ
   sum = to_z w64 at-loop.loop.total +ℤ to_z w64 (of_z w64 c.triangle.result)
 
-  more : SummingAt at-start.args.xs.now at-start.args.ys.now at-start.args.corners.now at-start.args.count
-      at-start.args.q sum (get_or at-start.args.corners.now at-loop.loop.i 0) (at-loop.loop.i + 1)
+  more : SummingAt at_start.args.xs.now at_start.args.ys.now at_start.args.corners.now at_start.args.count
+      at_start.args.q sum (get_or at_start.args.corners.now at-loop.loop.i 0) (at-loop.loop.i + 1)
   more =
       rw (to_z-of_z w64 c.triangle.result (record { sfits = c.triangle.type-inv }) ∙ c.triangle.ensures)
-      (one_more at-start.pre at-loop.loop.inv c.before.before.loop-test.true)
+      (one_more at_start.pre at-loop.loop.inv c.before.before.loop-test.true)
 
   fits : SFits w64 sum
-  fits = bounded-fits w64 tt (within at-start.pre more)
+  fits = bounded_fits w64 tt (within at_start.pre more)
 
 add_total : tie.Need-overflow-add-total invariant-loop decreases-loop
 add_total c = fits c
@@ -46,10 +46,10 @@ loop-again : tie.Need-loop-preserved invariant-loop decreases-loop
 loop-again c = rw (to_z-of_z w64 (sum c) (fits c)) (more c)
 
 returns : tie.Need-returns invariant-loop decreases-loop
-returns c = at-end c.before.before.before.before.requires c.before.loop.invariant c.loop-test.false
+returns c = at_end c.before.before.before.before.requires c.before.loop.invariant c.loop-test.false
 
-pub fan-from-spec : {M : Type 1} → statement M
-fan-from-spec =
+pub fan_from_spec : {M : Type 1} → statement M
+fan_from_spec =
     tie.close
     (tie.spec
     invariant-loop

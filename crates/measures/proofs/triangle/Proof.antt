@@ -5,7 +5,7 @@ use mir.Syntax.{w64}
 use mir.ValLaws.{to_z-of_z}
 use lib.Dec.{T}
 use Rattle.finite.specs.Tests.{and_both}
-use Rattle.model.specs.Plane.{in-range, orientation}
+use Rattle.model.specs.Plane.{in_range, orientation}
 use Rattle.measures.proofs.triangle.Statement.{statement}
 use Rattle.measures.proofs.triangle.Tie as tie
 
@@ -15,8 +15,8 @@ orientation-in-range-requires c κs =
     let a = c.before.point_at.result in
     let b = c.point-at2.result in
     let tq = s.requires.offered in
-    let ta : T (in-range a) = rw c.before.point_at.ensures (s.requires.places s.args.a) in
-    let tb : T (in-range b) = rw c.point-at2.ensures (s.requires.places s.args.b) in
+    let ta : T (in_range a) = rw c.before.point_at.ensures (s.requires.places s.args.a) in
+    let tb : T (in_range b) = rw c.point-at2.ensures (s.requires.places s.args.b) in
     search and_both
 
 returns : tie.Need-returns
@@ -27,5 +27,5 @@ returns c =
     ∙ c.orientation-in-range.ensures
     ∙ ap₂ (orientation q) d.before.point_at.ensures d.point-at2.ensures
 
-pub triangle-spec : {M : Type 1} → statement M
-triangle-spec = tie.close (tie.spec (λ c κs. search rules) (λ c κs. search rules) orientation-in-range-requires returns)
+pub triangle_spec : {M : Type 1} → statement M
+triangle_spec = tie.close (tie.spec (λ c κs. search rules) (λ c κs. search rules) orientation-in-range-requires returns)

@@ -53,8 +53,8 @@ returns-12 : tie.Need-returns-12
 unfolding number
 returns-12 c = sym (ap number c.enum-told12.given.1)
 
-pub refusal-number-spec : {M : Type 1} → statement M
-refusal-number-spec =
+pub refusal_number_spec : {M : Type 1} → statement M
+refusal_number_spec =
     tie.close
     (tie.spec
     (λ c. search rules)

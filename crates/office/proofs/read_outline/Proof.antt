@@ -8,5 +8,5 @@ use Rattle.office.proofs.read_outline.Tie as tie
 returns : tie.Need-returns
 returns c = wrote_by c.before.read-outline.ensures (or-false _)
 
-pub read-outline-spec : {M : Type 1} → statement M
-read-outline-spec = tie.close (tie.spec (λ c κs. search rules) (λ c. search rules) returns)
+pub read_outline_spec : {M : Type 1} → statement M
+read_outline_spec = tie.close (tie.spec (λ c κs. search rules) (λ c. search rules) returns)

@@ -7,10 +7,10 @@ use Prim.Native.Nat.{ℕ}
 use native.Mathlib.Omega.{arith}
 use lib.ListN.{length}
 use Rattle.finite.specs.Overwriting.{over}
-use Rattle.model.specs.Outlines.{corner-points, outline-text}
-use Rattle.drawings.proofs.Outlines.{listed-text}
-use Rattle.engine.proofs.Rules.{tested, found-sound}
-use Rattle.engine.proofs.Entries.{rule-refused, short-refused, result-written}
+use Rattle.model.specs.Outlines.{corner_points, outline_text}
+use Rattle.drawings.proofs.Outlines.{listed_text}
+use Rattle.engine.proofs.Rules.{tested, found_sound}
+use Rattle.engine.proofs.Entries.{rule_refused, short_refused, result_written}
 use Rattle.office.proofs.write_outline.Statement.{statement}
 use Rattle.office.proofs.write_outline.Tie as tie
 
@@ -22,22 +22,22 @@ module _ (c : tie.After-text-length) where
   abbrev checked : tie.Else1
   checked = listed.before
 
-  abbrev at-start : tie.Start
-  at-start = checked.before.before.before
+  abbrev at_start : tie.Start
+  at_start = checked.before.before.before
 
-  size : c.text-length.result ≡ length (outline-text (corner-points at-start.args.t1))
-  size = c.text-length.ensures ∙ ap length (listed-text listed.corners-of.ensures)
+  size : c.text-length.result ≡ length (outline_text (corner_points at_start.args.t1))
+  size = c.text-length.ensures ∙ ap length (listed_text listed.corners-of.ensures)
 
 returns : tie.Need-returns
-returns c = rule-refused (tested c.before.is-sound.ensures c.if1.true)
+returns c = rule_refused (tested c.before.is_sound.ensures c.if1.true)
 
 corners-of-requires : tie.Need-corners-of-requires
-corners-of-requires c κs = found-sound c.before.is-sound.ensures c.if1.false
+corners-of-requires c κs = found_sound c.before.is_sound.ensures c.if1.false
 
 returns-2 : tie.Need-returns-2
 returns-2 c =
     let d = checked c.before in
-    short-refused (tested d.before.is-sound.ensures d.if1.left) (omega (arith, size c.before, c.if2.true))
+    short_refused (tested d.before.is_sound.ensures d.if1.left) (omega (arith, size c.before, c.if2.true))
 
 returns-3 : tie.Need-returns-3
 returns-3 c =
@@ -45,12 +45,12 @@ returns-3 c =
     let room = w.before.before.before.before.before.before.before.before.before.before in
     let sized = room.before in
     let d = checked sized in
-    result-written (tested d.before.is-sound.ensures d.if1.left) (size sized)
+    result_written (tested d.before.is_sound.ensures d.if1.left) (size sized)
     (omega (arith, size sized, room.if2.false))
-    (w.write-text.ensures ∙ ap (λ (t : List ℕ). over t (at-start sized).args.lent.now) (listed-text (listed sized).corners-of.ensures))
+    (w.write-text.ensures ∙ ap (λ (t : List ℕ). over t (at_start sized).args.lent.now) (listed_text (listed sized).corners-of.ensures))
 
-pub write-outline-spec : {M : Type 1} → statement M
-write-outline-spec =
+pub write_outline_spec : {M : Type 1} → statement M
+write_outline_spec =
     tie.close
     (tie.spec
     (λ c κs. search rules)

@@ -5,15 +5,15 @@ use Prim.Native.Nat.{ℕ, ◌-◌, ◌≤◌, ◌<◌}
 use native.Mathlib.Omega.{arith}
 use borrow.Author.Rules.{rules}
 use lib.ListN.{length, get_or}
-use Rattle.finite.specs.Loops.{FilledFront, none-in-front, one-in-front, all-in-front}
-use Rattle.orbits.specs.Sets.{dart-limit}
-use Rattle.orbits.specs.Links.{link-of, ◌then◌, Composable}
-use Rattle.orbits.proofs.Links.{composable-rest, filled-composed}
+use Rattle.finite.specs.Loops.{FilledFront, none_in_front, one_in_front, all_in_front}
+use Rattle.orbits.specs.Sets.{dart_limit}
+use Rattle.orbits.specs.Links.{link_of, ◌then◌, Composable}
+use Rattle.orbits.proofs.Links.{composable_rest, filled_composed}
 use Rattle.orbits.proofs.compose.Statement.{statement}
 use Rattle.orbits.proofs.compose.Tie as tie
 
 abbrev invariant-loop : tie.invariant-loop
-invariant-loop f g n both₀ d₀ both d = FilledFront (link-of f then link-of g) 0 dart-limit n d both
+invariant-loop f g n both₀ d₀ both d = FilledFront (link_of f then link_of g) 0 dart_limit n d both
 
 abbrev decreases-loop : tie.decreases-loop
 decreases-loop f g n both₀ d₀ both d = n - d
@@ -23,7 +23,7 @@ abbrev in-loop : tie.After-link-of2 invariant-loop decreases-loop → tie.In-loo
 in-loop c = c.before.before.before.before
 
 loop-holds : tie.Need-loop-init invariant-loop decreases-loop
-loop-holds c = none-in-front (ap length c.requires.begun ∙ c.requires.second-whole) (composable-rest c.requires)
+loop-holds c = none_in_front (ap length c.requires.begun ∙ c.requires.second_whole) (composable_rest c.requires)
 
 element-write-both : tie.Need-element-write-both invariant-loop decreases-loop
 element-write-both c = let t = in-loop c in omega (arith, t.loop-test.taken, t.before.before.pre.within)
@@ -32,18 +32,18 @@ loop-again : tie.Need-loop-preserved invariant-loop decreases-loop
 loop-again c =
     let t = in-loop c in
     let s = t.before.before in
-    one-in-front t.before.loop.d t.before.loop.inv t.loop-test.taken s.pre.within c.link-of2.result
-    (c.link-of2.ensures ∙ ap (link-of s.args.g.now) c.before.link-of.ensures)
+    one_in_front t.before.loop.d t.before.loop.inv t.loop-test.taken s.pre.within c.link-of2.result
+    (c.link-of2.ensures ∙ ap (link_of s.args.g.now) c.before.link_of.ensures)
 
 returns : tie.Need-returns invariant-loop decreases-loop
 returns c =
     let l = c.before in
     let s = l.before in
-    filled-composed s.requires.first-whole s.requires.second-whole (all-in-front l.loop.d l.loop.invariant c.loop-test.false)
+    filled_composed s.requires.first_whole s.requires.second_whole (all_in_front l.loop.d l.loop.invariant c.loop-test.false)
     (omega arith)
 
-pub compose-spec : {M : Type 1} → statement M
-compose-spec =
+pub compose_spec : {M : Type 1} → statement M
+compose_spec =
     tie.close
     (tie.spec
     invariant-loop

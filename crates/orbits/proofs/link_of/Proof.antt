@@ -1,4 +1,4 @@
--- `orbits::link_of` answers `link-of`: past the list a number is left where it is.
+-- `orbits::link_of` answers `link_of`: past the list a number is left where it is.
 use borrow.Author.Rules.{rules}
 use mathlib.Core.Path.{sym}
 use lib.ListN.{get_or-eq_default}
@@ -14,5 +14,5 @@ returns c =
 returns-2 : tie.Need-returns-2
 returns-2 c = sym (get_or-eq_default c.before.args.links.now c.before.args.d c.if1.false)
 
-pub link-of-spec : {M : Type 1} → statement M
-link-of-spec = tie.close (tie.spec (λ c. search rules) (λ c. search rules) returns returns-2)
+pub link_of_spec : {M : Type 1} → statement M
+link_of_spec = tie.close (tie.spec (λ c. search rules) (λ c. search rules) returns returns-2)

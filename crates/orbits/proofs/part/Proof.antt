@@ -1,9 +1,9 @@
 -- `orbits::part` meets its contract: the visit begins with no dart, so its queue holds just what is
 -- reached.
 use mathlib.Core.Path.{◌∙◌}
-use Rattle.orbits.specs.Links.{link-of}
-use Rattle.orbits.proofs.Queue.{queue-small}
-use Rattle.orbits.proofs.Parts.{queue-none, closed_none, visited-set}
+use Rattle.orbits.specs.Links.{link_of}
+use Rattle.orbits.proofs.Queue.{queue_small}
+use Rattle.orbits.proofs.Parts.{queue_none, closed_none, visited_set}
 use Rattle.orbits.proofs.part.Statement.{statement}
 use Rattle.orbits.proofs.part.Tie as tie
 
@@ -12,17 +12,17 @@ visit-requires c κs =
     let s = c.before.before in
     record {
       within = s.requires;
-      queue = queue-none;
-      closed = closed_none (link-of s.args.f.now) (link-of s.args.g.now);
+      queue = queue_none;
+      closed = closed_none (link_of s.args.f.now) (link_of s.args.g.now);
     }
 
 set-of-requires : tie.Need-set-of-requires
-set-of-requires c κs = queue-small c.before.visit.ensures.lengthened.queue
+set-of-requires c κs = queue_small c.before.visit.ensures.lengthened.queue
 
 returns : tie.Need-returns
 returns c =
     let v = c.before.before in
-    c.set-of.ensures ∙ visited-set v.before.before.before.requires v.visit.ensures
+    c.set_of.ensures ∙ visited_set v.before.before.before.requires v.visit.ensures
 
-pub part-spec : {M : Type 1} → statement M
-part-spec = tie.close (tie.spec visit-requires set-of-requires returns)
+pub part_spec : {M : Type 1} → statement M
+part_spec = tie.close (tie.spec visit-requires set-of-requires returns)

@@ -8,7 +8,7 @@ use Rattle.outline.proofs.main.Tie as tie
 array-share-prefix-text : tie.Need-array-share-prefix-text
 array-share-prefix-text c =
     let read = c.before.before in
-    omega (arith, read.read-text.ensures.inside, read.read-text.ensures.as_long)
+    omega (arith, read.read_text.ensures.inside, read.read_text.ensures.as_long)
 
 slice-aggregate-print-report : tie.Need-slice-aggregate-print-report
 slice-aggregate-print-report c =
@@ -16,7 +16,7 @@ slice-aggregate-print-report c =
     omega (
       arith,
       array-share-prefix-text c.before,
-      length-take read.read-text.result.length read.read-text.new.0,
+      length-take read.read_text.result.length read.read_text.new.0,
     )
 
 pub main_spec : {M : Type 1} → statement M

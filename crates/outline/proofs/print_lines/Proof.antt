@@ -4,8 +4,8 @@ use borrow.Author.Rules.{rules}
 use Prim.Native.Nat.{◌-◌, ◌≤◌}
 use native.Mathlib.Omega.{arith}
 use lib.ListN.{length, length-take}
-use Rattle.lines.specs.Lines.{line-count}
-use Rattle.outline.proofs.Printing.{Printing, none-printed, buffer-whole, one-printed, goes_further, all-printed, print-failed}
+use Rattle.lines.specs.Lines.{line_count}
+use Rattle.outline.proofs.Printing.{Printing, none_printed, buffer_whole, one_printed, goes_further, all_printed, print_failed}
 use Rattle.outline.proofs.print_lines.Statement.{statement}
 use Rattle.outline.proofs.print_lines.Tie as tie
 
@@ -13,10 +13,10 @@ abbrev invariant-loop : tie.invariant-loop
 invariant-loop answers decided buffer₀ from₀ buffer from = Printing answers decided buffer from
 
 abbrev decreases-loop : tie.decreases-loop
-decreases-loop answers decided buffer₀ from₀ buffer from = line-count decided.ends - from
+decreases-loop answers decided buffer₀ from₀ buffer from = line_count decided.ends - from
 
 loop-holds : tie.Need-loop-init invariant-loop decreases-loop
-loop-holds c = none-printed _ _ c.large-buffer.ensures
+loop-holds c = none_printed _ _ c.large-buffer.ensures
 
 slice-aggregate-write-lines : tie.Need-slice-aggregate-write-lines invariant-loop decreases-loop
 slice-aggregate-write-lines c = omega (arith, c.before.loop.invariant.long)
@@ -30,14 +30,14 @@ fits c =
       arith,
       c.write-lines.ensures.inside,
       inv.long,
-      buffer-whole inv c.write-lines.ensures,
+      buffer_whole inv c.write-lines.ensures,
     )
 
 returns : tie.Need-returns invariant-loop decreases-loop
 returns c =
     let call = c.before.before in
     let l = call.before.before in
-    all-printed l.loop.invariant call.write-lines.ensures l.before.before.before.requires
+    all_printed l.loop.invariant call.write-lines.ensures l.before.before.before.requires
     c.if1.true
 
 array-share-prefix-buffer : tie.Need-array-share-prefix-buffer invariant-loop decreases-loop
@@ -53,7 +53,7 @@ slice-aggregate-write-all c =
     )
 
 returns-2 : tie.Need-returns-2 invariant-loop decreases-loop
-returns-2 c = print-failed c.before.before.before.before.before.before.before.loop.invariant
+returns-2 c = print_failed c.before.before.before.before.before.before.before.loop.invariant
 
 loop-less : tie.Need-loop-smaller invariant-loop decreases-loop
 loop-less c =
@@ -66,10 +66,10 @@ loop-less c =
 loop-again : tie.Need-loop-preserved invariant-loop decreases-loop
 loop-again c =
     let call = c.before.before.before.before.before in
-    one-printed call.before.before.loop.invariant call.write-lines.ensures
+    one_printed call.before.before.loop.invariant call.write-lines.ensures
 
-pub print-lines-spec : {M : Type 1} → statement M
-print-lines-spec =
+pub print_lines_spec : {M : Type 1} → statement M
+print_lines_spec =
     tie.close
     (tie.spec
     invariant-loop

@@ -4,7 +4,7 @@ use mathlib.Core.Path.{◌≡◌}
 use Prim.Native.Nat.{ℕ, ◌-◌}
 use native.Mathlib.Omega.{arith}
 use lib.ListN.{length}
-use Rattle.outline.proofs.Reading.{Filling, none_read, one-read, read-ends, all_read}
+use Rattle.outline.proofs.Reading.{Filling, none_read, one_read, read_ends, all_read}
 use Rattle.outline.proofs.read_text.Statement.{statement}
 use Rattle.outline.proofs.read_text.Tie as tie
 
@@ -28,22 +28,22 @@ loop-at c = (read_at c).before.before.before
 
 same_length : tie.Need-same-length invariant-loop decreases-loop
 same_length c =
-    (one-read (loop-at c.before).loop.inv (read_at c.before).read_more.ensures).as_long
+    (one_read (loop-at c.before).loop.inv (read_at c.before).read_more.ensures).as_long
 
 returns : tie.Need-returns invariant-loop decreases-loop
 returns c =
-    read-ends (loop-at c.before).loop.inv (read_at c.before).read_more.ensures
+    read_ends (loop-at c.before).loop.inv (read_at c.before).read_more.ensures
     (λ e h. let z : ◌≡◌ {A = ℕ} 0 1 = cc c.if1.true in omega arith)
 
 same-length-2 : tie.Need-same-length-2 invariant-loop decreases-loop
 same-length-2 c =
     let t = c.before.before in
-    (one-read (loop-at t).loop.invariant (read_at t).read_more.ensures).as_long
+    (one_read (loop-at t).loop.invariant (read_at t).read_more.ensures).as_long
 
 returns-2 : tie.Need-returns-2 invariant-loop decreases-loop
 returns-2 c =
     let t = c.before.before in
-    read-ends (loop-at t).loop.invariant (read_at t).read_more.ensures
+    read_ends (loop-at t).loop.invariant (read_at t).read_more.ensures
     (λ e h. let z : ◌≡◌ {A = ℕ} 0 1 = cc c.if2.true in omega arith)
 
 loop-less : tie.Need-loop-smaller invariant-loop decreases-loop
@@ -53,13 +53,13 @@ loop-less c =
     omega (
       arith,
       r.goes_on c.before.if1.false c.if2.false,
-      (one-read (loop-at t).loop.invariant r).inside,
+      (one_read (loop-at t).loop.invariant r).inside,
     )
 
 loop-again : tie.Need-loop-preserved invariant-loop decreases-loop
 loop-again c =
     let t = c.before.before in
-    one-read (loop-at t).loop.invariant (read_at t).read_more.ensures
+    one_read (loop-at t).loop.invariant (read_at t).read_more.ensures
 
 same-length-3 : tie.Need-same-length-3 invariant-loop decreases-loop
 same-length-3 c = c.before.loop.invariant.as_long
@@ -67,8 +67,8 @@ same-length-3 c = c.before.loop.invariant.as_long
 returns-3 : tie.Need-returns-3 invariant-loop decreases-loop
 returns-3 c = all_read c.before.loop.invariant c.loop-test.false
 
-pub read-text-spec : {M : Type 1} → statement M
-read-text-spec =
+pub read_text_spec : {M : Type 1} → statement M
+read_text_spec =
     tie.close
     (tie.spec
     invariant-loop

@@ -7,7 +7,7 @@ use mir.Val.{to_z, of_z}
 use mir.ValLaws.{to_z-of_z}
 use Rattle.integers.specs.Range.{machine}
 use Rattle.model.specs.Plane.{orientation}
-use Rattle.plane.proofs.Betweenness.{beside-on-line, beside-positive, beside-negative}
+use Rattle.plane.proofs.Betweenness.{beside_on_line, beside_positive, beside_negative}
 use Rattle.plane.proofs.is_beside.Statement.{statement}
 use Rattle.plane.proofs.is_beside.Tie as tie
 
@@ -22,17 +22,17 @@ module _ (c : tie.After-orientation-in-range) where
 returns : tie.Need-returns
 returns c =
     let v = value c.before in
-    beside-positive _ _ _ (omega (arith, machine))
+    beside_positive _ _ _ (omega (arith, machine))
 
 returns-2 : tie.Need-returns-2
 returns-2 c =
     let v = value c.before.before in
-    beside-negative _ _ _ (omega (arith, machine))
+    beside_negative _ _ _ (omega (arith, machine))
 
 returns-3 : tie.Need-returns-3
 returns-3 c =
     let v = value c.before.before.before in
-    c.are-opposite.ensures ∙ beside-on-line _ _ _ (omega (arith, machine))
+    c.are-opposite.ensures ∙ beside_on_line _ _ _ (omega (arith, machine))
 
-pub is-beside-spec : {M : Type 1} → statement M
-is-beside-spec = tie.close (tie.spec (λ c κs. search rules) returns returns-2 (λ c κs. search rules) returns-3)
+pub is_beside_spec : {M : Type 1} → statement M
+is_beside_spec = tie.close (tie.spec (λ c κs. search rules) returns returns-2 (λ c κs. search rules) returns-3)

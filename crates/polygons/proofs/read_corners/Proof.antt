@@ -4,32 +4,32 @@ use mathlib.Core.Path.{◌≡◌, sym, ◌∙◌}
 use mathlib.Core.Bool.{true, false}
 use mathlib.Core.List.{List}
 use Prim.Native.Nat.{ℕ}
-use Rattle.finite.specs.Tests.{of-true}
+use Rattle.finite.specs.Tests.{of_true}
 use Rattle.model.specs.Spelling.{bytes}
 use Rattle.model.specs.Outlines.{is_word, starts_with}
-use Rattle.polygons.proofs.Held.{counted-read, ring-read, none_read, other-read, spells-none, spells-point, spells-line, spells-ring, spells-other}
+use Rattle.polygons.proofs.Held.{counted_read, ring_read, none_read, other_read, spells_none, spells_point, spells_line, spells_ring, spells_other}
 use Rattle.polygons.proofs.read_corners.Statement.{statement}
 use Rattle.polygons.proofs.read_corners.Tie as tie
 
 -- each word was sought, and was not there
 module _ (c : tie.Else1) where
-  abbrev at-start : tie.Start
-  at-start = c.before.before.before.before
+  abbrev at_start : tie.Start
+  at_start = c.before.before.before.before
 
   abbrev text : List ℕ
-  text = at-start.args.text.now
+  text = at_start.args.text.now
 
-  no-empty : is_word (bytes "POLYGON EMPTY") text ≡ false
+  no_empty : is_word (bytes "POLYGON EMPTY") text ≡ false
   unfolding bytes
-  no-empty = sym c.before.is_word.ensures ∙ c.if1.false
+  no_empty = sym c.before.is_word.ensures ∙ c.if1.false
 
 module _ (c : tie.Else2) where
   abbrev first_else : tie.Else1
   first_else = c.before.before.before
 
-  no-point : starts_with (bytes "POINT (") (text first_else) ≡ false
+  no_point : starts_with (bytes "POINT (") (text first_else) ≡ false
   unfolding bytes
-  no-point = sym c.before.starts_with.ensures ∙ c.if2.false
+  no_point = sym c.before.starts_with.ensures ∙ c.if2.false
 
 module _ (c : tie.Else3) where
   abbrev second-else : tie.Else2
@@ -68,27 +68,27 @@ returns : tie.Need-returns
 unfolding bytes
 returns c =
     let w = c.before in
-    none_read w.before.before.before.requires (spells-none _ (sym w.is_word.ensures ∙ c.if1.true))
+    none_read w.before.before.before.requires (spells_none _ (sym w.is_word.ensures ∙ c.if1.true))
 
 read-between-requires : tie.Need-read-between-requires
 unfolding bytes
 read-between-requires c κs =
     let then = c.before.before.before.before in
-    (of-true _ (point then), (at-start (before-point then)).pre)
+    (of_true _ (point then), (at_start (before-point then)).pre)
 
 returns-2 : tie.Need-returns-2
 unfolding bytes
 returns-2 c =
     let then = c.before.before.before.before.before.before in
     let none = before-point then in
-    counted-read (at-start none).pre c.before.read_between.ensures 1 c.counted.ensures
-    (spells-point _ (no-empty none) (point then))
+    counted_read (at_start none).pre c.before.read_between.ensures 1 c.counted.ensures
+    (spells_point _ (no_empty none) (point then))
 
 read-between-requires-2 : tie.Need-read-between-requires-2
 unfolding bytes
 read-between-requires-2 c κs =
     let then = c.before.before.before.before in
-    (of-true _ (line then), (at-start (first_else (before-line then))).pre)
+    (of_true _ (line then), (at_start (first_else (before-line then))).pre)
 
 returns-3 : tie.Need-returns-3
 unfolding bytes
@@ -96,14 +96,14 @@ returns-3 c =
     let then = c.before.before.before.before.before.before in
     let no_one = before-line then in
     let none = first_else no_one in
-    counted-read (at-start none).pre c.before.read-between2.ensures 2 c.counted2.ensures
-    (spells-line _ (no-empty none) (no-point no_one) (line then))
+    counted_read (at_start none).pre c.before.read-between2.ensures 2 c.counted2.ensures
+    (spells_line _ (no_empty none) (no_point no_one) (line then))
 
 read-between-requires-3 : tie.Need-read-between-requires-3
 unfolding bytes
 read-between-requires-3 c κs =
     let then = c.before.before.before.before in
-    (of-true _ (ring then), (at-start (first_else (second-else (before-ring then)))).pre)
+    (of_true _ (ring then), (at_start (first_else (second-else (before-ring then)))).pre)
 
 returns-4 : tie.Need-returns-4
 unfolding bytes
@@ -114,8 +114,8 @@ returns-4 c =
     let no-two = before-ring then in
     let no_one = second-else no-two in
     let none = first_else no_one in
-    ring-read (at-start none).pre r.read-between3.ensures at-point.point_at.ensures c.ring.ensures
-    (spells-ring _ (no-empty none) (no-point no_one) (no_line no-two) (ring then))
+    ring_read (at_start none).pre r.read-between3.ensures at-point.point_at.ensures c.ring.ensures
+    (spells_ring _ (no_empty none) (no_point no_one) (no_line no-two) (ring then))
 
 returns-5 : tie.Need-returns-5
 unfolding bytes
@@ -123,11 +123,11 @@ returns-5 c =
     let no-two = c.before.before.before in
     let no_one = second-else no-two in
     let none = first_else no_one in
-    other-read
-    (spells-other _ (no-empty none) (no-point no_one) (no_line no-two) (sym c.before.starts-with3.ensures ∙ c.if4.false))
+    other_read
+    (spells_other _ (no_empty none) (no_point no_one) (no_line no-two) (sym c.before.starts-with3.ensures ∙ c.if4.false))
 
-pub read-corners-spec : {M : Type 1} → statement M
-read-corners-spec =
+pub read_corners_spec : {M : Type 1} → statement M
+read_corners_spec =
     tie.close
     (tie.spec
     (λ c. search rules)

@@ -9,8 +9,8 @@ use mathlib.Core.Bool.{Bool}
 use lib.IntN.{ℤ}
 use Rattle.model.specs.declared.Point.{Point}
 use Rattle.model.specs.Plane.{at, same_point}
-use Rattle.polygons.specs.Spellings.{ring-as}
-use Rattle.polygons.proofs.Held.{ring-ends, ring-open, ring-short}
+use Rattle.polygons.specs.Spellings.{ring_as}
+use Rattle.polygons.proofs.Held.{ring_ends, ring_open, ring_short}
 use Rattle.polygons.proofs.ring.Statement.{statement}
 use Rattle.polygons.proofs.ring.Tie as tie
 
@@ -38,7 +38,7 @@ module _ (told : tie.After-known-told) where
 returns : tie.Need-returns
 returns c =
     let told = c.before.before.before in
-    ring-ends told.before.listed.given.1 (first told) c.before.before.if1.true
+    ring_ends told.before.listed.given.1 (first told) c.before.before.if1.true
     (same told c.before.is_same.ensures c.if2.true)
 
 returns-2 : tie.Need-returns-2
@@ -46,15 +46,15 @@ returns-2 c =
     let told = c.before in
     let is = told.before.listed.given.1 in
     ⊎_elim
-    (λ w. ring-open is (first told) w.0.taken (same told w.1.ensures w.2.left))
-    (λ w. ring-short is (first told) w.left)
+    (λ w. ring_open is (first told) w.0.taken (same told w.1.ensures w.2.left))
+    (λ w. ring_short is (first told) w.left)
     c.if1.branch
 
 returns-3 : tie.Need-returns-3
-unfolding ring-as
-returns-3 c = sym (ap (ring-as _) c.enum_told.given.1)
+unfolding ring_as
+returns-3 c = sym (ap (ring_as _) c.enum_told.given.1)
 
-pub ring-spec : {M : Type 1} → statement M
-ring-spec =
+pub ring_spec : {M : Type 1} → statement M
+ring_spec =
     tie.close
     (tie.spec (λ c. search rules) (λ c κs. search rules) (λ c. search rules) (λ c. search rules) returns returns-2 returns-3)

@@ -11,7 +11,7 @@ returns c =
     let a = c.before.before in
     let x = to_z-of_z w64 a.args.x a.ranges.x in
     let y = to_z-of_z w64 a.args.y a.ranges.y in
-    c.in-range.ensures ∙ rw (x, y, c.before.if1.true)
+    c.in_range.ensures ∙ rw (x, y, c.before.if1.true)
 
-pub still-ranged-spec : {M : Type 1} → statement M
-still-ranged-spec = tie.close (tie.spec (λ c κs. search rules) returns (λ c. search rules))
+pub still_ranged_spec : {M : Type 1} → statement M
+still_ranged_spec = tie.close (tie.spec (λ c κs. search rules) returns (λ c. search rules))

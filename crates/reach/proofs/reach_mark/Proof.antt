@@ -6,63 +6,63 @@ use Prim.Native.Nat.{ℕ}
 use Rattle.model.specs.declared.Point.{Point}
 use Rattle.model.specs.declared.Marked.{Marked}
 use Rattle.model.specs.declared.Outcome.{Outcome}
-use Rattle.model.specs.Answers.{answer-of, marked-answer}
-use Rattle.model.specs.Maps.{empty-map}
+use Rattle.model.specs.Answers.{answer_of, marked_answer}
+use Rattle.model.specs.Maps.{empty_map}
 use Rattle.model.specs.Outline.{corners}
 use Rattle.model.specs.Building.{built}
-use Rattle.model.specs.Marking.{points-of, is-rotation, mark-call}
+use Rattle.model.specs.Marking.{points_of, is_rotation, mark_call}
 use Rattle.replies.specs.Served.{Served, only}
-use Rattle.replies.specs.Replies.{place_of, told, mark-told, mark-reply}
-use Rattle.replies.proofs.Serving.{served-as, answer-refused, answer-written}
+use Rattle.replies.specs.Replies.{place_of, told, mark_told, mark_reply}
+use Rattle.replies.proofs.Serving.{served_as, answer_refused, answer_written}
 use borrow.Author.Rules.{rules}
 use Rattle.reach.proofs.reach_mark.Statement.{statement}
 use Rattle.reach.proofs.reach_mark.Tie as tie
 
-abbrev marked-outcome : Marked → Outcome
-marked-outcome Marked.Right = Outcome.Served
-marked-outcome Marked.Wrong = Outcome.Served
-marked-outcome (Marked.Refused r) = Outcome.Refused r
+abbrev marked_outcome : Marked → Outcome
+marked_outcome Marked.Right = Outcome.Served
+marked_outcome Marked.Wrong = Outcome.Served
+marked_outcome (Marked.Refused r) = Outcome.Refused r
 
 -- neither mark is a refusal
-either : (t : Bool) → marked-outcome (cond t Marked.Right Marked.Wrong) ≡ Outcome.Served
+either : (t : Bool) → marked_outcome (cond t Marked.Right Marked.Wrong) ≡ Outcome.Served
 either true = refl
 either false = refl
 
-not-refused : (ps : List Point) (claim : List ℕ) → marked-outcome (mark-call ps claim).value ≡ Outcome.Served
-not-refused ps claim = either (is-rotation claim (corners (built empty-map ps)))
+not_refused : (ps : List Point) (claim : List ℕ) → marked_outcome (mark_call ps claim).value ≡ Outcome.Served
+not_refused ps claim = either (is_rotation claim (corners (built empty_map ps)))
 
 -- a mark that was found, and written as the place of its word
-written : (ps : List Point) (claim : List ℕ) {found : Marked} → found ≡ answer-of (mark-call ps claim) → {o : Marked} →
-    found ≡ o → marked-outcome o ≡ Outcome.Served → {before after : List ℕ} {k : ℕ} →
-    Served (only (mark-told (marked-answer o))) before after k → Served (mark-reply ps claim) before after k
+written : (ps : List Point) (claim : List ℕ) {found : Marked} → found ≡ answer_of (mark_call ps claim) → {o : Marked} →
+    found ≡ o → marked_outcome o ≡ Outcome.Served → {before after : List ℕ} {k : ℕ} →
+    Served (only (mark_told (marked_answer o))) before after k → Served (mark_reply ps claim) before after k
 written ps claim equal is served w =
-    answer-written mark-told (mark-call ps claim) marked-outcome (λ r. refl) (not-refused ps claim) _ equal
-    (ap marked-outcome is ∙ served) (served-as (sym (ap (λ (o : Marked). mark-told (marked-answer o)) is)) w)
+    answer_written mark_told (mark_call ps claim) marked_outcome (λ r. refl) (not_refused ps claim) _ equal
+    (ap marked_outcome is ∙ served) (served_as (sym (ap (λ (o : Marked). mark_told (marked_answer o)) is)) w)
 
 returns : tie.Need-returns
 returns c =
     let d = c.before.before in
     let f = d.before.before in
     let s = f.before.before.before.args in
-    answer-refused mark-told (mark-call (points-of s.points.now) s.claim.now) marked-outcome (λ r. refl)
-    (not-refused (points-of s.points.now) s.claim.now) _
+    answer_refused mark_told (mark_call (points_of s.points.now) s.claim.now) marked_outcome (λ r. refl)
+    (not_refused (points_of s.points.now) s.claim.now) _
     f.mark.ensures.equal
-    (ap marked-outcome d.marked.given.1) c.code.ensures
+    (ap marked_outcome d.marked.given.1) c.code.ensures
 
 returns-2 : tie.Need-returns-2
-unfolding marked-answer told place_of
+unfolding marked_answer told place_of
 returns-2 c =
     let d = c.before.before.before.before.before in
     written _ _ d.before.before.mark.ensures.equal d.enum_told.given.1 refl c.before.before.write-values.ensures
 
 returns-3 : tie.Need-returns-3
-unfolding marked-answer told place_of
+unfolding marked_answer told place_of
 returns-3 c =
     let d = c.before.before.before.before.before in
     written _ _ d.before.before.mark.ensures.equal d.enum-told2.given.1 refl c.before.before.write-values2.ensures
 
-pub reach-mark-spec : {M : Type 1} → statement M
-reach-mark-spec =
+pub reach_mark_spec : {M : Type 1} → statement M
+reach_mark_spec =
     tie.close
     (tie.spec
     (λ c κs. search rules)

@@ -1,7 +1,7 @@
 -- `reach::reach_place` meets its contract: the point is that of the coordinates.
 use Rattle.model.specs.declared.Point.{Point}
-use Rattle.replies.specs.Replies.{from-file, place-reply}
-use Rattle.replies.proofs.Serving.{served-at, point-made}
+use Rattle.replies.specs.Replies.{from_file, place_reply}
+use Rattle.replies.proofs.Serving.{served_at, point_made}
 use borrow.Author.Rules.{rules}
 use Rattle.reach.proofs.reach_place.Statement.{statement}
 use Rattle.reach.proofs.reach_place.Tie as tie
@@ -13,9 +13,9 @@ returns c =
     let start = n.before.before.before in
     let s = start.args in
     let f = start.ranges in
-    served-at (λ (p : Point). from-file (place-reply p) s.map.now)
-    (point-made s.x s.y f.x f.y n.point.ensures)
+    served_at (λ (p : Point). from_file (place_reply p) s.map.now)
+    (point_made s.x s.y f.x f.y n.point.ensures)
     w.write-placed.ensures
 
-pub reach-place-spec : {M : Type 1} → statement M
-reach-place-spec = tie.close (tie.spec (λ c κs. search rules) (λ c κs. search rules) (λ c. search rules) returns)
+pub reach_place_spec : {M : Type 1} → statement M
+reach_place_spec = tie.close (tie.spec (λ c κs. search rules) (λ c κs. search rules) (λ c. search rules) returns)

@@ -10,12 +10,12 @@ use Prim.Native.Nat.{ℕ, ◌≤◌, ◌<◌}
 use lib.Dec.{leb, ltb}
 use lib.IntN.{ℤ}
 use lib.ListN.{length}
-use Rattle.finite.specs.Bounded.{lt-or-ge}
-use Rattle.model.specs.Answers.{written-answer}
+use Rattle.finite.specs.Bounded.{lt_or_ge}
+use Rattle.model.specs.Answers.{written_answer}
 use Rattle.model.specs.Refusals.{Rule}
-use Rattle.model.specs.Lent.{is-short}
-use Rattle.model.specs.Outlines.{coordinates, corners-spelt, outline-rules}
-use Rattle.replies.proofs.Reported.{by-refused, by_written, length-room}
+use Rattle.model.specs.Lent.{is_short}
+use Rattle.model.specs.Outlines.{coordinates, corners_spelt, outline_rules}
+use Rattle.replies.proofs.Reported.{by_refused, by_written, length_room}
 use Rattle.reach.proofs.reach_read_outline.Statement.{statement}
 use Rattle.reach.proofs.reach_read_outline.Tie as tie
 
@@ -24,49 +24,49 @@ no_place n =
     ⊎_elim
     (λ (l : n < 1). lt-ltb n 1 l ∙ sym (ap not (lt-leb 1 n l)))
     (λ (l : 1 ≤ n). le-ltb n 1 l ∙ sym (ap not (le-leb 1 n l)))
-    (lt-or-ge n 1)
+    (lt_or_ge n 1)
 
 module _ (c : tie.After-read-outline) where
-  abbrev at-start : tie.Start
-  at-start = c.before.before.before.before
+  abbrev at_start : tie.Start
+  at_start = c.before.before.before.before
 
   abbrev rules : List Rule
-  rules = outline-rules at-start.args.text.now
+  rules = outline_rules at_start.args.text.now
 
   abbrev result : List ℤ
-  result = coordinates (corners-spelt at-start.args.text.now)
+  result = coordinates (corners_spelt at_start.args.text.now)
 
   abbrev out : List ℤ
-  out = at-start.args.out.now
+  out = at_start.args.out.now
 
   abbrev count : List ℕ
-  count = at-start.args.count.now
+  count = at_start.args.count.now
 
   -- what the code asks for is the room of both lists
-  same : (is-short result out || is-short (length result ∷ []) count) ≡ (is-short result out || not (leb 1 (length count)))
-  same = ap (λ (b : Bool). is-short result out || b) (no_place (length count))
+  same : (is_short result out || is_short (length result ∷ []) count) ≡ (is_short result out || not (leb 1 (length count)))
+  same = ap (λ (b : Bool). is_short result out || b) (no_place (length count))
 
 slice-write-count : tie.Need-slice-write-count
 slice-write-count c =
     let r = c.before.before.before.before in
-    length-room (rules r) (result r) (out r) (count r) (same r) r.read-outline.ensures c.before.written2.given.1
+    length_room (rules r) (result r) (out r) (count r) (same r) r.read-outline.ensures c.before.written2.given.1
 
 returns : tie.Need-returns
-unfolding written-answer
+unfolding written_answer
 returns c =
     let w = c.before.before in
     let r = w.before.before.before in
-    by-refused (rules r) (result r) (out r) (count r) (same r) r.read-outline.ensures w.written.given.1 c.code.ensures
+    by_refused (rules r) (result r) (out r) (count r) (same r) r.read-outline.ensures w.written.given.1 c.code.ensures
 
 returns-2 : tie.Need-returns-2
-unfolding written-answer
+unfolding written_answer
 returns-2 c =
     let w = c.before in
     let r = w.before.before.before in
     by_written (rules r) (result r) (out r) (count r) (same r) r.read-outline.ensures w.written2.given.1
 
-pub reach-read-outline-spec : {M : Type 1} → statement M
-reach-read-outline-spec =
+pub reach_read_outline_spec : {M : Type 1} → statement M
+reach_read_outline_spec =
     tie.close
     (tie.spec
     (λ c κs. search rules)

@@ -2,22 +2,22 @@
 use mathlib.Core.Path.{ap, ◌∙◌}
 use Rattle.orbits.specs.declared.Walk.{Walk}
 use Rattle.model.specs.declared.Walked.{Walked}
-use Rattle.model.specs.Answers.{walked-answer}
-use Rattle.replies.specs.Replies.{walk-told, walk-reply}
-use Rattle.replies.proofs.OpenedFiles.{opened-sound, opened-refused, opened-served}
+use Rattle.model.specs.Answers.{walked_answer}
+use Rattle.replies.specs.Replies.{walk_told, walk_reply}
+use Rattle.replies.proofs.OpenedFiles.{opened_sound, opened_refused, opened_served}
 use borrow.Author.Rules.{rules}
 use Rattle.reach.proofs.reach_walk.Statement.{statement}
 use Rattle.reach.proofs.reach_walk.Tie as tie
 
 walk_of-requires : tie.Need-walk_of-requires
 walk_of-requires c κs =
-    (opened-sound c.before.before.load_at.ensures c.enum_told.given.1).links.fits
+    (opened_sound c.before.before.load_at.ensures c.enum_told.given.1).links.fits
 
 returns : tie.Need-returns
 returns c =
     let d = c.before.before in
     let l = d.before.before in
-    opened-refused l.load_at.ensures d.outcome.given.1 c.code.ensures
+    opened_refused l.load_at.ensures d.outcome.given.1 c.code.ensures
 
 returns-2 : tie.Need-returns-2
 returns-2 c =
@@ -29,13 +29,13 @@ returns-2 c =
     let o = l.load_at.ensures in
     let e = t.enum_told.given.1 in
     let d = l.before.before.before.args.dart in
-    opened-served (walk-reply d) o e
+    opened_served (walk_reply d) o e
     (n.walk-values.ensures
-    ∙ ap (λ (w : Walk). walk-told (walked-answer (Walked.Ended w))) k.walk_of.ensures)
+    ∙ ap (λ (w : Walk). walk_told (walked_answer (Walked.Ended w))) k.walk_of.ensures)
     w.write-values.ensures
 
-pub reach-walk-spec : {M : Type 1} → statement M
-reach-walk-spec =
+pub reach_walk_spec : {M : Type 1} → statement M
+reach_walk_spec =
     tie.close
     (tie.spec
     (λ c κs. search rules)

@@ -1,7 +1,7 @@
 -- `reach::reach_write_outline` meets its contract: the file is loaded, and then its outline is written.
-use Rattle.model.specs.Answers.{written-answer}
-use Rattle.model.specs.Outlines.{corner-points, outline-text}
-use Rattle.replies.proofs.OpenedFiles.{loads, opened-sound, not-told, told}
+use Rattle.model.specs.Answers.{written_answer}
+use Rattle.model.specs.Outlines.{corner_points, outline_text}
+use Rattle.replies.proofs.OpenedFiles.{loads, opened_sound, not_told, told}
 use borrow.Author.Rules.{rules}
 use Rattle.reach.proofs.reach_write_outline.Statement.{statement}
 use Rattle.reach.proofs.reach_write_outline.Tie as tie
@@ -9,22 +9,22 @@ use Rattle.reach.proofs.reach_write_outline.Tie as tie
 write-outline-text-requires : tie.Need-write-outline-text-requires
 write-outline-text-requires c κs =
     let t = c.before.before in
-    opened-sound (loads t.before.before.load.ensures) t.enum_told.given.1
+    opened_sound (loads t.before.before.load.ensures) t.enum_told.given.1
 
 returns : tie.Need-returns
 returns c =
     let d = c.before.before in
-    not-told (λ m. outline-text (corner-points m)) (loads d.before.before.load.ensures) d.outcome.given.1 c.code.ensures
+    not_told (λ m. outline_text (corner_points m)) (loads d.before.before.load.ensures) d.outcome.given.1 c.code.ensures
 
 returns-2 : tie.Need-returns-2
-unfolding written-answer
+unfolding written_answer
 returns-2 c =
     let w = c.before.before.before.before in
     let t = w.before.before.before in
-    told (λ m. outline-text (corner-points m)) (loads t.before.before.load.ensures) t.enum_told.given.1 w.write-outline-text.ensures
+    told (λ m. outline_text (corner_points m)) (loads t.before.before.load.ensures) t.enum_told.given.1 w.write-outline-text.ensures
 
-pub reach-write-outline-spec : {M : Type 1} → statement M
-reach-write-outline-spec =
+pub reach_write_outline_spec : {M : Type 1} → statement M
+reach_write_outline_spec =
     tie.close
     (tie.spec
     (λ c κs. search rules)

@@ -6,29 +6,29 @@ use mir.Syntax.{w64}
 use mir.ValLaws.{to_z-of_z}
 use Rattle.model.specs.declared.Doubled.{Doubled}
 use Rattle.model.specs.declared.Outcome.{Outcome}
-use Rattle.model.specs.Answers.{doubled-answer}
-use Rattle.measures.specs.Areas.{sound-area-call}
+use Rattle.model.specs.Answers.{doubled_answer}
+use Rattle.measures.specs.Areas.{sound_area_call}
 use Rattle.replies.specs.Replies.{values_of}
-use Rattle.replies.proofs.Serving.{served-as, answer-refused, answer-written}
+use Rattle.replies.proofs.Serving.{served_as, answer_refused, answer_written}
 use borrow.Author.Rules.{rules}
 use Rattle.reach.proofs.write_area.Statement.{statement}
 use Rattle.reach.proofs.write_area.Tie as tie
 
-abbrev doubled-outcome : Doubled → Outcome
-doubled-outcome (Doubled.Value z) = Outcome.Served
-doubled-outcome (Doubled.Refused r) = Outcome.Refused r
+abbrev doubled_outcome : Doubled → Outcome
+doubled_outcome (Doubled.Value z) = Outcome.Served
+doubled_outcome (Doubled.Refused r) = Outcome.Refused r
 
 returns : tie.Need-returns
 returns c =
     let d = c.before.before in
     let f = d.before.before in
     let s = f.before.args in
-    answer-refused values_of (sound-area-call s.map s.place) doubled-outcome (λ r. refl) refl _
+    answer_refused values_of (sound_area_call s.map s.place) doubled_outcome (λ r. refl) refl _
     f.area_of.ensures
-    (ap doubled-outcome d.doubled.given.1) c.code.ensures
+    (ap doubled_outcome d.doubled.given.1) c.code.ensures
 
 returns-2 : tie.Need-returns-2
-unfolding doubled-answer
+unfolding doubled_answer
 returns-2 c =
     let w = c.before in
     let told = w.before.before in
@@ -37,15 +37,15 @@ returns-2 c =
     let f = d.before.before in
     let s = f.before.args in
     let is = d.doubled2.given.1 in
-    answer-written values_of (sound-area-call s.map s.place) doubled-outcome (λ r. refl) refl _
-    f.area_of.ensures (ap doubled-outcome is)
-    (served-as
+    answer_written values_of (sound_area_call s.map s.place) doubled_outcome (λ r. refl) refl _
+    f.area_of.ensures (ap doubled_outcome is)
+    (served_as
     (ap (λ (i : ℤ). i ∷ []) (to_z-of_z w64 z (record { sfits = told.known-told2.given.0.1 }))
-    ∙ sym (ap (λ (o : Doubled). (doubled-answer o).values) is))
+    ∙ sym (ap (λ (o : Doubled). (doubled_answer o).values) is))
     w.write-number.ensures)
 
-pub write-area-spec : {M : Type 1} → statement M
-write-area-spec =
+pub write_area_spec : {M : Type 1} → statement M
+write_area_spec =
     tie.close
     (tie.spec
     (λ c κs. search rules)

@@ -1,12 +1,12 @@
 -- `reach::write_offer` meets its contract: the file is loaded, and then the point is offered.
 use mathlib.Core.Path.{sym, ◌∙◌}
 use Rattle.model.specs.declared.Map.{Map}
-use Rattle.model.specs.Answers.{arrival-answer}
-use Rattle.model.specs.Arrival.{admission-rules, arrive}
-use Rattle.model.specs.Saved.{map-in, saved}
-use Rattle.replies.specs.Replies.{arrival-told}
-use Rattle.replies.proofs.OpenedFiles.{loads, opened-sound}
-use Rattle.replies.proofs.Serving.{both-refused-before, both-served-after, both_at}
+use Rattle.model.specs.Answers.{arrival_answer}
+use Rattle.model.specs.Arrival.{admission_rules, arrive}
+use Rattle.model.specs.Saved.{map_in, saved}
+use Rattle.replies.specs.Replies.{arrival_told}
+use Rattle.replies.proofs.OpenedFiles.{loads, opened_sound}
+use Rattle.replies.proofs.Serving.{both_refused_before, both_served_after, both_at}
 use borrow.Author.Rules.{rules}
 use Rattle.reach.proofs.write_offer.Statement.{statement}
 use Rattle.reach.proofs.write_offer.Tie as tie
@@ -14,14 +14,14 @@ use Rattle.reach.proofs.write_offer.Tie as tie
 write-admitted-requires : tie.Need-write-admitted-requires
 write-admitted-requires c κs =
     let t = c.before.before in
-    opened-sound (loads t.before.before.load.ensures) t.enum_told.given.1
+    opened_sound (loads t.before.before.load.ensures) t.enum_told.given.1
 
 returns : tie.Need-returns
 returns c =
     let d = c.before.before in
     let l = d.before.before in
     let s = l.before.before.before.before.args in
-    both-refused-before _ (admission-rules (map-in s.map.now) s.p) _ _ _ _ _
+    both_refused_before _ (admission_rules (map_in s.map.now) s.p) _ _ _ _ _
     (sym d.outcome.given.1 ∙ (loads l.load.ensures).outcome) c.code.ensures
 
 returns-2 : tie.Need-returns-2
@@ -33,13 +33,13 @@ returns-2 c =
     let o = loads l.load.ensures in
     let e = t.enum_told.given.1 in
     let p = s.p in
-    both-served-after _ (admission-rules (map-in s.map.now) p) _ _ _ _ (sym e ∙ o.outcome)
-    (both_at (λ m. admission-rules m p) (λ m. saved (arrive m p).map)
-    (λ (m : Map). arrival-told (arrival-answer (arrive m p).arrival))
+    both_served_after _ (admission_rules (map_in s.map.now) p) _ _ _ _ (sym e ∙ o.outcome)
+    (both_at (λ m. admission_rules m p) (λ m. saved (arrive m p).map)
+    (λ (m : Map). arrival_told (arrival_answer (arrive m p).arrival))
     (o.map e) w.write-admitted.ensures)
 
-pub write-offer-spec : {M : Type 1} → statement M
-write-offer-spec =
+pub write_offer_spec : {M : Type 1} → statement M
+write_offer_spec =
     tie.close
     (tie.spec
     (λ c κs. search rules)

@@ -7,9 +7,9 @@ use Prim.Native.Nat.{ℕ}
 use native.Mathlib.Omega.{arith}
 use lib.ListN.{length, set}
 use Rattle.finite.specs.Overwriting.{over}
-use Rattle.model.specs.Outlines.{corner-points, outline-text}
-use Rattle.drawings.proofs.Outlines.{listed-text}
-use Rattle.replies.proofs.Serving.{first_short, second_short, both-room, room-serves, stored}
+use Rattle.model.specs.Outlines.{corner_points, outline_text}
+use Rattle.drawings.proofs.Outlines.{listed_text}
+use Rattle.replies.proofs.Serving.{first_short, second_short, both_room, room_serves, stored}
 use Rattle.reach.proofs.write_outline_text.Statement.{statement}
 use Rattle.reach.proofs.write_outline_text.Tie as tie
 
@@ -18,14 +18,14 @@ module _ (c : tie.After-text-length) where
   abbrev listed : tie.After-corners-of
   listed = c.before.before.before.before.before.before.before.before.before
 
-  abbrev at-start : tie.Start
-  at-start = listed.before.before.before
+  abbrev at_start : tie.Start
+  at_start = listed.before.before.before
 
   abbrev text : List ℕ
-  text = outline-text (corner-points at-start.args.t1)
+  text = outline_text (corner_points at_start.args.t1)
 
   size : c.text-length.result ≡ length text
-  size = c.text-length.ensures ∙ ap length (listed-text listed.corners-of.ensures)
+  size = c.text-length.ensures ∙ ap length (listed_text listed.corners-of.ensures)
 
 returns : tie.Need-returns
 returns c =
@@ -41,16 +41,16 @@ returns-3 c =
     let second = w.before.before.before.before.before.before.before.before.before.before in
     let first = second.before in
     let sized = first.before in
-    let start = at-start sized in
-    both-room (text sized) (length (text sized) ∷ []) _ start.args.count.now refl
+    let start = at_start sized in
+    both_room (text sized) (length (text sized) ∷ []) _ start.args.count.now refl
     (omega (arith, size sized, first.if1.false)) second.if2.false
     (w.write-text.ensures
-    ∙ ap (λ (t : List ℕ). over t start.args.out.now) (listed-text (listed sized).corners-of.ensures))
+    ∙ ap (λ (t : List ℕ). over t start.args.out.now) (listed_text (listed sized).corners-of.ensures))
     (ap (λ (n : ℕ). set start.args.count.now 0 n) (size sized)
-    ∙ (room-serves second.if2.false (stored (length (text sized) ∷ []) start.args.count.now second.if2.false)).1)
+    ∙ (room_serves second.if2.false (stored (length (text sized) ∷ []) start.args.count.now second.if2.false)).1)
 
-pub write-outline-text-spec : {M : Type 1} → statement M
-write-outline-text-spec =
+pub write_outline_text_spec : {M : Type 1} → statement M
+write_outline_text_spec =
     tie.close
     (tie.spec
     (λ c κs. search rules)

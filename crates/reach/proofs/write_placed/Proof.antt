@@ -1,10 +1,10 @@
 -- `reach::write_placed` meets its contract: the file and the point are checked, and then the point is placed.
 use mathlib.Core.Path.{ap, ◌∙◌}
 use Rattle.model.specs.declared.Placed.{Placed}
-use Rattle.model.specs.Answers.{placed-answer}
-use Rattle.replies.specs.Replies.{place-told, place-reply}
-use Rattle.replies.proofs.OpenedFiles.{opened-sound, opened-near}
-use Rattle.replies.proofs.OpenedFiles.{opened-refused, opened-served}
+use Rattle.model.specs.Answers.{placed_answer}
+use Rattle.replies.specs.Replies.{place_told, place_reply}
+use Rattle.replies.proofs.OpenedFiles.{opened_sound, opened_near}
+use Rattle.replies.proofs.OpenedFiles.{opened_refused, opened_served}
 use borrow.Author.Rules.{rules}
 use Rattle.reach.proofs.write_placed.Statement.{statement}
 use Rattle.reach.proofs.write_placed.Tie as tie
@@ -13,13 +13,13 @@ placed-requires : tie.Need-placed-requires
 placed-requires c κs =
     let o = c.before.before.load-near.ensures in
     let e = c.enum_told.given.1 in
-    (opened-sound o e, opened-near _ o e)
+    (opened_sound o e, opened_near _ o e)
 
 returns : tie.Need-returns
 returns c =
     let d = c.before.before in
     let l = d.before.before in
-    opened-refused l.load-near.ensures d.outcome.given.1 c.code.ensures
+    opened_refused l.load-near.ensures d.outcome.given.1 c.code.ensures
 
 returns-2 : tie.Need-returns-2
 returns-2 c =
@@ -31,13 +31,13 @@ returns-2 c =
     let o = l.load-near.ensures in
     let e = t.enum_told.given.1 in
     let p = l.before.before.before.args.p in
-    opened-served (place-reply p) o e
+    opened_served (place_reply p) o e
     (v.placed-values.ensures
-    ∙ ap (λ (a : Placed). place-told (placed-answer a)) n.placed.ensures)
+    ∙ ap (λ (a : Placed). place_told (placed_answer a)) n.placed.ensures)
     w.write-values.ensures
 
-pub write-placed-spec : {M : Type 1} → statement M
-write-placed-spec =
+pub write_placed_spec : {M : Type 1} → statement M
+write_placed_spec =
     tie.close
     (tie.spec
     (λ c κs. search rules)

@@ -2,22 +2,22 @@
 use mathlib.Core.Path.{ap}
 use mathlib.Core.List.{[], ◌∷◌}
 use Rattle.orbits.specs.declared.Walker.{Walker}
-use Rattle.model.specs.Answers.{moved-answer}
-use Rattle.replies.specs.Replies.{walker-reply}
-use Rattle.replies.proofs.OpenedFiles.{opened-refused, opened-served}
+use Rattle.model.specs.Answers.{moved_answer}
+use Rattle.replies.specs.Replies.{walker_reply}
+use Rattle.replies.proofs.OpenedFiles.{opened_refused, opened_served}
 use borrow.Author.Rules.{rules}
 use Rattle.reach.proofs.write_walker.Statement.{statement}
 use Rattle.reach.proofs.write_walker.Tie as tie
 
 returns : tie.Need-returns
-unfolding moved-answer
+unfolding moved_answer
 returns c =
     let d = c.before.before in
     let l = d.before.before in
-    opened-refused l.load_at.ensures d.outcome.given.1 c.code.ensures
+    opened_refused l.load_at.ensures d.outcome.given.1 c.code.ensures
 
 returns-2 : tie.Need-returns-2
-unfolding moved-answer
+unfolding moved_answer
 returns-2 c =
     let w = c.before.before in
     let n = w.before.before.before in
@@ -26,12 +26,12 @@ returns-2 c =
     let o = l.load_at.ensures in
     let e = t.enum_told.given.1 in
     let s = l.before.before.before.args in
-    opened-served (walker-reply s.link s.dart) o e
+    opened_served (walker_reply s.link s.dart) o e
     (ap (λ (v : Walker). v.dart ∷ []) n.moved.ensures)
     w.write-values.ensures
 
-pub write-walker-spec : {M : Type 1} → statement M
-write-walker-spec =
+pub write_walker_spec : {M : Type 1} → statement M
+write_walker_spec =
     tie.close
     (tie.spec
     (λ c κs. search rules)

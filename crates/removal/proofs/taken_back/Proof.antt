@@ -10,11 +10,11 @@ use Rattle.finite.specs.ListLaws.{get_d_any}
 use Rattle.removal.specs.Unlinking.{latest}
 use Rattle.model.specs.declared.Map.{Map}
 use Rattle.model.specs.Shape.{Shaped, Fitting}
-use Rattle.model.specs.Maps.{point-limit, no-dart, note}
+use Rattle.model.specs.Maps.{point_limit, no_dart, note}
 use Rattle.model.specs.Removal.{last}
-use Rattle.hull.proofs.Sound.{sound-shaped}
-use Rattle.maps.proofs.Points.{freeing-none-fits}
-use Rattle.removal.proofs.Undone.{second-undone, outside-undone, alone-undone, last-unspliceable, left_behind}
+use Rattle.hull.proofs.Sound.{sound_shaped}
+use Rattle.maps.proofs.Points.{freeing_none_fits}
+use Rattle.removal.proofs.Undone.{second_undone, outside_undone, alone_undone, last_unspliceable, left_behind}
 use Rattle.removal.proofs.taken_back.Statement.{statement}
 use Rattle.removal.proofs.taken_back.Tie as tie
 
@@ -24,56 +24,56 @@ module _ (s : tie.Start) where
   m = s.args.map
 
   shaped : Shaped m
-  shaped = sound-shaped m s.pre.0
+  shaped = sound_shaped m s.pre.0
 
-  below : last m < point-limit
+  below : last m < point_limit
   below = omega (arith, shaped.links.fits, s.pre.1)
 
   left_is : get_or m.lefts (last m) 0 ≡ (note m (last m)).left
   unfolding note
-  left_is = get_d_any m.lefts (last m) 0 no-dart (omega (arith, below, shaped.notes.lefts-whole))
+  left_is = get_d_any m.lefts (last m) 0 no_dart (omega (arith, below, shaped.notes.lefts_whole))
 
   right_is : get_or m.rights (last m) 0 ≡ (note m (last m)).right
   unfolding note
-  right_is = get_d_any m.rights (last m) 0 no-dart (omega (arith, below, shaped.notes.rights-whole))
+  right_is = get_d_any m.rights (last m) 0 no_dart (omega (arith, below, shaped.notes.rights_whole))
 
 -- where the function starts, from the point put
-abbrev at-start : tie.After-struct-known → tie.Start
-at-start c = c.before.before.before.before.before.before.before.before
+abbrev at_start : tie.After-struct-known → tie.Start
+at_start c = c.before.before.before.before.before.before.before.before
 
 abbrev at-put : tie.After-put-point → tie.Start
-at-put c = at-start c.before.before.before
+at-put c = at_start c.before.before.before
 
 array-read-arrival : tie.Need-array-read-arrival
-array-read-arrival c = below (at-start c)
+array-read-arrival c = below (at_start c)
 
 mul_left : tie.Need-overflow-mul-left
-mul_left c = omega (arith, below (at-start c))
+mul_left c = omega (arith, below (at_start c))
 
 array-read-left : tie.Need-array-read-left
-array-read-left c = below (at-start c)
+array-read-left c = below (at_start c)
 
 cast-left : tie.Need-overflow-cast-left
 cast-left c =
-    let s = at-start c in omega (arith, left_is s, ((shaped s).notes.fitting (last (m s))).left-small)
+    let s = at_start c in omega (arith, left_is s, ((shaped s).notes.fitting (last (m s))).left_small)
 
 mul_right : tie.Need-overflow-mul-right
-mul_right c = omega (arith, below (at-start c))
+mul_right c = omega (arith, below (at_start c))
 
 array-read-right : tie.Need-array-read-right
-array-read-right c = below (at-start c)
+array-read-right c = below (at_start c)
 
 cast-right : tie.Need-overflow-cast-right
 cast-right c =
-    let s = at-start c in omega (arith, right_is s, ((shaped s).notes.fitting (last (m s))).right-small)
+    let s = at_start c in omega (arith, right_is s, ((shaped s).notes.fitting (last (m s))).right_small)
 
 put-point-requires : tie.Need-put-point-requires
-put-point-requires c κs = below (at-start c.before.before)
+put-point-requires c κs = below (at_start c.before.before)
 
 put-note-requires : tie.Need-put-note-requires
 put-note-requires c κs = (
   below (at-put c.before.before.before.before),
-  subst Fitting (sym c.freeing-none.ensures) (freeing-none-fits _ (omega arith)),
+  subst Fitting (sym c.freeing_none.ensures) (freeing_none_fits _ (omega arith)),
 )
 
 returns : tie.Need-returns
@@ -82,31 +82,31 @@ returns c =
     let noting = c.before.before in
     let put = noting.before.before.before.before.before in
     let s = at-put put in
-    left_behind (m s) put.put-point.ensures noting.before.freeing-none.ensures noting.put-note.ensures
+    left_behind (m s) put.put-point.ensures noting.before.freeing_none.ensures noting.put-note.ensures
     refl c.fixed-links.ensures refl
-    ∙ second-undone (m s) s.pre.0 s.pre.1 c.before.if1.true
+    ∙ second_undone (m s) s.pre.0 s.pre.1 c.before.if1.true
 
 unsplice-requires : tie.Need-unsplice-requires
 unfolding note
 unsplice-requires c κs =
     let test = c.before.before in
     let s = at-put test.before.before.before.before.before.before.before in
-    rw (left_is s, right_is s) (last-unspliceable (m s) s.pre.0 s.pre.1 test.if2.true)
+    rw (left_is s, right_is s) (last_unspliceable (m s) s.pre.0 s.pre.1 test.if2.true)
 
 -- the notes are as many as before
-noted-whole : (c : tie.After-put-note) → length c.put-note.new.0 ≡ point-limit
-noted-whole c =
+noted_whole : (c : tie.After-put-note) → length c.put-note.new.0 ≡ point_limit
+noted_whole c =
     let s = at-put c.before.before.before.before.before in
-    ap length c.put-note.ensures.0 ∙ (simp length-set (shaped s).notes.arrivals-whole)
+    ap length c.put-note.ensures.0 ∙ (simp length-set (shaped s).notes.arrivals_whole)
 
 slice-aggregate-latest : tie.Need-slice-aggregate-latest
-slice-aggregate-latest c = sym (noted-whole c.before.before.before.before.before.before)
+slice-aggregate-latest c = sym (noted_whole c.before.before.before.before.before.before)
 
 latest-requires : tie.Need-latest-requires
 latest-requires c κs =
     let noting = c.before.before.before.before.before.before in
     let s = at-put noting.before.before.before.before.before in
-    (omega (arith, noted-whole noting, below s), omega (arith, below s))
+    (omega (arith, noted_whole noting, below s), omega (arith, below s))
 
 returns-2 : tie.Need-returns-2
 unfolding note
@@ -117,11 +117,11 @@ returns-2 c =
     let put = noting.before.before.before.before.before in
     let s = at-put put in
     let k = last (m s) in
-    left_behind (m s) put.put-point.ensures noting.before.freeing-none.ensures noting.put-note.ensures
+    left_behind (m s) put.put-point.ensures noting.before.freeing_none.ensures noting.put-note.ensures
     taken.unsplice.ensures.0
     (taken.unsplice.ensures.1 ∙ rw (left_is s, right_is s))
-    (c.latest.ensures ∙ ap (λ (t : List ℕ). latest t k) (noting.put-note.ensures.0 ∙ rw noting.before.freeing-none.ensures))
-    ∙ outside-undone (m s) s.pre.0 s.pre.1 test.if2.true
+    (c.latest.ensures ∙ ap (λ (t : List ℕ). latest t k) (noting.put-note.ensures.0 ∙ rw noting.before.freeing_none.ensures))
+    ∙ outside_undone (m s) s.pre.0 s.pre.1 test.if2.true
 
 returns-3 : tie.Need-returns-3
 unfolding note
@@ -129,12 +129,12 @@ returns-3 c =
     let noting = c.before.before in
     let put = noting.before.before.before.before.before in
     let s = at-put put in
-    left_behind (m s) put.put-point.ensures noting.before.freeing-none.ensures noting.put-note.ensures
+    left_behind (m s) put.put-point.ensures noting.before.freeing_none.ensures noting.put-note.ensures
     refl refl refl
-    ∙ alone-undone (m s) s.pre.0 s.pre.1 c.before.if1.false c.if2.false
+    ∙ alone_undone (m s) s.pre.0 s.pre.1 c.before.if1.false c.if2.false
 
-pub taken-back-spec : {M : Type 1} → statement M
-taken-back-spec =
+pub taken_back_spec : {M : Type 1} → statement M
+taken_back_spec =
     tie.close
     (tie.spec
     (λ c. search rules)

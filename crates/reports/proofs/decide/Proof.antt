@@ -4,16 +4,16 @@ use borrow.Author.Rules.{rules}
 use mathlib.Core.Path.{refl, sym, ◌∙◌}
 use native.Mathlib.Omega.{arith}
 use borrow.Author.Tests.{ltb-false}
-use Rattle.reports.proofs.Wholes.{decides-long, decides-short}
+use Rattle.reports.proofs.Wholes.{decides_long, decides_short}
 use Rattle.reports.proofs.decide.Statement.{statement}
 use Rattle.reports.proofs.decide.Tie as tie
 
 returns : tie.Need-returns
 returns c =
     let asked = c.before in
-    decides-long (sym asked.is-too-long.ensures ∙ c.if1.true) refl
+    decides_long (sym asked.is-too-long.ensures ∙ c.if1.true) refl
     asked.before.before.requires
-    (record { corners-whole = refl; corners-fit = omega arith; lines_fit = omega arith })
+    (record { corners_whole = refl; corners_fit = omega arith; lines_fit = omega arith })
 
 decide-lines-requires : tie.Need-decide-lines-requires
 decide-lines-requires c κs =
@@ -28,12 +28,12 @@ returns-2 c =
     let listed = c.before.before in
     let lines = listed.before.before in
     let test = lines.before.before in
-    decides-short lines.decide-lines.ensures listed.corners-of.ensures
+    decides_short lines.decide-lines.ensures listed.corners-of.ensures
     c.counts_of.ensures
     (sym test.before.is-too-long.ensures ∙ test.if1.false)
 
-pub decide-spec : {M : Type 1} → statement M
-decide-spec =
+pub decide_spec : {M : Type 1} → statement M
+decide_spec =
     tie.close
     (tie.spec
     (λ c κs. search rules)

@@ -1,20 +1,20 @@
 -- `reports::write_lines` meets its contract: it lends the corners.
 use borrow.Author.Rules.{rules}
-use Rattle.reports.proofs.Wholes.{listed-length, corners-few, printable}
+use Rattle.reports.proofs.Wholes.{listed_length, corners_few, printable}
 use Rattle.reports.proofs.write_lines.Statement.{statement}
 use Rattle.reports.proofs.write_lines.Tie as tie
 
-abbrev at-start : tie.After-corners2 → tie.Start
-at-start c = c.before.before.before.before.before.before
+abbrev at_start : tie.After-corners2 → tie.Start
+at_start c = c.before.before.before.before.before.before
 
 slice-aggregate-put-lines : tie.Need-slice-aggregate-put-lines
-slice-aggregate-put-lines c = listed-length (at-start c).requires
+slice-aggregate-put-lines c = listed_length (at_start c).requires
 
 put-lines-requires : tie.Need-put-lines-requires
-put-lines-requires c κs = let f = (at-start c).requires in (corners-few f, printable f)
+put-lines-requires c κs = let f = (at_start c).requires in (corners_few f, printable f)
 
-pub write-lines-spec : {M : Type 1} → statement M
-write-lines-spec =
+pub write_lines_spec : {M : Type 1} → statement M
+write_lines_spec =
     tie.close
     (tie.spec
     (λ c. search rules)

@@ -7,10 +7,10 @@ use Prim.Native.Nat.{ℕ, ◌*◌}
 use native.Mathlib.Omega.{arith}
 use lib.IntN.{ℤ}
 use lib.ListN.{length, length-append, length-take, length-drop}
-use Rattle.orbits.specs.Links.{link-of}
-use Rattle.model.specs.Saved.{big_endian, header, header-length, helpers-place, links-place, block}
-use Rattle.saved.specs.Fields.{coordinate-field, helper-field}
-use Rattle.layout.proofs.Blocks.{length-block, piece-written}
+use Rattle.orbits.specs.Links.{link_of}
+use Rattle.model.specs.Saved.{big_endian, header, header_length, helpers_place, links_place, block}
+use Rattle.saved.specs.Fields.{coordinate_field, helper_field}
+use Rattle.layout.proofs.Blocks.{length_block, piece_written}
 use borrow.Author.Rules.{rules}
 use Rattle.saved.proofs.write_unnoted.Statement.{statement}
 use Rattle.saved.proofs.write_unnoted.Tie as tie
@@ -23,32 +23,32 @@ write-coordinates-requires c κs =
 -- the header and the blocks, up to each
 module _ (v : ℕ) (xs ys : List ℤ) (helpers : List Bool) (edge : List ℕ) (n reference : ℕ) where
   abbrev coordinates : List ℕ
-  coordinates = block (2 * n) 4 (coordinate-field xs ys)
+  coordinates = block (2 * n) 4 (coordinate_field xs ys)
 
-  abbrev first-1 : List ℕ
-  first-1 = header v n reference
+  abbrev first_1 : List ℕ
+  first_1 = header v n reference
 
-  abbrev first-2 : List ℕ
-  first-2 = first-1 ++ coordinates
+  abbrev first_2 : List ℕ
+  first_2 = first_1 ++ coordinates
 
-  abbrev first-3 : List ℕ
-  first-3 = first-2 ++ block n 1 (helper-field helpers)
+  abbrev first_3 : List ℕ
+  first_3 = first_2 ++ block n 1 (helper_field helpers)
 
-  length-1 : length first-1 ≡ header-length
+  length_1 : length first_1 ≡ header_length
   unfolding header big_endian
-  length-1 = refl
+  length_1 = refl
 
-  length-2 : helpers-place n ≡ length first-2
-  length-2 = simp length-append (omega (arith, length-1, length-block (2 * n) 4 (coordinate-field xs ys)))
+  length_2 : helpers_place n ≡ length first_2
+  length_2 = simp length-append (omega (arith, length_1, length_block (2 * n) 4 (coordinate_field xs ys)))
 
-  length-3 : links-place n ≡ length first-3
-  length-3 =
+  length_3 : links_place n ≡ length first_3
+  length_3 =
       simp length-append
       (omega (
         arith,
-        length-1,
-        length-block (2 * n) 4 (coordinate-field xs ys),
-        length-block n 1 (helper-field helpers),
+        length_1,
+        length_block (2 * n) 4 (coordinate_field xs ys),
+        length_block n 1 (helper_field helpers),
       ))
 
 returns : tie.Need-returns
@@ -74,23 +74,23 @@ returns c =
     let long = s.requires.1.1 in
     let same = lent-1.lent.given in
     let after-2 =
-    piece-written (first-1 v xs ys helpers edge n r) (coordinates v xs ys helpers edge n r) before header-length _ _
-    c_1.write-header.ensures (sym (length-1 v xs ys helpers edge n r)) (omega arith)
+    piece_written (first_1 v xs ys helpers edge n r) (coordinates v xs ys helpers edge n r) before header_length _ _
+    c_1.write-header.ensures (sym (length_1 v xs ys helpers edge n r)) (omega arith)
     c_2.write-coordinates.ensures in
     let after-3 =
-    piece-written (first-2 v xs ys helpers edge n r) (block n 1 (helper-field helpers)) before
-    helpers-at.helpers-place.result _ _
-    after-2 (helpers-at.helpers-place.ensures ∙ length-2 v xs ys helpers edge n r)
-    (omega (arith, helpers-at.helpers-place.ensures, lent-2.lent2.given))
+    piece_written (first_2 v xs ys helpers edge n r) (block n 1 (helper_field helpers)) before
+    helpers-at.helpers_place.result _ _
+    after-2 (helpers-at.helpers_place.ensures ∙ length_2 v xs ys helpers edge n r)
+    (omega (arith, helpers-at.helpers_place.ensures, lent-2.lent2.given))
     c_3.write-helpers.ensures in
-    piece-written (first-3 v xs ys helpers edge n r) (block (2 * n) 2 (link-of edge)) before
-    links.links-place.result _ _
-    after-3 (links.links-place.ensures ∙ length-3 v xs ys helpers edge n r)
-    (omega (arith, links.links-place.ensures, lent-2.lent2.given, lent-3.lent3.given))
+    piece_written (first_3 v xs ys helpers edge n r) (block (2 * n) 2 (link_of edge)) before
+    links.links_place.result _ _
+    after-3 (links.links_place.ensures ∙ length_3 v xs ys helpers edge n r)
+    (omega (arith, links.links_place.ensures, lent-2.lent2.given, lent-3.lent3.given))
     c_4.write-links.ensures
 
-pub write-unnoted-spec : {M : Type 1} → statement M
-write-unnoted-spec =
+pub write_unnoted_spec : {M : Type 1} → statement M
+write_unnoted_spec =
     tie.close
     (tie.spec
     (λ c κs. search rules)

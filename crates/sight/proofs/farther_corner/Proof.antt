@@ -4,25 +4,25 @@ use borrow.Author.Rules.{rules}
 use mathlib.Core.Path.{◌≡◌, sym, ap, subst, ◌∙◌}
 use Prim.Native.Nat.{ℕ}
 use lib.Dec.{T}
-use Rattle.finite.specs.Tests.{and_both, of-true}
+use Rattle.finite.specs.Tests.{and_both, of_true}
 use Rattle.finite.specs.Lists.{elem}
 use Rattle.model.specs.declared.Point.{Point}
 use Rattle.model.specs.declared.Map.{Map}
-use Rattle.model.specs.Plane.{in-range}
-use Rattle.model.specs.Maps.{owner, point, edge-link, with-outline}
-use Rattle.model.specs.Outline.{next-corner, outline}
+use Rattle.model.specs.Plane.{in_range}
+use Rattle.model.specs.Maps.{owner, point, edge_link, with_outline}
+use Rattle.model.specs.Outline.{next_corner, outline}
 use Rattle.plane.specs.Between.{opposite}
-use Rattle.maps.proofs.Outline.{outline-first}
+use Rattle.maps.proofs.Outline.{outline_first}
 use Rattle.sight.proofs.Indices.{ranged}
-use Rattle.sight.proofs.Beyond.{farther-this, farther-next}
-use Rattle.sight.proofs.Seeing.{farther-by-arrays}
+use Rattle.sight.proofs.Beyond.{farther_this, farther_next}
+use Rattle.sight.proofs.Seeing.{farther_by_arrays}
 use Rattle.sight.proofs.farther_corner.Statement.{statement}
 use Rattle.sight.proofs.farther_corner.Tie as tie
 
 -- the map whose arrays are lent, and its first corner
 abbrev lent : tie.Start → Map
 lent s =
-    with-outline s.requires.rest s.args.xs.now s.args.ys.now s.args.edge.now s.args.count s.args.reference
+    with_outline s.requires.rest s.args.xs.now s.args.ys.now s.args.edge.now s.args.count s.args.reference
 
 abbrev first : tie.Start → ℕ
 first s = owner s.args.reference
@@ -31,9 +31,9 @@ are-opposite-requires : tie.Need-are-opposite-requires
 are-opposite-requires c κs =
     let s = c.before.before.before.before in
     let r = ranged s.requires.outline in
-    let ra = subst (λ (q : Point). T (in-range q)) (sym c.before.point_at.ensures) (r.places (first s)) in
+    let ra = subst (λ (q : Point). T (in_range q)) (sym c.before.point_at.ensures) (r.places (first s)) in
     let rb =
-    subst (λ (q : Point). T (in-range q)) (sym c.point-at2.ensures) (r.places c.before.before.next-corner.result) in
+    subst (λ (q : Point). T (in_range q)) (sym c.point-at2.ensures) (r.places c.before.before.next_corner.result) in
     let rp = r.offered in
     search and_both
 
@@ -45,37 +45,37 @@ module _ (c : tie.After-are-opposite) where
   abbrev m : Map
   m = lent s
 
-  next-is : c.before.before.before.next-corner.result ≡ next-corner m (first s)
-  unfolding next-corner edge-link
-  next-is = c.before.before.before.next-corner.ensures
+  next_is : c.before.before.before.next_corner.result ≡ next_corner m (first s)
+  unfolding next_corner edge_link
+  next_is = c.before.before.before.next_corner.ensures
 
-  tested : c.are-opposite.result ≡ opposite (point m (first s)) s.args.p (point m (next-corner m (first s)))
+  tested : c.are-opposite.result ≡ opposite (point m (first s)) s.args.p (point m (next_corner m (first s)))
   unfolding point
   tested =
       c.are-opposite.ensures
       ∙ (λ i. opposite (c.before.before.point_at.ensures i) s.args.p (c.before.point-at2.ensures i))
-      ∙ ap (λ (b : ℕ). opposite (point m (first s)) s.args.p (point m b)) next-is
+      ∙ ap (λ (b : ℕ). opposite (point m (first s)) s.args.p (point m b)) next_is
 
   on : T (elem (first s) (outline m))
-  on = outline-first s.pre.outline.accepted.is-sound s.pre.outline.two
+  on = outline_first s.pre.outline.accepted.is_sound s.pre.outline.two
 
 returns : tie.Need-returns
 returns c =
     let o = (s c.before).pre.outline in
-    farther-this o.accepted o.two (s c.before).pre.beyond (first (s c.before)) (on c.before)
-    (of-true _ (sym (tested c.before) ∙ c.if1.true))
-    ∙ farther-by-arrays (m c.before) (s c.before).args.p
+    farther_this o.accepted o.two (s c.before).pre.beyond (first (s c.before)) (on c.before)
+    (of_true _ (sym (tested c.before) ∙ c.if1.true))
+    ∙ farther_by_arrays (m c.before) (s c.before).args.p
 
 returns-2 : tie.Need-returns-2
 returns-2 c =
     let o = (s c.before).pre.outline in
-    next-is c.before
-    ∙ farther-next o.accepted o.two (s c.before).pre.beyond (first (s c.before)) (on c.before)
+    next_is c.before
+    ∙ farther_next o.accepted o.two (s c.before).pre.beyond (first (s c.before)) (on c.before)
     (λ t. subst T (sym (tested c.before) ∙ c.if1.false) t)
-    ∙ farther-by-arrays (m c.before) (s c.before).args.p
+    ∙ farther_by_arrays (m c.before) (s c.before).args.p
 
-pub farther-corner-spec : {M : Type 1} → statement M
-farther-corner-spec =
+pub farther_corner_spec : {M : Type 1} → statement M
+farther_corner_spec =
     tie.close
     (tie.spec
     (λ c κs. search rules)

@@ -6,5 +6,5 @@ use Rattle.sight.proofs.sought_at.Tie as tie
 returns-3 : tie.Need-returns-3
 returns-3 c = rw (c.before.before.if1.false, c.before.if2.false, c.if3.true)
 
-pub sought-at-spec : {M : Type 1} → statement M
-sought-at-spec = tie.close (tie.spec (λ c. search rules) (λ c. search rules) returns-3 (λ c. search rules))
+pub sought_at_spec : {M : Type 1} → statement M
+sought_at_spec = tie.close (tie.spec (λ c. search rules) (λ c. search rules) returns-3 (λ c. search rules))

@@ -4,11 +4,11 @@ use borrow.Author.Rules.{rules}
 use mathlib.Core.Path.{◌≡◌, sym, subst, ◌∙◌}
 use mathlib.Core.Bool.{Bool, true, false, not}
 use lib.Dec.{T, eqb→eq}
-use Rattle.finite.specs.Tests.{of-true, is_false, equal_by, same_test}
+use Rattle.finite.specs.Tests.{of_true, is_false, equal_by, same_test}
 use Rattle.finite.specs.Loops.{passes, fails}
 use Rattle.model.specs.declared.Map.{Map}
 use Rattle.model.specs.Sound.{agree}
-use Rattle.model.proofs.Sound.{Agrees, agrees, agrees-by}
+use Rattle.model.proofs.Sound.{Agrees, agrees, agrees_by}
 use Rattle.soundness.proofs.agree.Statement.{statement}
 use Rattle.soundness.proofs.agree.Tie as tie
 
@@ -23,7 +23,7 @@ returns-2 : tie.Need-returns-2
 returns-2 c = sym (is_false _ (λ t. c.if2.true (eqb→eq _ _ (agrees _ _ t).references)))
 
 returns-3 : tie.Need-returns-3
-returns-3 c = refuted _ _ c.before.same-coordinates.ensures c.if3.true (λ a. a.xs)
+returns-3 c = refuted _ _ c.before.same_coordinates.ensures c.if3.true (λ a. a.xs)
 
 returns-4 : tie.Need-returns-4
 returns-4 c = refuted _ _ c.before.same-coordinates2.ensures c.if4.true (λ a. a.ys)
@@ -53,22 +53,22 @@ returns-9 c =
     c.same-words2.ensures
     ∙ same_test _ _
     (λ t.
-    agrees-by _ _
+    agrees_by _ _
     (record {
       counts = equal_by _ _ e1.if1.false;
       references = equal_by _ _ e2.if2.false;
-      xs = of-true _ (passes e3.before.same-coordinates.ensures e3.if3.false);
-      ys = of-true _ (passes e4.before.same-coordinates2.ensures e4.if4.false);
-      helpers = of-true _ (passes e5.before.same_tests.ensures e5.if5.false);
-      edges = of-true _ (passes e6.before.same_numbers.ensures e6.if6.false);
-      arrivals = of-true _ (passes e7.before.same_bytes.ensures e7.if7.false);
-      lefts = of-true _ (passes e8.before.same-words.ensures e8.if8.false);
+      xs = of_true _ (passes e3.before.same_coordinates.ensures e3.if3.false);
+      ys = of_true _ (passes e4.before.same-coordinates2.ensures e4.if4.false);
+      helpers = of_true _ (passes e5.before.same_tests.ensures e5.if5.false);
+      edges = of_true _ (passes e6.before.same_numbers.ensures e6.if6.false);
+      arrivals = of_true _ (passes e7.before.same_bytes.ensures e7.if7.false);
+      lefts = of_true _ (passes e8.before.same-words.ensures e8.if8.false);
       rights = t;
     }))
     (λ t. (agrees _ _ t).rights)
 
-pub agree-spec : {M : Type 1} → statement M
-agree-spec =
+pub agree_spec : {M : Type 1} → statement M
+agree_spec =
     tie.close
     (tie.spec
     returns

@@ -4,20 +4,20 @@ use mathlib.Core.Path.{ap}
 use Prim.Native.Nat.{◌%◌}
 use lib.IntN.{ℤ, nat_abs}
 use mir.Syntax.{w64}
-use Rattle.integers.specs.Range.{Number, read, back, fits, unsigned-fits}
-use Rattle.model.specs.Plane.{coordinate-limit}
-use Rattle.plane.proofs.Bounds.{x-near, y-near}
-use Rattle.admission.specs.Hashes.{hash-count, hash}
-use Rattle.admission.proofs.Hashing.{column, row, rows, number, number-nonneg}
+use Rattle.integers.specs.Range.{Number, read, back, fits, unsigned_fits}
+use Rattle.model.specs.Plane.{coordinate_limit}
+use Rattle.plane.proofs.Bounds.{x_near, y_near}
+use Rattle.admission.specs.Hashes.{hash_count, hash}
+use Rattle.admission.proofs.Hashing.{column, row, rows, number, number_nonneg}
 use Rattle.admission.proofs.hashes.hash.Statement.{statement}
 use Rattle.admission.proofs.hashes.hash.Tie as tie
 
 module _ (s : tie.Start) where
-  abbrev x : Number coordinate-limit s.args.p.x
-  x = read w64 tt (x-near s.args.p s.requires)
+  abbrev x : Number coordinate_limit s.args.p.x
+  x = read w64 tt (x_near s.args.p s.requires)
 
-  abbrev y : Number coordinate-limit s.args.p.y
-  y = read w64 tt (y-near s.args.p s.pre)
+  abbrev y : Number coordinate_limit s.args.p.y
+  y = read w64 tt (y_near s.args.p s.pre)
 
 add-column : tie.Need-overflow-add-column
 add-column c = let s = c.before.before in fits w64 tt (column (x s) (y s))
@@ -34,13 +34,13 @@ add-result c = let s = c.before.before.before.before in fits w64 tt (number (x s
 cast-result : tie.Need-overflow-cast-result
 cast-result c =
     let s = c.before.before.before.before in
-    unsigned-fits (back w64 tt (number (x s) (y s))) (number-nonneg (x s) (y s)) w64 tt
+    unsigned_fits (back w64 tt (number (x s) (y s))) (number_nonneg (x s) (y s)) w64 tt
 
 returns : tie.Need-returns
 unfolding hash
 returns c =
     let s = c.before.before.before.before in
-    ap (λ (z : ℤ). nat_abs z % hash-count) (back w64 tt (number (x s) (y s))).is
+    ap (λ (z : ℤ). nat_abs z % hash_count) (back w64 tt (number (x s) (y s))).is
 
-pub hash-spec : {M : Type 1} → statement M
-hash-spec = tie.close (tie.spec add-column add_row mul-result add-result cast-result returns)
+pub hash_spec : {M : Type 1} → statement M
+hash_spec = tie.close (tie.spec add-column add_row mul-result add-result cast-result returns)

@@ -6,10 +6,10 @@ use native.Mathlib.Nat.{sub-zero}
 use native.Mathlib.Omega.{arith}
 use lib.ListN.{length-replicate}
 use Rattle.model.specs.declared.Map.{Map}
-use Rattle.model.specs.Maps.{point-limit, edge-link}
-use Rattle.model.specs.Outline.{next-corner, lowest-corner}
+use Rattle.model.specs.Maps.{point_limit, edge_link}
+use Rattle.model.specs.Outline.{next_corner, lowest_corner}
 use Rattle.model.specs.Shape.{Shaped}
-use Rattle.corners.proofs.CornerLoops.{lowest-is, Listing, listing-first, listing-last, listing-more, listing-end, listing-few}
+use Rattle.corners.proofs.CornerLoops.{lowest_is, Listing, listing_first, listing_last, listing_more, listing_end, listing_few}
 use Rattle.corners.proofs.listing.corners_of.Statement.{statement}
 use Rattle.corners.proofs.listing.corners_of.Tie as tie
 
@@ -21,28 +21,28 @@ abbrev decreases-loop : tie.decreases-loop
 decreases-loop map points₀ count start first listed₀ a₀ counter₀ points listed a counter = map.count - counter
 
 returns : tie.Need-returns invariant-loop decreases-loop
-returns c = listing-few c.if1.true refl
+returns c = listing_few c.if1.true refl
 
 lowest-corner-requires : tie.Need-lowest-corner-requires invariant-loop decreases-loop
 lowest-corner-requires c κs = c.before.before.before.before.before.before.before.before.requires.links.fits
 
 -- where the lowest corner was found
 module _ (c : tie.After-lowest-corner invariant-loop decreases-loop) where
-  abbrev two-points : tie.Else1 invariant-loop decreases-loop
-  two-points = c.before.before.before.before.before.before.before.before
+  abbrev two_points : tie.Else1 invariant-loop decreases-loop
+  two_points = c.before.before.before.before.before.before.before.before
 
   abbrev map : Map
-  map = two-points.before.args.t1
+  map = two_points.before.args.t1
 
   abbrev sound : Shaped map
-  sound = two-points.before.pre
+  sound = two_points.before.pre
 
-  lowest : c.lowest-corner.result ≡ lowest-corner map
-  lowest = c.lowest-corner.ensures ∙ lowest-is sound two-points.if1.left
+  lowest : c.lowest_corner.result ≡ lowest_corner map
+  lowest = c.lowest_corner.ensures ∙ lowest_is sound two_points.if1.left
 
 loop-holds : tie.Need-loop-init invariant-loop decreases-loop
 loop-holds c =
-    listing-first (map c) c.lowest-corner.result (length-replicate {A = ℕ} point-limit 0) (sub-zero _)
+    listing_first (map c) c.lowest_corner.result (length-replicate {A = ℕ} point_limit 0) (sub-zero _)
 
 mul-points : tie.Need-overflow-mul-points invariant-loop decreases-loop
 mul-points c = omega (arith, c.before.loop.invariant.few, (sound c.before.before).links.fits, c.loop-test.true)
@@ -68,32 +68,32 @@ loop-less : tie.Need-loop-smaller invariant-loop decreases-loop
 loop-less c = omega (arith, (in-loop c.before).loop-test.taken)
 
 loop-again : tie.Need-loop-preserved invariant-loop decreases-loop
-unfolding next-corner edge-link
+unfolding next_corner edge_link
 loop-again c =
     let t = in-loop c.before in
     let b = at-lowest-corner t in
-    listing-more (map b) b.lowest-corner.result t.before.loop.inv
+    listing_more (map b) b.lowest_corner.result t.before.loop.inv
     (omega (arith, t.loop-test.taken)) (omega (arith, t.before.loop.inv.few, (sound b).links.fits, t.loop-test.taken))
-    c.before.next-corner.ensures (omega arith) c.if2.false
+    c.before.next_corner.ensures (omega arith) c.if2.false
 
 returns-2 : tie.Need-returns-2 invariant-loop decreases-loop
 returns-2 c =
     let b = c.before.before in
-    listing-end (sound b) (two-points b).if1.false (lowest b) c.before.loop.invariant (omega (arith, c.loop-test.false))
+    listing_end (sound b) (two_points b).if1.false (lowest b) c.before.loop.invariant (omega (arith, c.loop-test.false))
 
 returns-3 : tie.Need-returns-3 invariant-loop decreases-loop
-unfolding next-corner edge-link
+unfolding next_corner edge_link
 returns-3 c =
     let t = in-loop c.before in
     let b = at-lowest-corner t in
-    listing-end (sound b) (two-points b).if1.left (lowest b)
-    (listing-last (map b) b.lowest-corner.result t.before.loop.inv
+    listing_end (sound b) (two_points b).if1.left (lowest b)
+    (listing_last (map b) b.lowest_corner.result t.before.loop.inv
     (omega (arith, t.loop-test.taken)) (omega (arith, t.before.loop.inv.few, (sound b).links.fits, t.loop-test.taken))
-    c.before.next-corner.ensures c.if2.true)
+    c.before.next_corner.ensures c.if2.true)
     (omega arith)
 
-pub corners-of-spec : {M : Type 1} → statement M
-corners-of-spec =
+pub corners_of_spec : {M : Type 1} → statement M
+corners_of_spec =
     tie.close
     (tie.spec
     invariant-loop

@@ -23,6 +23,6 @@ returns c = rw (sym (tested c.before) ∙ c.if1.true)
 returns-2 : tie.Need-returns-2
 returns-2 c = rw (sym (tested c.before) ∙ c.if1.false)
 
-pub lower-of-spec : {M : Type 1} → statement M
-lower-of-spec =
+pub lower_of_spec : {M : Type 1} → statement M
+lower_of_spec =
     tie.close (tie.spec (λ c κs. search rules) (λ c κs. search rules) (λ c κs. search rules) returns returns-2)

@@ -2,7 +2,7 @@
 use mathlib.Core.Path.{◌≡◌, ◌∙◌}
 use Prim.Native.Nat.{◌-◌, ◌≤◌}
 use native.Mathlib.Omega.{arith}
-use Rattle.finite.specs.Overwriting.{over-front, Copied, none-copied, one-copied, so-many-copied}
+use Rattle.finite.specs.Overwriting.{over_front, Copied, none_copied, one_copied, so_many_copied}
 use Rattle.corners.proofs.listing.write_corners.Statement.{statement}
 use Rattle.corners.proofs.listing.write_corners.Tie as tie
 
@@ -13,7 +13,7 @@ abbrev decreases-loop : tie.decreases-loop
 decreases-loop lent₀ list count i₀ lent i = count - i
 
 loop-holds : tie.Need-loop-init invariant-loop decreases-loop
-loop-holds c = (none-copied, omega arith)
+loop-holds c = (none_copied, omega arith)
 
 slice-write-lent : tie.Need-slice-write-lent invariant-loop decreases-loop
 slice-write-lent c = omega (arith, c.before.before.loop.invariant.0.long)
@@ -21,7 +21,7 @@ slice-write-lent c = omega (arith, c.before.before.loop.invariant.0.long)
 loop-again : tie.Need-loop-preserved invariant-loop decreases-loop
 loop-again c =
     let at-loop = c.before.before in
-    (one-copied at-loop.loop.invariant.0 0 (omega arith) (omega arith) (omega arith), omega arith)
+    (one_copied at-loop.loop.invariant.0 0 (omega arith) (omega arith) (omega arith), omega arith)
 
 same_length : tie.Need-same-length invariant-loop decreases-loop
 same_length c = c.before.loop.invariant.0.long
@@ -30,10 +30,10 @@ returns : tie.Need-returns invariant-loop decreases-loop
 returns c =
     let at-loop = c.before in
     let e : at-loop.loop.i ≡ at-loop.before.args.t1.count = omega arith in
-    so-many-copied at-loop.loop.invariant.0 e ∙ over-front _ _
+    so_many_copied at-loop.loop.invariant.0 e ∙ over_front _ _
 
-pub write-corners-spec : {M : Type 1} → statement M
-write-corners-spec =
+pub write_corners_spec : {M : Type 1} → statement M
+write_corners_spec =
     tie.close
     (tie.spec
     invariant-loop

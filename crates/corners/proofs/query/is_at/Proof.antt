@@ -11,5 +11,5 @@ returns c =
     let p = c.before.before.args.p in
     c.is_same.ensures ∙ ap (λ (a : Point). same_point a p) c.before.point_at.ensures
 
-pub is-at-spec : {M : Type 1} → statement M
-is-at-spec = tie.close (tie.spec (λ c κs. search rules) (λ c κs. search rules) returns)
+pub is_at_spec : {M : Type 1} → statement M
+is_at_spec = tie.close (tie.spec (λ c κs. search rules) (λ c κs. search rules) returns)

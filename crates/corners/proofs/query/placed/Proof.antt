@@ -8,11 +8,11 @@ use native.Mathlib.Omega.{arith}
 use borrow.Author.Tests.{lt-ltb}
 use lib.Dec.{ltb}
 use Rattle.model.specs.declared.Placed.{Placed}
-use Rattle.model.specs.Maps.{point, edge-link}
-use Rattle.model.specs.Outline.{next-corner}
-use Rattle.model.specs.Placing.{place-among}
-use Rattle.model.proofs.Shape.{place-ranged}
-use Rattle.corners.proofs.Views.{Scanning, place-seen, edge-seen, inside-seen, outside-seen, at_first, corner-found, corner-looked, at-end}
+use Rattle.model.specs.Maps.{point, edge_link}
+use Rattle.model.specs.Outline.{next_corner}
+use Rattle.model.specs.Placing.{place_among}
+use Rattle.model.proofs.Shape.{place_ranged}
+use Rattle.corners.proofs.Views.{Scanning, place_seen, edge_seen, inside_seen, outside_seen, at_first, corner_found, corner_looked, at_end}
 use Rattle.corners.proofs.query.placed.Statement.{statement}
 use Rattle.corners.proofs.query.placed.Tie as tie
 
@@ -39,12 +39,12 @@ abbrev entry : tie.At-loop invariant-loop decreases-loop → tie.Start invariant
 entry c = (listed c).before.before
 
 ended : (c : tie.After-loop invariant-loop decreases-loop) →
-    place-seen (entry c.before).args.t1 (entry c.before).args.p c.before.loop.view ≡
+    place_seen (entry c.before).args.t1 (entry c.before).args.p c.before.loop.view ≡
     cond (ltb (entry c.before).args.t1.count 2) Placed.NoOutline
-    (place-among (entry c.before).args.t1 (entry c.before).args.p)
+    (place_among (entry c.before).args.t1 (entry c.before).args.p)
 ended c =
     let l = c.before in
-    at-end (entry l).args.t1 (entry l).args.p (listed l).corners-of.ensures l.loop.invariant c.loop-test.false
+    at_end (entry l).args.t1 (entry l).args.p (listed l).corners-of.ensures l.loop.invariant c.loop-test.false
     (listed l).before.if1.false
 
 returns : tie.Need-returns invariant-loop decreases-loop
@@ -66,14 +66,14 @@ returns-2 : tie.Need-returns-2 invariant-loop decreases-loop
 returns-2 c =
     let t = step c.before in
     let l = t.before in
-    corner-found (entry l).args.t1 (entry l).args.p (listed l).corners-of.ensures l.loop.inv t.loop-test.taken
+    corner_found (entry l).args.t1 (entry l).args.p (listed l).corners-of.ensures l.loop.inv t.loop-test.taken
     c.before.is_at.ensures c.if2.true (listed l).before.if1.left
 
 side-at-requires : tie.Need-side-at-requires invariant-loop decreases-loop
 unfolding point
 side-at-requires c κs =
     let s = entry (step (tested c.before.before.before.before.before)).before in
-    record { places = place-ranged s.pre.0; offered = s.pre.1 }
+    record { places = place_ranged s.pre.0; offered = s.pre.1 }
 
 viewed-requires : tie.Need-viewed-requires invariant-loop decreases-loop
 viewed-requires c κs =
@@ -81,38 +81,38 @@ viewed-requires c κs =
     omega (arith, t.before.loop.inv.few, t.loop-test.taken, (listed t.before).corners-of.ensures.fits)
 
 loop-again : tie.Need-loop-preserved invariant-loop decreases-loop
-unfolding next-corner edge-link
+unfolding next_corner edge_link
 loop-again c =
     let d = led c.before in
     let a = tested d in
     let t = step a in
     let l = t.before in
-    corner-looked (entry l).args.t1 (entry l).args.p (listed l).corners-of.ensures l.loop.inv t.loop-test.taken
-    a.is_at.ensures d.before.before.before.before.if2.left d.next-corner.ensures
-    c.before.side-at.ensures c.viewed.ensures
+    corner_looked (entry l).args.t1 (entry l).args.p (listed l).corners-of.ensures l.loop.inv t.loop-test.taken
+    a.is_at.ensures d.before.before.before.before.if2.left d.next_corner.ensures
+    c.before.side_at.ensures c.viewed.ensures
 
 returns-3 : tie.Need-returns-3 invariant-loop decreases-loop
-unfolding next-corner edge-link
+unfolding next_corner edge_link
 returns-3 c =
     let t = c.before.before.before.before in
     let s = entry t.before.before in
-    edge-seen s.args.t1 s.args.p t.before.before.loop.view t.if3.true
+    edge_seen s.args.t1 s.args.p t.before.before.loop.view t.if3.true
     c.next-corner2.ensures ∙ ended t.before
 
 returns-4 : tie.Need-returns-4 invariant-loop decreases-loop
 returns-4 c =
     let s = entry c.before.before.before in
-    inside-seen s.args.t1 s.args.p c.before.before.before.loop.view c.before.if3.false
+    inside_seen s.args.t1 s.args.p c.before.before.before.loop.view c.before.if3.false
     c.if4.true ∙ ended c.before.before
 
 returns-5 : tie.Need-returns-5 invariant-loop decreases-loop
 returns-5 c =
     let s = entry c.before.before.before in
-    outside-seen s.args.t1 s.args.p c.before.before.before.loop.view c.before.if3.false
+    outside_seen s.args.t1 s.args.p c.before.before.before.loop.view c.before.if3.false
     c.if4.false ∙ ended c.before.before
 
-pub placed-spec : {M : Type 1} → statement M
-placed-spec =
+pub placed_spec : {M : Type 1} → statement M
+placed_spec =
     tie.close
     (tie.spec
     invariant-loop

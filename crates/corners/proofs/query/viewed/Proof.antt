@@ -21,8 +21,8 @@ returns-4 c =
     let s = c.before.before.args in
     sym (ap (λ (side : Side). viewed s.view side s.a) c.enum-told4.given.1)
 
-pub viewed-spec : {M : Type 1} → statement M
-viewed-spec =
+pub viewed_spec : {M : Type 1} → statement M
+viewed_spec =
     tie.close
     (tie.spec
     (λ c. search rules)

@@ -8,11 +8,11 @@ use mir.Syntax.{w64}
 use mir.Val.{to_z, of_z}
 use mir.Facts.{to_z-of_z}
 use Rattle.model.specs.Spelling.{space, spelt}
-use Rattle.model.specs.Outlines.{point-text}
+use Rattle.model.specs.Outlines.{point_text}
 use Rattle.printing.specs.Writing.{Room}
-use Rattle.printing.proofs.Overwriting.{room-first, room-second, wrote_then}
-use Rattle.drawings.proofs.Parts.{front-room, back-room, both-written}
-use Rattle.drawings.proofs.Joined.{position-as}
+use Rattle.printing.proofs.Overwriting.{room_first, room_second, wrote_then}
+use Rattle.drawings.proofs.Parts.{front_room, back_room, both_written}
+use Rattle.drawings.proofs.Joined.{position_as}
 use Rattle.drawings.proofs.positions.put_position.Statement.{statement}
 use Rattle.drawings.proofs.positions.put_position.Tie as tie
 
@@ -24,27 +24,27 @@ module _ (c : tie.After-struct-told) where
   abbrev s : tie.Start
   s = c.before.before.before
 
-  text : point-text s.args.p ≡ number s.args.p.x ++ space ∷ number s.args.p.y
+  text : point_text s.args.p ≡ number s.args.p.x ++ space ∷ number s.args.p.y
   text =
       let told = c.struct_told.given in
-      position-as s.args.p (to_z-of_z (record { sfits = told.0.1 }))
+      position_as s.args.p (to_z-of_z (record { sfits = told.0.1 }))
       (to_z-of_z (record { sfits = told.1.0.1 }))
 
 put-number-requires : tie.Need-put-number-requires
 put-number-requires c κs =
-    front-room (number (s c).args.p.x) (space ∷ number (s c).args.p.y) (text c) (s c).requires
+    front_room (number (s c).args.p.x) (space ∷ number (s c).args.p.y) (text c) (s c).requires
 
 -- room after the first number
-rest-room : (c : tie.After-put-number) →
+rest_room : (c : tie.After-put-number) →
     Room c.put-number.new.0 c.put-number.result
     (space ∷ number (s c.before).args.p.y)
-rest-room c =
+rest_room c =
     let told = c.before in
-    back-room (number (s told).args.p.x) (space ∷ number (s told).args.p.y) (text told)
+    back_room (number (s told).args.p.x) (space ∷ number (s told).args.p.y) (text told)
     (s told).requires c.put-number.ensures
 
 put-byte-requires : tie.Need-put-byte-requires
-put-byte-requires c κs = room-first (space ∷ []) _ (rest-room c.before.before.before)
+put-byte-requires c κs = room_first (space ∷ []) _ (rest_room c.before.before.before)
 
 abbrev at-space : tie.After-struct-told2 → tie.After-put-byte
 at-space c = c.before.before.before.before
@@ -54,7 +54,7 @@ at-number c = c.before.before.before.before
 
 put-number-requires-2 : tie.Need-put-number-requires-2
 put-number-requires-2 c κs =
-    room-second (at-space c).put_byte.ensures _ (rest-room (at-number (at-space c)))
+    room_second (at-space c).put_byte.ensures _ (rest_room (at-number (at-space c)))
 
 returns : tie.Need-returns
 returns c =
@@ -62,12 +62,12 @@ returns c =
     let second = at-space last.before in
     let first = at-number second in
     let told = first.before in
-    both-written (number (s told).args.p.x) (space ∷ number (s told).args.p.y) (text told)
+    both_written (number (s told).args.p.x) (space ∷ number (s told).args.p.y) (text told)
     (s told).pre first.put-number.ensures
-    (wrote_then second.put_byte.ensures (rest-room first) last.put-number2.ensures)
+    (wrote_then second.put_byte.ensures (rest_room first) last.put-number2.ensures)
 
-pub put-position-spec : {M : Type 1} → statement M
-put-position-spec =
+pub put_position_spec : {M : Type 1} → statement M
+put_position_spec =
     tie.close
     (tie.spec
     put-number-requires

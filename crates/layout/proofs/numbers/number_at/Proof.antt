@@ -5,7 +5,7 @@ use native.Mathlib.Omega.{arith}
 use mir.Syntax.{w8}
 use mir.Val.{Fits}
 use lib.ListN.{get_or}
-use Rattle.layout.proofs.Loops.{NumberRead, no-byte-read, room, one-byte-read, all-bytes-read}
+use Rattle.layout.proofs.Loops.{NumberRead, no_byte_read, room, one_byte_read, all_bytes_read}
 use Rattle.layout.proofs.numbers.number_at.Statement.{statement}
 use Rattle.layout.proofs.numbers.number_at.Tie as tie
 
@@ -16,7 +16,7 @@ abbrev decreases-loop : tie.decreases-loop
 decreases-loop file at width number₀ i₀ number i = width - i
 
 loop-holds : tie.Need-loop-init invariant-loop decreases-loop
-loop-holds c = (no-byte-read _ _, omega arith)
+loop-holds c = (no_byte_read _ _, omega arith)
 
 mul-number : tie.Need-overflow-mul-number invariant-loop decreases-loop
 mul-number c = let s = c.before.loop in omega (arith, room s.invariant.0 (omega arith))
@@ -37,15 +37,15 @@ add-number-2 c =
 
 loop-again : tie.Need-loop-preserved invariant-loop decreases-loop
 loop-again c =
-    (one-byte-read c.before.before.loop.invariant.0 (omega (arith, byte c)), omega arith)
+    (one_byte_read c.before.before.loop.invariant.0 (omega (arith, byte c)), omega arith)
 
 returns : tie.Need-returns invariant-loop decreases-loop
 returns c =
     let s = c.before.loop in
-    all-bytes-read s.invariant.0 c.before.before.args.width (omega arith)
+    all_bytes_read s.invariant.0 c.before.before.args.width (omega arith)
 
-pub number-at-spec : {M : Type 1} → statement M
-number-at-spec =
+pub number_at_spec : {M : Type 1} → statement M
+number_at_spec =
     tie.close
     (tie.spec
     invariant-loop

@@ -28,5 +28,5 @@ returns-2 c =
     (back w64 tt (difference c.before)).is
     ∙ sym (signed_high c.before.args.number (omega arith) (omega arith))
 
-pub signed-spec : {M : Type 1} → statement M
-signed-spec = tie.close (tie.spec (λ c. search rules) (λ c. search rules) sub-result returns returns-2)
+pub signed_spec : {M : Type 1} → statement M
+signed_spec = tie.close (tie.spec (λ c. search rules) (λ c. search rules) sub-result returns returns-2)

@@ -2,16 +2,16 @@
 use borrow.Author.Rules.{rules}
 use mathlib.Core.Path.{sym, ap, ◌∙◌}
 use native.Mathlib.Omega.{arith}
-use Rattle.model.proofs.Answers.{number-most}
+use Rattle.model.proofs.Answers.{number_most}
 use Rattle.lines.specs.Packing.{SmallValues, packed}
-use Rattle.lines.proofs.Packed.{small-values}
+use Rattle.lines.proofs.Packed.{small_values}
 use Rattle.lines.proofs.packing.packed.Statement.{statement}
 use Rattle.lines.proofs.packing.packed.Tie as tie
 
 -- what an outside arrival reports is small
 small : (c : tie.After-arrival) →
     let v = c.arrival.given.0 in SmallValues v.0 v.1.0 v.1.1.0
-small c = small-values c.arrival.given.1 c.before.before.requires
+small c = small_values c.arrival.given.1 c.before.before.requires
 
 add-result : tie.Need-overflow-add-result
 add-result c = let s = small c.before in omega arith
@@ -36,7 +36,7 @@ cast-result-5 c =
     omega (
       arith,
       c.refusal-number.ensures,
-      number-most c.before.before.arrival2.given.0.0,
+      number_most c.before.before.arrival2.given.0.0,
     )
 
 returns : tie.Need-returns
@@ -59,8 +59,8 @@ returns-5 : tie.Need-returns-5
 unfolding packed
 returns-5 c = c.refusal-number.ensures ∙ sym (ap packed c.before.before.arrival2.given.1)
 
-pub packed-spec : {M : Type 1} → statement M
-packed-spec =
+pub packed_spec : {M : Type 1} → statement M
+packed_spec =
     tie.close
     (tie.spec
     (λ c. search rules)

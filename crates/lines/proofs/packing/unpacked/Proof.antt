@@ -9,7 +9,7 @@ use Rattle.lines.proofs.packing.unpacked.Tie as tie
 
 returns : tie.Need-returns
 unfolding unpacked
-returns c = rw (lt-ltb _ 11 c.before.if1.true) (ap Arrival.Refused c.refusal-of.ensures)
+returns c = rw (lt-ltb _ 11 c.before.if1.true) (ap Arrival.Refused c.refusal_of.ensures)
 
 returns-2 : tie.Need-returns-2
 unfolding unpacked
@@ -44,7 +44,7 @@ returns-5 c =
       ne_eqb _ 13 c.if4.false,
     )
 
-pub unpacked-spec : {M : Type 1} → statement M
-unpacked-spec =
+pub unpacked_spec : {M : Type 1} → statement M
+unpacked_spec =
     tie.close
     (tie.spec (λ c κs. search rules) returns returns-2 returns-3 returns-4 (λ c. search rules) returns-5)

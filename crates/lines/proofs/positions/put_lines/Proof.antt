@@ -3,8 +3,8 @@
 use borrow.Author.Rules.{rules}
 use Prim.Native.Nat.{◌-◌}
 use native.Mathlib.Omega.{arith}
-use Rattle.lines.specs.Lines.{line-count}
-use Rattle.lines.proofs.ReportLoops.{Putting, none-put, put_full, put-room, put_next, put_all}
+use Rattle.lines.specs.Lines.{line_count}
+use Rattle.lines.proofs.ReportLoops.{Putting, none_put, put_full, put_room, put_next, put_all}
 use Rattle.lines.proofs.positions.put_lines.Statement.{statement}
 use Rattle.lines.proofs.positions.put_lines.Tie as tie
 
@@ -16,7 +16,7 @@ abbrev decreases-loop : tie.decreases-loop
 decreases-loop lent₀ answers corners ends from count next₀ end₀ lent next end = count - next
 
 loop-holds : tie.Need-loop-init invariant-loop decreases-loop
-loop-holds c = none-put _ _ _ _ _
+loop-holds c = none_put _ _ _ _ _
 
 sub-if1 : tie.Need-overflow-sub-if1 invariant-loop decreases-loop
 sub-if1 c = let l = c.before.before in omega (arith, l.loop.invariant.inside, l.loop.invariant.long)
@@ -26,14 +26,14 @@ same_length c = c.before.before.before.loop.invariant.long
 
 returns : tie.Need-returns invariant-loop decreases-loop
 returns c =
-    put_full _ _ _ _ _ c.before.before.before.loop.invariant _ c.before.line-length.ensures
+    put_full _ _ _ _ _ c.before.before.before.loop.invariant _ c.before.line_length.ensures
     c.if1.true
 
 put-line-requires : tie.Need-put-line-requires invariant-loop decreases-loop
 put-line-requires c κs =
     let test = c.before in
-    put-room _ _ _ _ _ test.before.before.before.loop.invariant _
-    test.before.line-length.ensures test.if1.false
+    put_room _ _ _ _ _ test.before.before.before.loop.invariant _
+    test.before.line_length.ensures test.if1.false
 
 loop-again : tie.Need-loop-preserved invariant-loop decreases-loop
 loop-again c =
@@ -41,8 +41,8 @@ loop-again c =
     let test = call.before.before in
     let body = test.before.before in
     let l = body.before in
-    put_next _ _ _ _ _ l.loop.invariant _ test.before.line-length.ensures test.if1.false
-    (omega (arith, body.loop-test.true, l.before.line-count.ensures))
+    put_next _ _ _ _ _ l.loop.invariant _ test.before.line_length.ensures test.if1.false
+    (omega (arith, body.loop-test.true, l.before.line_count.ensures))
     call.put-line.ensures
 
 same-length-2 : tie.Need-same-length-2 invariant-loop decreases-loop
@@ -52,10 +52,10 @@ returns-2 : tie.Need-returns-2 invariant-loop decreases-loop
 returns-2 c =
     let l = c.before in
     put_all _ _ _ _ _ l.loop.invariant
-    (omega (arith, c.loop-test.false, l.before.line-count.ensures))
+    (omega (arith, c.loop-test.false, l.before.line_count.ensures))
 
-pub put-lines-spec : {M : Type 1} → statement M
-put-lines-spec =
+pub put_lines_spec : {M : Type 1} → statement M
+put_lines_spec =
     tie.close
     (tie.spec
     invariant-loop

@@ -12,8 +12,8 @@ returns c =
     to_z-of_z w64 c.signed.result (record { sfits = c.signed.type-inv })
     ∙ (c.signed.ensures ∙ ap signed c.before.number_at.ensures.0)
 
-pub coordinate-in-spec : {M : Type 1} → statement M
-coordinate-in-spec =
+pub coordinate_in_spec : {M : Type 1} → statement M
+coordinate_in_spec =
     tie.close
     (tie.spec
     (λ c. search rules)

@@ -3,20 +3,20 @@ use mathlib.Core.Bool.{Bool}
 use Prim.Native.Nat.{ℕ, ◌-◌, ◌≤◌}
 use native.Mathlib.Omega.{arith}
 use mir.Val.{bool_byte}
-use Rattle.orbits.specs.Sets.{dart-limit}
+use Rattle.orbits.specs.Sets.{dart_limit}
 use Rattle.orbits.specs.Links.{test_of}
 use Rattle.orbits.proofs.Counts.{byte_small}
-use Rattle.model.specs.Maps.{point-limit, own, point-link-by}
-use Rattle.finite.specs.Loops.{Filled, none_filled, all-filled}
-use Rattle.maps.proofs.Tables.{pair-filled}
+use Rattle.model.specs.Maps.{point_limit, own, point_link_by}
+use Rattle.finite.specs.Loops.{Filled, none_filled, all_filled}
+use Rattle.maps.proofs.Tables.{pair_filled}
 use Rattle.maps.proofs.arrays.put_point_links.Statement.{statement}
 use Rattle.maps.proofs.arrays.put_point_links.Tie as tie
 
 abbrev invariant-loop : tie.invariant-loop
-invariant-loop helpers links₀ k₀ links k = Filled (point-link-by (test_of helpers)) 0 dart-limit (own k) links
+invariant-loop helpers links₀ k₀ links k = Filled (point_link_by (test_of helpers)) 0 dart_limit (own k) links
 
 abbrev decreases-loop : tie.decreases-loop
-decreases-loop helpers links₀ k₀ links k = point-limit - k
+decreases-loop helpers links₀ k₀ links k = point_limit - k
 
 loop-holds : tie.Need-loop-init invariant-loop decreases-loop
 loop-holds c = none_filled c.requires
@@ -33,13 +33,13 @@ module _ (c : tie.After-helped invariant-loop decreases-loop) where
   small = byte_small (helped at-loop.loop.k)
 
 loop-again : tie.Need-loop-preserved invariant-loop decreases-loop
-loop-again c = let l = at-loop c in pair-filled (helped c) l.loop.k l.loop.inv (omega arith)
+loop-again c = let l = at-loop c in pair_filled (helped c) l.loop.k l.loop.inv (omega arith)
 
 returns : tie.Need-returns invariant-loop decreases-loop
-returns c = all-filled (own c.before.loop.k) c.before.loop.invariant (omega arith)
+returns c = all_filled (own c.before.loop.k) c.before.loop.invariant (omega arith)
 
-pub put-point-links-spec : {M : Type 1} → statement M
-put-point-links-spec =
+pub put_point_links_spec : {M : Type 1} → statement M
+put_point_links_spec =
     tie.close
     (tie.spec
     invariant-loop

@@ -9,8 +9,8 @@ use lib.IntN.{ℤ}
 use Rattle.model.specs.declared.Point.{Point}
 use Rattle.model.specs.Plane.{same_point}
 use Rattle.model.specs.Maps.{point_at}
-use Rattle.finite.specs.Loops.{Passed, Iteration, none_passed, one-passed, one-failed, all-passed}
-use Rattle.finite.specs.Loops.{below, not-twice}
+use Rattle.finite.specs.Loops.{Passed, Iteration, none_passed, one_passed, one_failed, all_passed}
+use Rattle.finite.specs.Loops.{below, not_twice}
 use Rattle.maps.proofs.places.is_new.Statement.{statement}
 use Rattle.maps.proofs.places.is_new.Tie as tie
 
@@ -30,25 +30,25 @@ module _ (c : tie.After-is-at invariant-loop decreases-loop) where
   abbrev at-loop : tie.At-loop invariant-loop decreases-loop
   at-loop = c.before.before
 
-  abbrev at-start : tie.Start invariant-loop decreases-loop
-  at-start = at-loop.before
+  abbrev at_start : tie.Start invariant-loop decreases-loop
+  at_start = at-loop.before
 
-  iteration : Iteration (here at-start.args.xs.now at-start.args.ys.now at-start.args.p) 0 at-loop.loop.j
+  iteration : Iteration (here at_start.args.xs.now at_start.args.ys.now at_start.args.p) 0 at-loop.loop.j
       (not c.is_at.result)
   iteration = record { passed = at-loop.loop.inv; found = ap not c.is_at.ensures }
 
 returns : tie.Need-returns invariant-loop decreases-loop
 returns c =
-    one-failed (iteration c.before) (below (at-start c.before).args.n _) (omega arith) (not-twice c.if1.true)
+    one_failed (iteration c.before) (below (at_start c.before).args.n _) (omega arith) (not_twice c.if1.true)
 
 loop-again : tie.Need-loop-preserved invariant-loop decreases-loop
-loop-again c = one-passed (iteration c.before) (not-twice c.if1.false)
+loop-again c = one_passed (iteration c.before) (not_twice c.if1.false)
 
 returns-2 : tie.Need-returns-2 invariant-loop decreases-loop
-returns-2 c = all-passed (below c.before.before.args.n _) c.before.loop.invariant (omega arith)
+returns-2 c = all_passed (below c.before.before.args.n _) c.before.loop.invariant (omega arith)
 
-pub is-new-spec : {M : Type 1} → statement M
-is-new-spec =
+pub is_new_spec : {M : Type 1} → statement M
+is_new_spec =
     tie.close
     (tie.spec
     invariant-loop

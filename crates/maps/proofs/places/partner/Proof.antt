@@ -7,5 +7,5 @@ use Rattle.maps.proofs.places.partner.Tie as tie
 returns : tie.Need-returns
 returns c = let s = c.before in get_d_any s.args.edge.now s.args.d 0 s.args.d s.requires
 
-pub partner-spec : {M : Type 1} → statement M
-partner-spec = tie.close (tie.spec (λ c. search rules) (λ c. search rules) returns)
+pub partner_spec : {M : Type 1} → statement M
+partner_spec = tie.close (tie.spec (λ c. search rules) (λ c. search rules) returns)

@@ -9,5 +9,5 @@ use Rattle.maps.proofs.reading.coordinate.Tie as tie
 returns-2 : tie.Need-returns-2
 returns-2 c = sym (get_or-eq_default c.before.args.coordinates.now (pos 0) c.if1.false)
 
-pub coordinate-spec : {M : Type 1} → statement M
-coordinate-spec = tie.close (tie.spec (λ c. search rules) (λ c. search rules) (λ c. search rules) returns-2)
+pub coordinate_spec : {M : Type 1} → statement M
+coordinate_spec = tie.close (tie.spec (λ c. search rules) (λ c. search rules) (λ c. search rules) returns-2)

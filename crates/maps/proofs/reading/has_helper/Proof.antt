@@ -9,5 +9,5 @@ use Rattle.maps.proofs.reading.has_helper.Tie as tie
 returns-2 : tie.Need-returns-2
 returns-2 c = sym (get_or-eq_default c.before.args.helpers.now false c.if1.false)
 
-pub has-helper-spec : {M : Type 1} → statement M
-has-helper-spec = tie.close (tie.spec (λ c. search rules) (λ c. search rules) returns-2)
+pub has_helper_spec : {M : Type 1} → statement M
+has_helper_spec = tie.close (tie.spec (λ c. search rules) (λ c. search rules) returns-2)

@@ -14,5 +14,5 @@ returns-2 c = let a = c.before.before.args.a in
     let past : get_or edge (own a) (own a) ≡ own a = get_or-eq_default edge (own a) (omega arith) in
     sym (ap (λ (d : ℕ). owner d) past ∙ omega arith)
 
-pub next-corner-spec : {M : Type 1} → statement M
-next-corner-spec = tie.close (tie.spec (λ c. search rules) (λ c κs. search rules) (λ c. search rules) returns-2)
+pub next_corner_spec : {M : Type 1} → statement M
+next_corner_spec = tie.close (tie.spec (λ c. search rules) (λ c κs. search rules) (λ c. search rules) returns-2)

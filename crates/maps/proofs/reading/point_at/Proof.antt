@@ -14,5 +14,5 @@ returns c =
     let y = to_z-of_z w64 second.result (record { sfits = second.type-inv }) ∙ second.ensures in
     λ i. record { x = x i; y = y i }
 
-pub point-at-spec : {M : Type 1} → statement M
-point-at-spec = tie.close (tie.spec (λ c κs. search rules) (λ c κs. search rules) returns)
+pub point_at_spec : {M : Type 1} → statement M
+point_at_spec = tie.close (tie.spec (λ c κs. search rules) (λ c κs. search rules) returns)

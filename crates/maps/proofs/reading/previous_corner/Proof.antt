@@ -14,6 +14,6 @@ returns-2 c = let a = c.before.before.args.a in
     let past : get_or edge (helper a) (helper a) ≡ helper a = get_or-eq_default edge (helper a) (omega arith) in
     sym (ap (λ (d : ℕ). owner d) past ∙ omega arith)
 
-pub previous-corner-spec : {M : Type 1} → statement M
-previous-corner-spec =
+pub previous_corner_spec : {M : Type 1} → statement M
+previous_corner_spec =
     tie.close (tie.spec (λ c. search rules) (λ c. search rules) (λ c κs. search rules) (λ c. search rules) returns-2)

@@ -6,7 +6,7 @@ use borrow.Author.Tests.{eq-eqb, ne_eqb}
 use lib.Dec.{T, eqb}
 use Rattle.finite.specs.Tests.{◌⇒◌, and_both}
 use Rattle.model.specs.declared.Point.{Point}
-use Rattle.model.specs.Plane.{in-range, beside}
+use Rattle.model.specs.Plane.{in_range, beside}
 use Rattle.model.specs.Maps.{point_at}
 use Rattle.maps.proofs.support.is_end_or_beside.Statement.{statement}
 use Rattle.maps.proofs.support.is_end_or_beside.Tie as tie
@@ -15,9 +15,9 @@ is-beside-requires : tie.Need-is-beside-requires
 is-beside-requires c κs =
     let s = c.before in
     let read = s.requires.0 in
-    let ra = subst (λ (p : Point). T (in-range p)) (sym read.from_is) (read.places s.args.a) in
-    let rb = subst (λ (p : Point). T (in-range p)) (sym read.to_is) (read.places s.args.b) in
-    let rc = subst (λ (p : Point). T (in-range p)) (sym c.point-held.ensures) (read.places s.args.c) in
+    let ra = subst (λ (p : Point). T (in_range p)) (sym read.from_is) (read.places s.args.a) in
+    let rb = subst (λ (p : Point). T (in_range p)) (sym read.to_is) (read.places s.args.b) in
+    let rc = subst (λ (p : Point). T (in_range p)) (sym c.point-held.ensures) (read.places s.args.c) in
     search and_both
 
 -- what the code found for the point
@@ -51,8 +51,8 @@ returns-3 c =
     let d = c.before in
     rw (ne_eqb _ _ c.if2.false) (fails _ _ (sym (found d.before) ∙ d.if1.false))
 
-pub is-end-or-beside-spec : {M : Type 1} → statement M
-is-end-or-beside-spec =
+pub is_end_or_beside_spec : {M : Type 1} → statement M
+is_end_or_beside_spec =
     tie.close
     (tie.spec
     (λ c κs. search rules)

@@ -12,8 +12,8 @@ returns-2 c = rw c.before.enum-told2.given.1 c.moved-by-edge.ensures
 returns-3 : tie.Need-returns-3
 returns-3 c = rw c.before.enum-told3.given.1 c.moved-by-point.ensures
 
-pub moved-spec : {M : Type 1} → statement M
-moved-spec =
+pub moved_spec : {M : Type 1} → statement M
+moved_spec =
     tie.close
     (tie.spec
     (λ c. search rules)

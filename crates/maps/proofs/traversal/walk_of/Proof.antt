@@ -3,13 +3,13 @@
 use borrow.Author.Rules.{rules}
 use mathlib.Core.Path.{◌≡◌, sym, ap, ◌∙◌}
 use lib.ListN.{length}
-use Rattle.finite.specs.Bounded.{length-table}
-use Rattle.orbits.specs.Links.{link-of}
+use Rattle.finite.specs.Bounded.{length_table}
+use Rattle.orbits.specs.Links.{link_of}
 use Rattle.orbits.specs.Walks.{walk}
 use Rattle.model.specs.declared.Map.{Map}
-use Rattle.model.specs.Maps.{point-limit, has-helper, is-present, edge-link, point-link}
+use Rattle.model.specs.Maps.{point_limit, has_helper, is_present, edge_link, point_link}
 use Rattle.model.specs.Reading.{darts}
-use Rattle.maps.proofs.Tables.{point-table}
+use Rattle.maps.proofs.Tables.{point_table}
 use Rattle.maps.proofs.traversal.walk_of.Statement.{statement}
 use Rattle.maps.proofs.traversal.walk_of.Tie as tie
 
@@ -24,30 +24,30 @@ module _ (c : tie.After-dart-count) where
   abbrev map : Map
   map = start.args.t1
 
-  helpers-whole : length map.helpers ≡ point-limit
-  helpers-whole = search rules
+  helpers_whole : length map.helpers ≡ point_limit
+  helpers_whole = search rules
 
-  leads : link-of filled.put-point-links.last.1.0 ≡ point-link map
-  unfolding point-link has-helper
-  leads = ap link-of filled.put-point-links.ensures ∙ point-table map helpers-whole
+  leads : link_of filled.put-point-links.last.1.0 ≡ point_link map
+  unfolding point_link has_helper
+  leads = ap link_of filled.put-point-links.ensures ∙ point_table map helpers_whole
 
-  darts-are : c.dart-count.result ≡ darts map
-  unfolding darts is-present has-helper
-  darts-are = c.dart-count.ensures
+  darts_are : c.dart-count.result ≡ darts map
+  unfolding darts is_present has_helper
+  darts_are = c.dart-count.ensures
 
 slice-aggregate-walk : tie.Need-slice-aggregate-walk
 slice-aggregate-walk c =
     let f = filled c.before.before.before.before in
-    sym (ap length f.put-point-links.ensures ∙ length-table _ _)
+    sym (ap length f.put-point-links.ensures ∙ length_table _ _)
 
 returns : tie.Need-returns
-unfolding edge-link
+unfolding edge_link
 returns c =
     let d = c.before.before.before.before.before in
-    c.walk.ensures ∙ (λ i. walk (edge-link (map d)) (leads d i) (darts-are d i) (start d).args.d)
+    c.walk.ensures ∙ (λ i. walk (edge_link (map d)) (leads d i) (darts_are d i) (start d).args.d)
 
-pub walk_of-spec : {M : Type 1} → statement M
-walk_of-spec =
+pub walk_of_spec : {M : Type 1} → statement M
+walk_of_spec =
     tie.close
     (tie.spec
     (λ c κs. search rules)

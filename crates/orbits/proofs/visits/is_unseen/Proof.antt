@@ -9,5 +9,5 @@ returns c = rw c.before.if1.true
 returns-2 : tie.Need-returns-2
 returns-2 c = rw c.if1.false
 
-pub is-unseen-spec : {M : Type 1} → statement M
-is-unseen-spec = tie.close (tie.spec (λ c. search rules) (λ c. search rules) returns returns-2)
+pub is_unseen_spec : {M : Type 1} → statement M
+is_unseen_spec = tie.close (tie.spec (λ c. search rules) (λ c. search rules) returns returns-2)

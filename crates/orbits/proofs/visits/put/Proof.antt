@@ -3,16 +3,16 @@
 use Prim.Native.Nat.{◌<◌}
 use native.Mathlib.Omega.{arith}
 use borrow.Author.Rules.{rules}
-use Rattle.orbits.specs.Sets.{dart-limit}
-use Rattle.orbits.proofs.Queue.{queue-room, put-old, put-new}
+use Rattle.orbits.specs.Sets.{dart_limit}
+use Rattle.orbits.proofs.Queue.{queue_room, put_old, put_new}
 use Rattle.orbits.proofs.visits.put.Statement.{statement}
 use Rattle.orbits.proofs.visits.put.Tie as tie
 
 returns : tie.Need-returns
-returns c = put-old c.before.before.requires.0 c.if1.true
+returns c = put_old c.before.before.requires.0 c.if1.true
 
-room : (c : tie.Else1) → c.before.before.args.end < dart-limit
-room c = queue-room c.before.before.requires.0 c.before.before.requires.1 c.if1.false
+room : (c : tie.Else1) → c.before.before.args.end < dart_limit
+room c = queue_room c.before.before.requires.0 c.before.before.requires.1 c.if1.false
 
 mul-order : tie.Need-overflow-mul-order
 mul-order c = omega (arith, room c)
@@ -24,7 +24,7 @@ add-result : tie.Need-overflow-add-result
 add-result c = omega (arith, room c)
 
 returns-2 : tie.Need-returns-2
-returns-2 c = put-new c.before.before.requires.0 c.before.before.requires.1 c.if1.false
+returns-2 c = put_new c.before.before.requires.0 c.before.before.requires.1 c.if1.false
 
 pub put_spec : {M : Type 1} → statement M
 put_spec =

@@ -3,14 +3,14 @@
 use mathlib.Core.Path.{◌≡◌, ◌∙◌}
 use Prim.Native.Nat.{◌≤◌, ◌-◌}
 use native.Mathlib.Omega.{arith}
-use Rattle.orbits.specs.Sets.{set-of}
+use Rattle.orbits.specs.Sets.{set_of}
 use Rattle.orbits.specs.Queue.{queued}
-use Rattle.orbits.proofs.Queue.{queued-none, queued-more}
+use Rattle.orbits.proofs.Queue.{queued_none, queued_more}
 use Rattle.orbits.proofs.visits.set_of.Statement.{statement}
 use Rattle.orbits.proofs.visits.set_of.Tie as tie
 
 abbrev invariant-loop : tie.invariant-loop
-invariant-loop order end darts₀ i₀ darts i = (i ≤ end) × (darts ≡ set-of (queued order i))
+invariant-loop order end darts₀ i₀ darts i = (i ≤ end) × (darts ≡ set_of (queued order i))
 
 abbrev decreases-loop : tie.decreases-loop
 decreases-loop order end darts₀ i₀ darts i = end - i
@@ -19,7 +19,7 @@ empty-requires : tie.Need-empty-requires invariant-loop decreases-loop
 empty-requires c κs = tt
 
 loop-holds : tie.Need-loop-init invariant-loop decreases-loop
-loop-holds c = (omega arith, c.empty.ensures ∙ queued-none c.before.args.order.now)
+loop-holds c = (omega arith, c.empty.ensures ∙ queued_none c.before.args.order.now)
 
 with-dart-requires : tie.Need-with-dart-requires invariant-loop decreases-loop
 with-dart-requires c κs = tt
@@ -28,8 +28,8 @@ loop-again : tie.Need-loop-preserved invariant-loop decreases-loop
 loop-again c =
     let l = c.before.before.before in
     let order = l.before.before.args.order.now in
-    let darts : l.loop.darts ≡ set-of (queued order l.loop.i) = l.loop.invariant.1 in
-    (omega arith, c.with-dart.ensures ∙ rw darts (queued-more order l.loop.i))
+    let darts : l.loop.darts ≡ set_of (queued order l.loop.i) = l.loop.invariant.1 in
+    (omega arith, c.with_dart.ensures ∙ rw darts (queued_more order l.loop.i))
 
 returns : tie.Need-returns invariant-loop decreases-loop
 returns c =
@@ -37,8 +37,8 @@ returns c =
     let last : l.loop.i ≡ l.before.before.args.end = omega arith in
     rw (← last) l.loop.invariant.1
 
-pub set-of-spec : {M : Type 1} → statement M
-set-of-spec =
+pub set_of_spec : {M : Type 1} → statement M
+set_of_spec =
     tie.close
     (tie.spec
     invariant-loop

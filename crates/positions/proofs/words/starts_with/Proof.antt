@@ -7,8 +7,8 @@ use mathlib.Core.List.{List}
 use Prim.Native.Nat.{ℕ, ◌-◌}
 use native.Mathlib.Omega.{arith}
 use lib.ListN.{length}
-use Rattle.finite.specs.Loops.{Passed, Iteration, none_passed, one-passed, one-failed, all-passed}
-use Rattle.positions.proofs.WordLaws.{same_at, starts-tests, too_short}
+use Rattle.finite.specs.Loops.{Passed, Iteration, none_passed, one_passed, one_failed, all_passed}
+use Rattle.positions.proofs.WordLaws.{same_at, starts_tests, too_short}
 use Rattle.positions.proofs.words.starts_with.Statement.{statement}
 use Rattle.positions.proofs.words.starts_with.Tie as tie
 
@@ -38,20 +38,20 @@ module _ (at-loop : tie.At-loop invariant-loop decreases-loop) where
 returns-2 : tie.Need-returns-2 invariant-loop decreases-loop
 returns-2 c =
     let at-loop = c.before.before.before.before in
-    one-failed (iteration at-loop) (starts-tests (word at-loop) (text at-loop) (omega arith)) (omega arith)
+    one_failed (iteration at-loop) (starts_tests (word at-loop) (text at-loop) (omega arith)) (omega arith)
     (ap not (ne_eqb _ _ c.if2.true))
 
 loop-again : tie.Need-loop-preserved invariant-loop decreases-loop
 loop-again c =
     let at-loop = c.before.before.before.before in
-    one-passed (iteration at-loop) (ap not (eq-eqb _ _ c.if2.false))
+    one_passed (iteration at-loop) (ap not (eq-eqb _ _ c.if2.false))
 
 returns-3 : tie.Need-returns-3 invariant-loop decreases-loop
 returns-3 c =
-    all-passed (starts-tests (word c.before) (text c.before) (omega arith)) c.before.loop.invariant (omega arith)
+    all_passed (starts_tests (word c.before) (text c.before) (omega arith)) c.before.loop.invariant (omega arith)
 
-pub starts-with-spec : {M : Type 1} → statement M
-starts-with-spec =
+pub starts_with_spec : {M : Type 1} → statement M
+starts_with_spec =
     tie.close
     (tie.spec
     invariant-loop

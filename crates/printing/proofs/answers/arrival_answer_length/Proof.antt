@@ -6,16 +6,16 @@ use native.Mathlib.Omega.{arith}
 use lib.ListN.{length}
 use Rattle.model.specs.declared.Arrival.{Arrival}
 use Rattle.model.specs.Spelling.{bytes}
-use Rattle.model.specs.Answers.{arrival-answer}
+use Rattle.model.specs.Answers.{arrival_answer}
 use Rattle.model.specs.Report.{printed, spaced}
-use Rattle.printing.specs.Printing.{answer-line}
-use Rattle.printing.proofs.Printed.{first-line, second-line, inside-line, outside-line, refused-arrival, line-length, arrival-most}
+use Rattle.printing.specs.Printing.{answer_line}
+use Rattle.printing.proofs.Printed.{first_line, second_line, inside_line, outside_line, refused_arrival, line_length, arrival_most}
 use borrow.Author.Rules.{rules}
 use Rattle.printing.proofs.answers.arrival_answer_length.Statement.{statement}
 use Rattle.printing.proofs.answers.arrival_answer_length.Tie as tie
 
 abbrev line : Arrival → List ℕ
-line a = printed (arrival-answer a)
+line a = printed (arrival_answer a)
 
 whole : (c : tie.After-values-length) → 8 + c.values_length.result ≡ length (line c.before.before.before.before.before.args.arrival)
 unfolding bytes
@@ -25,28 +25,28 @@ whole c =
     omega (
       arith,
       c.values_length.ensures,
-      ap length (ap line found.arrival.given.1 ∙ outside-line v.0 v.1.0 v.1.1.0),
-      line-length (bytes "outside") (v.0 ∷ v.1.0 ∷ v.1.1.0 ∷ []),
+      ap length (ap line found.arrival.given.1 ∙ outside_line v.0 v.1.0 v.1.1.0),
+      line_length (bytes "outside") (v.0 ∷ v.1.0 ∷ v.1.1.0 ∷ []),
     )
 
 add-result : tie.Need-overflow-add-result
 add-result c = omega (
   arith,
   whole c,
-  arrival-most c.before.before.before.before.before.args.arrival,
+  arrival_most c.before.before.before.before.before.args.arrival,
 )
 
 returns : tie.Need-returns
-unfolding answer-line bytes spaced
-returns c = sym (ap length (ap line c.enum_told.given.1 ∙ first-line))
+unfolding answer_line bytes spaced
+returns c = sym (ap length (ap line c.enum_told.given.1 ∙ first_line))
 
 returns-2 : tie.Need-returns-2
-unfolding answer-line bytes spaced
-returns-2 c = sym (ap length (ap line c.enum-told2.given.1 ∙ second-line))
+unfolding answer_line bytes spaced
+returns-2 c = sym (ap length (ap line c.enum-told2.given.1 ∙ second_line))
 
 returns-3 : tie.Need-returns-3
-unfolding answer-line bytes spaced
-returns-3 c = sym (ap length (ap line c.enum-told3.given.1 ∙ inside-line))
+unfolding answer_line bytes spaced
+returns-3 c = sym (ap length (ap line c.enum-told3.given.1 ∙ inside_line))
 
 returns-4 : tie.Need-returns-4
 returns-4 c = whole c
@@ -55,10 +55,10 @@ returns-5 : tie.Need-returns-5
 returns-5 c =
     let found = c.before.before in
     c.refused-length.ensures ∙ sym (ap length (ap line found.arrival2.given.1
-    ∙ refused-arrival found.arrival2.given.0.0))
+    ∙ refused_arrival found.arrival2.given.0.0))
 
-pub arrival-answer-length-spec : {M : Type 1} → statement M
-arrival-answer-length-spec =
+pub arrival_answer_length_spec : {M : Type 1} → statement M
+arrival_answer_length_spec =
     tie.close
     (tie.spec
     (λ c. search rules)

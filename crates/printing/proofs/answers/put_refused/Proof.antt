@@ -21,8 +21,8 @@ returns c =
     let begin = found.before.before in
     wrote_as (refused_as begin.args.refusal _ found.refusal-number.ensures) call.put-answer.ensures
 
-pub put-refused-spec : {M : Type 1} → statement M
-put-refused-spec =
+pub put_refused_spec : {M : Type 1} → statement M
+put_refused_spec =
     tie.close
     (tie.spec
     (λ c κs. search rules)

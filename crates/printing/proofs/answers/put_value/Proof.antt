@@ -11,5 +11,5 @@ returns c =
     let begin = call.before.before.before in
     wrote_then call.put_byte.ensures begin.requires last.put-natural.ensures
 
-pub put-value-spec : {M : Type 1} → statement M
-put-value-spec = tie.close (tie.spec (λ c κs. search rules) (λ c κs. search rules) (λ c. search rules) returns)
+pub put_value_spec : {M : Type 1} → statement M
+put_value_spec = tie.close (tie.spec (λ c κs. search rules) (λ c κs. search rules) (λ c. search rules) returns)

@@ -7,7 +7,7 @@ use lib.ListN.{length}
 use Rattle.model.specs.Spelling.{bytes}
 use Rattle.model.specs.Answers.{refused}
 use Rattle.model.specs.Report.{printed}
-use Rattle.printing.proofs.Printed.{refused_as, line-length, refused-most}
+use Rattle.printing.proofs.Printed.{refused_as, line_length, refused_most}
 use borrow.Author.Rules.{rules}
 use Rattle.printing.proofs.answers.refused_length.Statement.{statement}
 use Rattle.printing.proofs.answers.refused_length.Tie as tie
@@ -21,17 +21,17 @@ whole c =
       arith,
       c.values_length.ensures,
       ap length (refused_as found.before.args.refusal _ found.refusal-number.ensures),
-      line-length (bytes "refused") (found.refusal-number.result ∷ []),
+      line_length (bytes "refused") (found.refusal-number.result ∷ []),
     )
 
 add-result : tie.Need-overflow-add-result
-add-result c = omega (arith, whole c, refused-most c.before.before.before.args.refusal)
+add-result c = omega (arith, whole c, refused_most c.before.before.before.args.refusal)
 
 returns : tie.Need-returns
 returns c = whole c
 
-pub refused-length-spec : {M : Type 1} → statement M
-refused-length-spec =
+pub refused_length_spec : {M : Type 1} → statement M
+refused_length_spec =
     tie.close
     (tie.spec
     (λ c κs. search rules)

@@ -3,16 +3,16 @@
 use mathlib.Core.Path.{refl, ◌≡◌, ap, ◌∙◌}
 use Prim.Native.Nat.{◌+◌, ◌*◌, ◌-◌, ◌≤◌}
 use lib.ListN.{length-take, length, take}
-use Rattle.model.specs.Maps.{point-limit}
+use Rattle.model.specs.Maps.{point_limit}
 use Rattle.model.specs.Report.{spaced}
 use borrow.Author.Rules.{rules}
 use native.Mathlib.Omega.{arith}
-use Rattle.printing.proofs.Values.{printed-to, length_more, printed-all, spaced-length}
+use Rattle.printing.proofs.Values.{printed_to, length_more, printed_all, spaced_length}
 use Rattle.printing.proofs.answers.values_length.Statement.{statement}
 use Rattle.printing.proofs.answers.values_length.Tie as tie
 
 abbrev invariant-loop : tie.invariant-loop
-invariant-loop values total₀ i₀ i-end total i = (total ≡ length (printed-to values i)) × (i ≤ length
+invariant-loop values total₀ i₀ i-end total i = (total ≡ length (printed_to values i)) × (i ≤ length
     values)
 
 abbrev decreases-loop : tie.decreases-loop
@@ -25,7 +25,7 @@ loop-holds c = (refl, omega arith)
 -- the length with one more value, and how large it is
 next : (c : tie.After-natural-length invariant-loop decreases-loop) →
     let l = c.before.before.before in
-    l.loop.total + (1 + c.natural-length.result) ≡ length (printed-to l.before.before.args.values.now (l.loop.i + 1))
+    l.loop.total + (1 + c.natural-length.result) ≡ length (printed_to l.before.before.args.values.now (l.loop.i + 1))
 next c =
     let l = c.before.before.before in
     omega (
@@ -37,13 +37,13 @@ next c =
 
 few : (c : tie.After-natural-length invariant-loop decreases-loop) →
     let l = c.before.before.before in
-    length (printed-to l.before.before.args.values.now (l.loop.i + 1)) ≤ 21 * point-limit
+    length (printed_to l.before.before.args.values.now (l.loop.i + 1)) ≤ 21 * point_limit
 few c =
     let l = c.before.before.before in
     let values = l.before.before.args.values.now in
     omega (
       arith,
-      spaced-length (take (l.loop.i + 1) values),
+      spaced_length (take (l.loop.i + 1) values),
       length-take (l.loop.i + 1) values,
       l.before.before.requires,
     )
@@ -58,10 +58,10 @@ loop-again : tie.Need-loop-preserved invariant-loop decreases-loop
 loop-again c = (next c, omega arith)
 
 returns : tie.Need-returns invariant-loop decreases-loop
-returns c = c.before.loop.invariant.0 ∙ ap length (printed-all _ _ c.loop-test.false c.before.loop.invariant.1)
+returns c = c.before.loop.invariant.0 ∙ ap length (printed_all _ _ c.loop-test.false c.before.loop.invariant.1)
 
-pub values-length-spec : {M : Type 1} → statement M
-values-length-spec =
+pub values_length_spec : {M : Type 1} → statement M
+values_length_spec =
     tie.close
     (tie.spec
     invariant-loop

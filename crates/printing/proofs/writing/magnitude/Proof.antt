@@ -6,7 +6,7 @@ use native.Mathlib.Omega.{arith}
 use lib.IntN.{pos, nat_abs}
 use lib.Signed.{lt_z}
 use mir.Facts.{to_z-of_z}
-use Rattle.printing.proofs.Magnitudes.{sign_read, complement-fits, complement-read, complement-less, plain-cast}
+use Rattle.printing.proofs.Magnitudes.{sign_read, complement_fits, complement_read, complement_less, plain_cast}
 use Rattle.printing.proofs.writing.magnitude.Statement.{statement}
 use Rattle.printing.proofs.writing.magnitude.Tie as tie
 
@@ -17,29 +17,29 @@ plain : (c : tie.Else1) → lt_z c.before.args.z (pos 0) ≡ false
 plain c = sign_read c.before.ranges.z c.if1.false
 
 sub-result : tie.Need-overflow-sub-result
-sub-result c = complement-fits c.before.ranges.z (negative c)
+sub-result c = complement_fits c.before.ranges.z (negative c)
 
 cast-result : tie.Need-overflow-cast-result
 cast-result c =
-    rw (complement-read c.before.ranges.z (negative c))
-    (tt, record { fits = omega (arith, (complement-less c.before.ranges.z (negative c)).1) })
+    rw (complement_read c.before.ranges.z (negative c))
+    (tt, record { fits = omega (arith, (complement_less c.before.ranges.z (negative c)).1) })
 
 add-result : tie.Need-overflow-add-result
 add-result c =
-    rw (complement-read c.before.ranges.z (negative c))
-    (omega (arith, (complement-less c.before.ranges.z (negative c)).1))
+    rw (complement_read c.before.ranges.z (negative c))
+    (omega (arith, (complement_less c.before.ranges.z (negative c)).1))
 
 cast-result-2 : tie.Need-overflow-cast-result-2
-cast-result-2 c = rw (to_z-of_z c.before.ranges.z) (plain-cast c.before.args.z c.before.ranges.z (plain c))
+cast-result-2 c = rw (to_z-of_z c.before.ranges.z) (plain_cast c.before.args.z c.before.ranges.z (plain c))
 
 returns : tie.Need-returns
 returns c =
-    rw (complement-read c.before.ranges.z (negative c))
-    (omega (arith, (complement-less c.before.ranges.z (negative c)).0))
+    rw (complement_read c.before.ranges.z (negative c))
+    (omega (arith, (complement_less c.before.ranges.z (negative c)).0))
 
 returns-2 : tie.Need-returns-2
 returns-2 c = ap nat_abs (to_z-of_z c.before.ranges.z)
 
-pub magnitude-spec : {M : Type 1} → statement M
-magnitude-spec =
+pub magnitude_spec : {M : Type 1} → statement M
+magnitude_spec =
     tie.close (tie.spec sub-result cast-result add-result cast-result-2 returns returns-2)

@@ -6,7 +6,7 @@ use native.Mathlib.Omega.{arith}
 use lib.IntN.{pos}
 use lib.ListN.{length}
 use Rattle.model.specs.Spelling.{spelt}
-use Rattle.printing.proofs.Decimals.{spelt-length, length-one, length_more, length-between, length-four-less}
+use Rattle.printing.proofs.Decimals.{spelt_length, length_one, length_more, length_between, length_four_less}
 use Rattle.printing.proofs.writing.natural_length.Statement.{statement}
 use Rattle.printing.proofs.writing.natural_length.Tie as tie
 
@@ -18,47 +18,47 @@ abbrev decreases-loop : tie.decreases-loop
 decreases-loop n rest₀ count₀ rest count = rest
 
 returns : tie.Need-returns invariant-loop decreases-loop
-returns c = omega (arith, length-one c.before.args.n c.if1.true)
+returns c = omega (arith, length_one c.before.args.n c.if1.true)
 
 returns-2 : tie.Need-returns-2 invariant-loop decreases-loop
 returns-2 c =
-    omega (arith, length-between 1 c.before.before.args.n (omega arith) (omega arith) (omega arith))
+    omega (arith, length_between 1 c.before.before.args.n (omega arith) (omega arith) (omega arith))
 
 returns-3 : tie.Need-returns-3 invariant-loop decreases-loop
 returns-3 c =
-    omega (arith, length-between 2 c.before.before.before.args.n (omega arith) (omega arith) (omega arith))
+    omega (arith, length_between 2 c.before.before.before.args.n (omega arith) (omega arith) (omega arith))
 
 returns-4 : tie.Need-returns-4 invariant-loop decreases-loop
 returns-4 c =
     omega (
       arith,
-      length-between 3 c.before.before.before.before.args.n (omega arith) (omega arith) (omega arith),
+      length_between 3 c.before.before.before.before.args.n (omega arith) (omega arith) (omega arith),
     )
 
 returns-5 : tie.Need-returns-5 invariant-loop decreases-loop
 returns-5 c =
     omega (
       arith,
-      length-between 4 c.before.before.before.before.before.args.n (omega arith) (omega arith) (omega arith),
+      length_between 4 c.before.before.before.before.before.args.n (omega arith) (omega arith) (omega arith),
     )
 
 loop-holds : tie.Need-loop-init invariant-loop decreases-loop
 loop-holds c =
     let n = c.before.before.before.before.before.args.n in
-    (omega (arith, length-four-less n (omega arith) (omega arith)), omega arith)
+    (omega (arith, length_four_less n (omega arith) (omega arith)), omega arith)
 
 add-count : tie.Need-overflow-add-count invariant-loop decreases-loop
-add-count c = omega (arith, spelt-length c.before.before.before.before.before.before.before.args.n)
+add-count c = omega (arith, spelt_length c.before.before.before.before.before.before.before.args.n)
 
 loop-again : tie.Need-loop-preserved invariant-loop decreases-loop
 loop-again c =
     (omega (arith, length_more c.before.loop.rest c.loop-test.true (omega arith)), omega arith)
 
 returns-6 : tie.Need-returns-6 invariant-loop decreases-loop
-returns-6 c = omega (arith, length-one c.before.loop.rest c.loop-test.false)
+returns-6 c = omega (arith, length_one c.before.loop.rest c.loop-test.false)
 
-pub natural-length-spec : {M : Type 1} → statement M
-natural-length-spec =
+pub natural_length_spec : {M : Type 1} → statement M
+natural_length_spec =
     tie.close
     (tie.spec
     invariant-loop

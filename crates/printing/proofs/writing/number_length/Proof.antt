@@ -1,10 +1,10 @@
 -- `printing::writing::number_length` meets its contract: a negative number has a minus before its
 -- digits.
-use Rattle.printing.proofs.Magnitudes.{signed-spelling, plain-spelling}
+use Rattle.printing.proofs.Magnitudes.{signed_spelling, plain_spelling}
 use mathlib.Core.Path.{sym, ap, ◌∙◌}
 use native.Mathlib.Omega.{arith}
 use lib.ListN.{length}
-use Rattle.printing.proofs.Decimals.{spelt-length}
+use Rattle.printing.proofs.Decimals.{spelt_length}
 use borrow.Author.Rules.{rules}
 use Rattle.printing.proofs.writing.number_length.Statement.{statement}
 use Rattle.printing.proofs.writing.number_length.Tie as tie
@@ -13,7 +13,7 @@ add-result : tie.Need-overflow-add-result
 add-result c = omega (
   arith,
   c.natural-length.ensures,
-  spelt-length c.before.magnitude.result,
+  spelt_length c.before.magnitude.result,
 )
 
 returns : tie.Need-returns
@@ -22,18 +22,18 @@ returns c =
     omega (
       arith,
       c.natural-length.ensures,
-      ap length (signed-spelling sign.before.ranges.z c.before.magnitude.ensures sign.if1.true),
+      ap length (signed_spelling sign.before.ranges.z c.before.magnitude.ensures sign.if1.true),
     )
 
 returns-2 : tie.Need-returns-2
 returns-2 c =
     let sign = c.before.before in
     c.natural-length2.ensures
-    ∙ sym (ap length (plain-spelling sign.before.ranges.z c.before.magnitude2.ensures
+    ∙ sym (ap length (plain_spelling sign.before.ranges.z c.before.magnitude2.ensures
     sign.if1.false))
 
-pub number-length-spec : {M : Type 1} → statement M
-number-length-spec =
+pub number_length_spec : {M : Type 1} → statement M
+number_length_spec =
     tie.close
     (tie.spec
     (λ c κs. search rules)

@@ -5,7 +5,7 @@ use mathlib.Core.Path.{ap, ◌∙◌}
 use Prim.Native.Nat.{ℕ, ◌+◌, ◌<◌}
 use lib.ListN.{length, length-set}
 use borrow.Author.Rules.{rules}
-use Rattle.printing.proofs.Decimals.{spelt-some, Backwards, backwards-none, backwards-long, backwards-inside, backwards-some, backwards-more, backwards-all}
+use Rattle.printing.proofs.Decimals.{spelt_some, Backwards, backwards_none, backwards_long, backwards_inside, backwards_some, backwards_more, backwards_all}
 use Rattle.printing.proofs.writing.put_natural.Statement.{statement}
 use Rattle.printing.proofs.writing.put_natural.Tie as tie
 
@@ -20,12 +20,12 @@ add-end c = omega (arith, c.natural-length.ensures, c.before.before.requires.roo
 
 sub-place : tie.Need-overflow-sub-place invariant-loop decreases-loop
 sub-place c =
-    omega (arith, c.natural-length.ensures, spelt-some c.before.before.args.n (omega arith))
+    omega (arith, c.natural-length.ensures, spelt_some c.before.before.args.n (omega arith))
 
 loop-holds : tie.Need-loop-init invariant-loop decreases-loop
 loop-holds c =
     let begin = c.before.before in
-    backwards-none begin.requires (omega arith)
+    backwards_none begin.requires (omega arith)
     (ap (λ (k : ℕ). begin.args.at + k) c.natural-length.ensures)
 
 -- at the head of the loop
@@ -34,7 +34,7 @@ module _ (c : tie.At-loop invariant-loop decreases-loop) where
   begin = c.before.before.before
 
   inside : c.loop.place < length c.loop.lent
-  inside = backwards-inside begin.pre (omega arith) c.loop.invariant
+  inside = backwards_inside begin.pre (omega arith) c.loop.invariant
 
 slice-write-lent : tie.Need-slice-write-lent invariant-loop decreases-loop
 slice-write-lent c = inside c.before.before
@@ -42,13 +42,13 @@ slice-write-lent c = inside c.before.before
 sub-place-2 : tie.Need-overflow-sub-place-2 invariant-loop decreases-loop
 sub-place-2 c =
     let at-loop = c.before.before in
-    backwards-some (begin at-loop).requires (omega arith) at-loop.loop.invariant
+    backwards_some (begin at-loop).requires (omega arith) at-loop.loop.invariant
     c.before.loop-test.true
 
 loop-again : tie.Need-loop-preserved invariant-loop decreases-loop
 loop-again c =
     let at-loop = c.before.before in
-    backwards-more (begin at-loop).requires (omega arith) at-loop.loop.invariant
+    backwards_more (begin at-loop).requires (omega arith) at-loop.loop.invariant
     c.before.loop-test.true c.digit.ensures
 
 slice-write-lent-2 : tie.Need-slice-write-lent-2 invariant-loop decreases-loop
@@ -58,16 +58,16 @@ same_length : tie.Need-same-length invariant-loop decreases-loop
 same_length c =
     let at-loop = c.before.before in
     length-set at-loop.loop.lent at-loop.loop.place c.digit2.result
-    ∙ backwards-long (begin at-loop).requires (omega arith) at-loop.loop.invariant
+    ∙ backwards_long (begin at-loop).requires (omega arith) at-loop.loop.invariant
 
 returns : tie.Need-returns invariant-loop decreases-loop
 returns c =
     let at-loop = c.before.before in
-    backwards-all (begin at-loop).requires (omega arith) at-loop.loop.invariant
+    backwards_all (begin at-loop).requires (omega arith) at-loop.loop.invariant
     c.before.loop-test.false c.digit2.ensures
 
-pub put-natural-spec : {M : Type 1} → statement M
-put-natural-spec =
+pub put_natural_spec : {M : Type 1} → statement M
+put_natural_spec =
     tie.close
     (tie.spec
     invariant-loop

@@ -5,8 +5,8 @@ use mathlib.Core.Path.{refl}
 use Prim.Native.Nat.{◌-◌, ◌+◌, ◌<◌}
 use native.Mathlib.Omega.{arith}
 use lib.ListN.{length}
-use Rattle.finite.specs.Overwriting.{Copied, none-copied, one-copied}
-use Rattle.printing.proofs.Overwriting.{wrote-word}
+use Rattle.finite.specs.Overwriting.{Copied, none_copied, one_copied}
+use Rattle.printing.proofs.Overwriting.{wrote_word}
 use Rattle.printing.proofs.writing.put_word.Statement.{statement}
 use Rattle.printing.proofs.writing.put_word.Tie as tie
 
@@ -17,7 +17,7 @@ abbrev decreases-loop : tie.decreases-loop
 decreases-loop lent₀ at word i₀ i-end lent i = length word - i
 
 loop-holds : tie.Need-loop-init invariant-loop decreases-loop
-loop-holds c = none-copied
+loop-holds c = none_copied
 
 below_end : (c : tie.In-loop invariant-loop decreases-loop) →
     c.before.before.args.at + c.before.loop.i < length c.before.loop.lent
@@ -32,7 +32,7 @@ slice-write-lent c = below_end c.before
 loop-again : tie.Need-loop-preserved invariant-loop decreases-loop
 loop-again c =
     let in-loop = c.before in
-    one-copied in-loop.before.loop.invariant 0 refl in-loop.loop-test.true
+    one_copied in-loop.before.loop.invariant 0 refl in-loop.loop-test.true
     (omega (arith, in-loop.before.before.requires.room))
 
 add-result : tie.Need-overflow-add-result invariant-loop decreases-loop
@@ -42,10 +42,10 @@ same_length : tie.Need-same-length invariant-loop decreases-loop
 same_length c = c.before.loop.invariant.long
 
 returns : tie.Need-returns invariant-loop decreases-loop
-returns c = wrote-word c.before.loop.invariant c.loop-test.false
+returns c = wrote_word c.before.loop.invariant c.loop-test.false
 
-pub put-word-spec : {M : Type 1} → statement M
-put-word-spec =
+pub put_word_spec : {M : Type 1} → statement M
+put_word_spec =
     tie.close
     (tie.spec
     invariant-loop

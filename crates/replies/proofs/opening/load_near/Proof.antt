@@ -2,8 +2,8 @@
 -- at.
 use mathlib.Core.Path.{sym, ap, ◌∙◌}
 use mathlib.Core.Bool.{not}
-use Rattle.model.specs.Plane.{in-range}
-use Rattle.replies.proofs.OpenedFiles.{loads, refused-already, served-further, refused-further}
+use Rattle.model.specs.Plane.{in_range}
+use Rattle.replies.proofs.OpenedFiles.{loads, refused_already, served_further, refused_further}
 use borrow.Author.Rules.{rules}
 use Rattle.replies.proofs.opening.load_near.Statement.{statement}
 use Rattle.replies.proofs.opening.load_near.Tie as tie
@@ -12,24 +12,24 @@ returns : tie.Need-returns
 returns c =
     let m = c.before.before in
     let l = m.before.before in
-    served-further (loads l.load.ensures) _ m.enum_told.given.1
-    (ap not (sym c.before.in-range.ensures ∙ c.if1.true))
+    served_further (loads l.load.ensures) _ m.enum_told.given.1
+    (ap not (sym c.before.in_range.ensures ∙ c.if1.true))
 
 returns-2 : tie.Need-returns-2
 returns-2 c =
     let l = c.before.before.before in
-    refused-already (loads l.load.ensures) _ c.before.outcome.given.1
+    refused_already (loads l.load.ensures) _ c.before.outcome.given.1
 
 returns-3 : tie.Need-returns-3
 returns-3 c =
     let d = c.before in
     let m = d.before.before in
     let l = m.before.before in
-    refused-further (loads l.load.ensures) _ m.enum_told.given.1 _
-    (ap not (sym d.before.in-range.ensures ∙ d.if1.false))
+    refused_further (loads l.load.ensures) _ m.enum_told.given.1 _
+    (ap not (sym d.before.in_range.ensures ∙ d.if1.false))
 
-pub load-near-spec : {M : Type 1} → statement M
-load-near-spec =
+pub load_near_spec : {M : Type 1} → statement M
+load_near_spec =
     tie.close
     (tie.spec
     (λ c κs. search rules)

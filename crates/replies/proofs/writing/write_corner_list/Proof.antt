@@ -7,7 +7,7 @@ use native.Mathlib.Omega.{arith}
 use lib.ListN.{length, set}
 use Rattle.finite.specs.Overwriting.{over}
 use Rattle.model.specs.Outline.{corners}
-use Rattle.replies.proofs.Serving.{first_short, second_short, both-room, room-serves, stored}
+use Rattle.replies.proofs.Serving.{first_short, second_short, both_room, room_serves, stored}
 use borrow.Author.Rules.{rules}
 use Rattle.replies.proofs.writing.write_corner_list.Statement.{statement}
 use Rattle.replies.proofs.writing.write_corner_list.Tie as tie
@@ -32,14 +32,14 @@ returns-3 c =
     let s = d.before.before.before.before.args in
     let lists = d.before.corners-of.ensures in
     let count = length (corners s.map) in
-    both-room (corners s.map) (count ∷ []) _ s.count.now refl
+    both_room (corners s.map) (count ∷ []) _ s.count.now refl
     (omega (arith, lists.number, d.if1.false)) e.if2.false
     (w.write-corners.ensures ∙ ap (λ (l : List ℕ). over l s.out.now) lists.members)
     (ap (λ (n : ℕ). set s.count.now 0 n) lists.number
-    ∙ (room-serves e.if2.false (stored (count ∷ []) s.count.now e.if2.false)).1)
+    ∙ (room_serves e.if2.false (stored (count ∷ []) s.count.now e.if2.false)).1)
 
-pub write-corner-list-spec : {M : Type 1} → statement M
-write-corner-list-spec =
+pub write_corner_list_spec : {M : Type 1} → statement M
+write_corner_list_spec =
     tie.close
     (tie.spec
     (λ c κs. search rules)

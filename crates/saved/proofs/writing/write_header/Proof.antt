@@ -4,23 +4,23 @@ use mathlib.Core.Path.{refl, ap, ◌∙◌}
 use mathlib.Core.List.{List, ◌++◌}
 use Prim.Native.Nat.{ℕ, ◌-◌}
 use native.Mathlib.Omega.{arith}
-use Rattle.model.specs.Saved.{big_endian, version-place, count-place, reference-place}
+use Rattle.model.specs.Saved.{big_endian, version_place, count_place, reference_place}
 use Rattle.model.specs.Saved.{following, header}
 use Rattle.finite.specs.Overwriting.{over}
-use Rattle.layout.proofs.Blocks.{piece-written}
+use Rattle.layout.proofs.Blocks.{piece_written}
 use borrow.Author.Rules.{rules}
 use Rattle.saved.proofs.writing.write_header.Statement.{statement}
 use Rattle.saved.proofs.writing.write_header.Tie as tie
 
 -- the first numbers of the header
-abbrev first-1 : ℕ → ℕ → List ℕ
-first-1 v n = big_endian 4 (following v n)
+abbrev first_1 : ℕ → ℕ → List ℕ
+first_1 v n = big_endian 4 (following v n)
 
-abbrev first-2 : ℕ → ℕ → List ℕ
-first-2 v n = first-1 v n ++ big_endian 1 v
+abbrev first_2 : ℕ → ℕ → List ℕ
+first_2 v n = first_1 v n ++ big_endian 1 v
 
-abbrev first-3 : ℕ → ℕ → List ℕ
-first-3 v n = first-2 v n ++ big_endian 2 n
+abbrev first_3 : ℕ → ℕ → List ℕ
+first_3 v n = first_2 v n ++ big_endian 2 n
 
 returns : tie.Need-returns
 unfolding big_endian header
@@ -35,19 +35,19 @@ returns c =
     let before = s.lent.now in
     let after-1 =
     c_1.put-number.ensures
-    ∙ ap (λ (l : ℕ). over (big_endian 4 (l - version-place)) before)
-    c_1.before.before.saved-length.ensures in
+    ∙ ap (λ (l : ℕ). over (big_endian 4 (l - version_place)) before)
+    c_1.before.before.saved_length.ensures in
     let after-2 =
-    piece-written (first-1 v n) (big_endian 1 v) before version-place _ _ after-1 refl
+    piece_written (first_1 v n) (big_endian 1 v) before version_place _ _ after-1 refl
     (omega arith) c_2.put-number2.ensures in
     let after-3 =
-    piece-written (first-2 v n) (big_endian 2 n) before count-place _ _ after-2 refl
+    piece_written (first_2 v n) (big_endian 2 n) before count_place _ _ after-2 refl
     (omega arith) c_3.put-number3.ensures in
-    piece-written (first-3 v n) (big_endian 2 s.reference) before reference-place _ _ after-3 refl
+    piece_written (first_3 v n) (big_endian 2 s.reference) before reference_place _ _ after-3 refl
     (omega arith) c_4.put-number4.ensures
 
-pub write-header-spec : {M : Type 1} → statement M
-write-header-spec =
+pub write_header_spec : {M : Type 1} → statement M
+write_header_spec =
     tie.close
     (tie.spec
     (λ c κs. search rules)

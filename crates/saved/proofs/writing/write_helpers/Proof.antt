@@ -3,32 +3,32 @@
 use borrow.Author.Rules.{rules}
 use Prim.Native.Nat.{◌-◌}
 use native.Mathlib.Omega.{arith}
-use Rattle.saved.specs.Fields.{helper-field}
-use Rattle.layout.proofs.Loops.{BlockPut, no-field-put, one-field-put, all-fields-put}
+use Rattle.saved.specs.Fields.{helper_field}
+use Rattle.layout.proofs.Loops.{BlockPut, no_field_put, one_field_put, all_fields_put}
 use Rattle.saved.proofs.writing.write_helpers.Statement.{statement}
 use Rattle.saved.proofs.writing.write_helpers.Tie as tie
 
 abbrev invariant-loop : tie.invariant-loop
-invariant-loop helpers count lent₀ k₀ lent k = BlockPut (helper-field helpers) 1 count lent₀ k lent
+invariant-loop helpers count lent₀ k₀ lent k = BlockPut (helper_field helpers) 1 count lent₀ k lent
 
 abbrev decreases-loop : tie.decreases-loop
 decreases-loop helpers count lent₀ k₀ lent k = count - k
 
 loop-holds : tie.Need-loop-init invariant-loop decreases-loop
-loop-holds c = no-field-put
+loop-holds c = no_field_put
 
 loop-again : tie.Need-loop-preserved invariant-loop decreases-loop
 loop-again c =
     let s = c.before.before.before.before.before.before.loop in
     let p = c.before.before in
-    one-field-put s.invariant (omega arith) (omega arith) (omega arith)
-    p.before.before.helper-field.ensures p.put-number.ensures
+    one_field_put s.invariant (omega arith) (omega arith) (omega arith)
+    p.before.before.helper_field.ensures p.put-number.ensures
 
 returns : tie.Need-returns invariant-loop decreases-loop
-returns c = all-fields-put c.before.loop.invariant (omega arith)
+returns c = all_fields_put c.before.loop.invariant (omega arith)
 
-pub write-helpers-spec : {M : Type 1} → statement M
-write-helpers-spec =
+pub write_helpers_spec : {M : Type 1} → statement M
+write_helpers_spec =
     tie.close
     (tie.spec
     invariant-loop

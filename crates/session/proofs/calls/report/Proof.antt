@@ -1,6 +1,6 @@
 -- `session::calls::report` is safe: the length that is answered lies within the lent list.
 use borrow.Author.Rules.{rules}
-use Rattle.engine.proofs.Entries.{written-within}
+use Rattle.engine.proofs.Entries.{written_within}
 use Rattle.session.proofs.Lengths.{first_part}
 use Rattle.session.proofs.calls.report.Statement.{statement}
 use Rattle.session.proofs.calls.report.Tie as tie
@@ -8,13 +8,13 @@ use Rattle.session.proofs.calls.report.Tie as tie
 slice-reshare-prefix-say : tie.Need-slice-reshare-prefix-say
 slice-reshare-prefix-say c =
     let arm = c.before.before.before.before in
-    written-within arm.before.before.before.before.report.ensures arm.written.given.1
+    written_within arm.before.before.before.before.report.ensures arm.written.given.1
 
 slice-aggregate-say-2 : tie.Need-slice-aggregate-say-2
 slice-aggregate-say-2 c = first_part _ _ (slice-reshare-prefix-say c.before)
 
-pub report-spec : {M : Type 1} → statement M
-report-spec =
+pub report_spec : {M : Type 1} → statement M
+report_spec =
     tie.close
     (tie.spec
     (λ c. search rules)

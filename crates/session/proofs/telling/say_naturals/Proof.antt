@@ -11,8 +11,8 @@ invariant-loop values i₀ i-end i = i ≤ length values
 abbrev decreases-loop : tie.decreases-loop
 decreases-loop values i₀ i-end i = length values - i
 
-pub say-naturals-spec : {M : Type 1} → statement M
-say-naturals-spec =
+pub say_naturals_spec : {M : Type 1} → statement M
+say_naturals_spec =
     tie.close
     (tie.spec
     invariant-loop

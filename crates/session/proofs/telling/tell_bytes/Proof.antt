@@ -15,8 +15,8 @@ decreases-loop bytes i₀ t4 t5 i-end i = length bytes - i
 cast-print-hex : tie.Need-overflow-cast-print-hex invariant-loop decreases-loop
 cast-print-hex c = omega (arith, c.shared-slice-known2.given c.before.before.before.before.loop.i)
 
-pub tell-bytes-spec : {M : Type 1} → statement M
-tell-bytes-spec =
+pub tell_bytes_spec : {M : Type 1} → statement M
+tell_bytes_spec =
     tie.close
     (tie.spec
     invariant-loop

@@ -11,8 +11,8 @@ invariant-loop values i₀ t4 t5 i-end i = i ≤ length values
 abbrev decreases-loop : tie.decreases-loop
 decreases-loop values i₀ t4 t5 i-end i = length values - i
 
-pub tell-numbers-spec : {M : Type 1} → statement M
-tell-numbers-spec =
+pub tell_numbers_spec : {M : Type 1} → statement M
+tell_numbers_spec =
     tie.close
     (tie.spec
     invariant-loop

@@ -5,12 +5,12 @@ use mathlib.Core.Path.{◌≡◌, refl, sym, ◌∙◌}
 use Prim.Native.Nat.{◌-◌}
 use native.Mathlib.Omega.{arith}
 use lib.ListN.{length}
-use Rattle.survey.proofs.Separators.{first-place, place_here, place-later, place-past}
+use Rattle.survey.proofs.Separators.{first_place, place_here, place_later, place_past}
 use Rattle.survey.proofs.lines.place_of.Statement.{statement}
 use Rattle.survey.proofs.lines.place_of.Tie as tie
 
 abbrev invariant-loop : tie.invariant-loop
-invariant-loop list at b i₀ i = first-place b list i ≡ first-place b list at
+invariant-loop list at b i₀ i = first_place b list i ≡ first_place b list at
 
 abbrev decreases-loop : tie.decreases-loop
 decreases-loop list at b i₀ i = length list - i
@@ -28,16 +28,16 @@ loop-again : tie.Need-loop-preserved invariant-loop decreases-loop
 loop-again c =
     let l = c.before.before.before in
     let a = l.before.args in
-    place-later a.b a.list.now l.loop.i c.before.before.loop-test.true c.if1.false ∙ l.loop.invariant
+    place_later a.b a.list.now l.loop.i c.before.before.loop-test.true c.if1.false ∙ l.loop.invariant
 
 returns-2 : tie.Need-returns-2 invariant-loop decreases-loop
 returns-2 c =
     let l = c.before in
     let a = l.before.args in
-    sym (place-past a.b a.list.now l.loop.i c.loop-test.false) ∙ l.loop.invariant
+    sym (place_past a.b a.list.now l.loop.i c.loop-test.false) ∙ l.loop.invariant
 
-pub place-of-spec : {M : Type 1} → statement M
-place-of-spec =
+pub place_of_spec : {M : Type 1} → statement M
+place_of_spec =
     tie.close
     (tie.spec
     invariant-loop

@@ -7,36 +7,36 @@ use mir.Syntax.{w64}
 use mir.ValLaws.{to_z-of_z}
 use lib.ListN.{drop, length-drop}
 use Rattle.survey.specs.declared.numbers.Front.{Front}
-use Rattle.survey.specs.Numbers.{front-number}
-use Rattle.survey.proofs.Readings.{not-past, first-none, first-unspaced, space-there, first-spaced}
+use Rattle.survey.specs.Numbers.{front_number}
+use Rattle.survey.proofs.Readings.{not_past, first_none, first_unspaced, space_there, first_spaced}
 use Rattle.survey.proofs.lines.read_at.Statement.{statement}
 use Rattle.survey.proofs.lines.read_at.Tie as tie
 
 module _ (c : tie.After-first) where
-  abbrev at-start : tie.Start
-  at-start = c.before.before.before.before
+  abbrev at_start : tie.Start
+  at_start = c.before.before.before.before
 
   -- a number stands there
-  some : front-number (drop at-start.args.at at-start.args.text.now)
+  some : front_number (drop at_start.args.at at_start.args.text.now)
       ≡ Front.Value c.first.given.0.0 c.first.given.0.1.0
   some = sym c.before.before.Front-at.ensures ∙ c.first.given.1
 
 add-stop : tie.Need-overflow-add-stop
 add-stop c =
-    let a = (at-start c.before).args in
+    let a = (at_start c.before).args in
     omega (
       arith,
-      not-past a.text.now a.at (some c.before),
+      not_past a.text.now a.at (some c.before),
       length-drop a.at a.text.now,
     )
 
 add-read-second : tie.Need-overflow-add-read-second
 add-read-second c =
     let first = c.before.before.before in
-    let a = (at-start first).args in
+    let a = (at_start first).args in
     omega (
       arith,
-      space-there a.text.now a.at (some first)
+      space_there a.text.now a.at (some first)
           (sym c.before.byte_at.ensures ∙ c.if1.true),
     )
 
@@ -47,23 +47,23 @@ returns c =
     let z = told.before.first.given.0.0 in
     let kept = to_z-of_z w64 z (record { sfits = told.known-told.given.0.1 }) in
     let spaced = sym test.before.byte_at.ensures ∙ test.if1.true in
-    c.read-second.ensures ∙ rw kept (first-spaced _ _ (some told.before) spaced)
+    c.read-second.ensures ∙ rw kept (first_spaced _ _ (some told.before) spaced)
 
 returns-2 : tie.Need-returns-2
 returns-2 c =
     let test = c.before in
     c.refused-from.ensures
-    ∙ first-unspaced _ _ (some test.before.before.before)
+    ∙ first_unspaced _ _ (some test.before.before.before)
     (λ e. test.if1.false (test.before.byte_at.ensures ∙ e))
 
 returns-3 : tie.Need-returns-3
 returns-3 c =
     let call = c.before.before.before in
     c.refused-from2.ensures
-    ∙ first-none _ _ (sym call.Front-at.ensures ∙ c.before.enum_told.given.1)
+    ∙ first_none _ _ (sym call.Front-at.ensures ∙ c.before.enum_told.given.1)
 
-pub read-at-spec : {M : Type 1} → statement M
-read-at-spec =
+pub read_at_spec : {M : Type 1} → statement M
+read_at_spec =
     tie.close
     (tie.spec
     (λ c κs. search rules)

@@ -11,5 +11,5 @@ returns c = sym (rw (ne_eqb _ 48 c.if1.true))
 returns-2 : tie.Need-returns-2
 returns-2 c = sym (rw (eq-eqb _ 48 c.if1.false))
 
-pub has-no-leading-zero-spec : {M : Type 1} → statement M
-has-no-leading-zero-spec = tie.close (tie.spec returns returns-2)
+pub has_no_leading_zero_spec : {M : Type 1} → statement M
+has_no_leading_zero_spec = tie.close (tie.spec returns returns-2)

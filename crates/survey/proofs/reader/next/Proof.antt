@@ -182,8 +182,8 @@ module _ {M : Type 1} {𝓤 : Ura M} (𝓛 : Logic 𝓤)
       move ! (1 ∷ 0 ∷ []) $ fjoin ! $ done !
 
   -- what whoever holds the reader knows of its fields
-  at-fits : Is R d (mach ∷ []) → d.at < 2 ^ 64
-  at-fits g = (LL.owed D DL d _ g).1.0.1
+  at_fits : Is R d (mach ∷ []) → d.at < 2 ^ 64
+  at_fits g = (LL.owed D DL d _ g).1.0.1
 
   room : Is R d (mach ∷ []) → Room u8 (length d.text.now)
   room g = (LL.owed D DL d _ g).0.0.1
@@ -213,10 +213,10 @@ module _ {M : Type 1} {𝓤 : Ura M} (𝓛 : Logic 𝓤)
         (init ! 9 refl (tt, (tt, (record { fits = (room g).0 }, tt)))) $
         assigns ! (of_opd ! (load ! (from ! (hop ! (look ! 13 refl) (fld ! refl (stop !))))
         (look_in ! 0 (sub ! 1 refl (whole !))))) (from ! (stop !))
-        (init ! 7 refl (tt, record { fits = at-fits g })) $
+        (init ! 7 refl (tt, record { fits = at_fits g })) $
         -- `read_at`
         move ! (5 ∷ 1 ∷ []) $
-        use2 𝓛 (raw ((Callee 𝓛 at_mem run).pre to) ⊛ ‵ Own) (apart (at-fits g)) $ split ! $
+        use2 𝓛 (raw ((Callee 𝓛 at_mem run).pre to) ⊛ ‵ Own) (apart (at_fits g)) $ split ! $
         calls_at ! fm (Callee 𝓛 at_mem run) known to
         (and_then ! (load ! (from ! (stop !)) (look ! 9 refl))
         (and_then ! (load ! (from ! (stop !)) (look ! 7 refl)) (no_more !))) (λ u.
@@ -256,32 +256,32 @@ module _ {M : Type 1} {𝓤 : Ura M} (𝓛 : Logic 𝓤)
     (mem : Memory → SProp 𝓤) (run : Routine → Fun 𝓤) where
   open 𝓛 use {H}
 
-  next-walks : (C : Calls 𝓤 H) (Λ : Loops 𝓤 H) → FmC 𝓤 H 𝓛.laws C → Triple 𝓤 (C #read-at)
+  next_walks : (C : Calls 𝓤 H) (Λ : Loops 𝓤 H) → FmC 𝓤 H 𝓛.laws C → Triple 𝓤 (C #read-at)
       (Callee 𝓛 mem run)
       → Walks 𝓛 this.ended stayed (WpFn 𝓤 H C Λ code.function) (this.clauses 𝓛 mem run)
-  next-walks C Λ fm known = walked 𝓛 this.ended stayed (this.clauses 𝓛 mem run)
+  next_walks C Λ fm known = walked 𝓛 this.ended stayed (this.clauses 𝓛 mem run)
       (WpFn 𝓤 H C Λ code.function) (λ κs. (mut_vals, tt))
       (λ κs. (mut_Tells (named 0) κs.0 (T.the_row (named_lft 2 1 tt κs)), tt))
       (λ κs qs bounds a g are. via 𝓤 _ (fst∗ 𝓤 _ (emp 𝓤))
       (walk 𝓛 mem run κs.0 κs.1.0 bounds qs.0 qs.1.0 a.0.ptr.0
       a.0.ref_ptr.1 a.0.ghost_name a.0.now C Λ fm known))
 
-next-meets : {M : Type 1} {𝓤 : Ura M} (𝓛 : Logic 𝓤)
+next_meets : {M : Type 1} {𝓤 : Ura M} (𝓛 : Logic 𝓤)
     (mem : Memory → SProp 𝓤) (run : Routine → Fun 𝓤) (𝓣 : Tables 𝓤 𝓛.H)
     → Triple 𝓤 (𝓣.C #read-at) (Callee 𝓛 mem run)
     → Meets 𝓛 this.signature (WpFn 𝓤 𝓛.H 𝓣.C 𝓣.Λ code.function) (this.spec 𝓛 mem run)
-next-meets {𝓤 = 𝓤} 𝓛 mem run 𝓣 known = walk_Meets 𝓛 this.ended stayed
+next_meets {𝓤 = 𝓤} 𝓛 mem run 𝓣 known = walk_Meets 𝓛 this.ended stayed
     (Goes-ref 𝓛 2 0 tt behind, tt) (this.clauses 𝓛 mem run)
     (WpFn 𝓤 𝓛.H 𝓣.C 𝓣.Λ code.function) (WpFn-mono 𝓤 𝓛.H 𝓛.laws 𝓣 code.function)
-    (next-walks 𝓛 mem run 𝓣.C 𝓣.Λ (fm_of 𝓤 𝓛.H 𝓛.laws 𝓣) known)
+    (next_walks 𝓛 mem run 𝓣.C 𝓣.Λ (fm_of 𝓤 𝓛.H 𝓛.laws 𝓣) known)
 
-pub next-spec : {M : Type 1} → stated.statement M
+pub next_spec : {M : Type 1} → stated.statement M
 unfolding code.routine tables_of
-next-spec 𝓤 𝓛 𝓜 𝓡 =
+next_spec 𝓤 𝓛 𝓜 𝓡 =
     entered 𝓤 𝓛.H (triple_of 𝓛 this.signature (this.spec 𝓛 𝓜.mem 𝓡.run))
     (tables 𝓤 𝓛.H 𝓜 𝓡 code.env).C (tables 𝓤 𝓛.H 𝓜 𝓡 code.env).Λ #this code.function
     (code.unfolded 𝓤 𝓛.H 𝓜 𝓡)
-    (next-meets 𝓛 𝓜.mem 𝓡.run
+    (next_meets 𝓛 𝓜.mem 𝓡.run
     (tables_of 𝓤 𝓛.H 𝓜 (tables 𝓤 𝓛.H 𝓜 𝓡 code.env))
     (cited 𝓤 𝓛.H (Callee 𝓛 𝓜.mem 𝓡.run) 𝓜 𝓡 code.env #read-at step-def.routine
     code.calls-survey::lines::read-at (step_thm.met 𝓤 𝓛 𝓜 𝓡)))

@@ -1,4 +1,5 @@
 // Why a sound map refuses a point, asked of the map's coordinates: no map is copied for it.
+#![tactic(auto)]
 
 pub mod hashes;
 

@@ -1,4 +1,5 @@
 // Whether two lists hold the same, place by place.
+#![tactic(auto)]
 
 ghost use Rattle.std.specs.Prelude.{◌≡◌};
 ghost use Rattle.std.specs.Bool.{beq};

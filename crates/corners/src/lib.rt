@@ -1,5 +1,6 @@
 // What is read from the outline of a sound map: its corners in listing order, and where a query point
 // lies.
+#![tactic(auto)]
 
 pub mod listing;
 pub mod query;

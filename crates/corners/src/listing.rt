@@ -11,7 +11,7 @@ use model::{Map, POINT_LIMIT};
 use plane::lower::is_lower;
 
 // The corners of a map are the first `count` of `points`, in listing order.
-#[derive(Drop)]
+#[derive(Clone, Copy)]
 pub struct CornerList {
     pub points: [usize; POINT_LIMIT],
     pub count: usize,

@@ -16,7 +16,7 @@ use plane::{is_same, orientation_in_range};
 
 // How a point lies to an edge: strictly left of it, so that it is visible, in line and strictly
 // between its ends, or in line otherwise.
-#[derive(Drop)]
+#[derive(Clone, Copy)]
 pub enum Side {
     Left,
     Visible,
@@ -26,7 +26,7 @@ pub enum Side {
 
 // What is found of a point on the way round the corners: the start of the first edge between whose
 // ends it lies, if one is found; whether it lies left of all edges; and how many are visible.
-#[derive(Drop)]
+#[derive(Clone, Copy)]
 pub struct View {
     pub start: usize,
     pub found: bool,

@@ -1,6 +1,7 @@
 // What becomes of the lines of a text, one after another. One reader goes through the text. A
 // refused line asks the coordinates of the map, and an accepted point is written into the map's
 // arrays: no map is copied.
+#![tactic(auto)]
 
 ghost use Rattle.std.specs.Prelude.{◌≡◌};
 ghost use Rattle.model.specs.Maps.{map_lent, point_limit};
@@ -18,7 +19,7 @@ use survey::lines::{TEXT_LIMIT, at_end};
 use survey::reader::{Reader, next};
 
 // What becomes of a line: the point that it names and that is accepted, or why it is refused.
-#[derive(Drop)]
+#[derive(Clone, Copy)]
 pub enum Verdict {
     Taken(Point),
     Refused(Refusal),
@@ -26,7 +27,7 @@ pub enum Verdict {
 
 // What stands beside the arrays: how many points the map has, its reference dart, and how many
 // lines are decided.
-#[derive(Drop)]
+#[derive(Clone, Copy)]
 pub struct Tally {
     pub count: usize,
     pub reference: usize,

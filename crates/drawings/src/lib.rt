@@ -1,5 +1,6 @@
 // The outline of a map as text: how many bytes it takes, and the bytes, written into a lent list. A
 // caller asks for the length first, so that nothing is written before the room is known.
+#![tactic(auto)]
 
 pub mod positions;
 

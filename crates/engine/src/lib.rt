@@ -1,6 +1,7 @@
 // The engine's entry points: every call that takes a map checks it for itself, and then calls the inner
 // function that knows a sound map. No entry asks anything of its caller, and each promises its answer,
 // its number and values, and what every lent list holds, for every argument.
+#![tactic(auto)]
 
 mod checks;
 pub mod files;

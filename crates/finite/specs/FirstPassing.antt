@@ -3,6 +3,7 @@
 -- it fail; where no member passes, there is none and the default is given.
 use Rattle.std.specs.Prelude.{◌≡◌, refl, Bool, not, ◌||◌, List, [], ◌∷◌, ◌++◌, ℕ, T}
 use Rattle.std.proofs.Common.{ap, ⊎_elim, T_not}
+use Rattle.std.proofs.Math.Path.{sym, subst}
 use Rattle.std.proofs.Math.Dec.{not_T}
 use Rattle.finite.specs.Tests.{or_left, or_right, decide, is_true, is_false}
 use Rattle.finite.specs.Lists.{elem, any_in, first_in}
@@ -14,11 +15,14 @@ unfolding first_in elem
 first_found p d x [] m t = absurd m
 first_found p d x (y ∷ s) m t =
     ⊎_elim
-    (λ (u : T (p y)). rw (is_true (p y) u) (elem_head y s, u))
+    (λ (u : T (p y)).
+    let e : first_in p d (y ∷ s) ≡ y = rw (is_true (p y) u) in
+    subst (λ (z : ℕ). T (elem z (y ∷ s)) × T (p z)) (sym e) (elem_head y s, u))
     (λ (u : T (not (p y))).
     let r = first_found p d x s
     (⊎_elim (λ (e : x ≡ y). absurd (T_not (p y) u (rw e at t))) (λ l. l) (elem_cases x y s m)) t in
-    rw (is_false (p y) (T_not (p y) u)) (elem_tail (first_in p d s) y s r.0, r.1))
+    let e : first_in p d (y ∷ s) ≡ first_in p d s = rw (is_false (p y) (T_not (p y) u)) in
+    subst (λ (z : ℕ). T (elem z (y ∷ s)) × T (p z)) (sym e) (elem_tail (first_in p d s) y s r.0, r.1))
     (decide (p y))
 
 pub first_only : (p : ℕ → Bool) (d x : ℕ) (s : List ℕ) → T (elem x s) → T (p x) →

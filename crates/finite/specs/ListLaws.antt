@@ -77,7 +77,7 @@ unfolding elem
 elem_append_left x [] t h = absurd h
 elem_append_left x (y ∷ s) t h =
     ⊎_elim
-    (λ (e : x ≡ y). rw e (elem_head y (s ++ t)))
+    (λ (e : x ≡ y). subst (λ (z : ℕ). T (elem z (y ∷ (s ++ t)))) (sym e) (elem_head y (s ++ t)))
     (λ (m : T (elem x s)). elem_tail x y (s ++ t) (elem_append_left x s t m))
     (elem_cases x y s h)
 
@@ -126,7 +126,10 @@ elem_union x (y ∷ s) t h =
     ⊎_elim
     (λ (l : T (elem x s)). inl (elem_tail x y s l))
     (λ (r : T (elem x (insert y t))).
-    ⊎_elim (λ (e : x ≡ y). inl (rw e (elem_head y s))) (λ m. inr m) (elem_insert x y t r))
+    ⊎_elim
+    (λ (e : x ≡ y). inl (subst (λ (z : ℕ). T (elem z (y ∷ s))) (sym e) (elem_head y s)))
+    (λ m. inr m)
+    (elem_insert x y t r))
     (elem_union x s (insert y t) h)
 
 pub elem_union_right : (x : ℕ) (s t : List ℕ) → T (elem x t) → T (elem x (union s t))
@@ -139,7 +142,8 @@ unfolding union elem
 elem_union_left x [] t h = absurd h
 elem_union_left x (y ∷ s) t h =
     ⊎_elim
-    (λ (e : x ≡ y). rw e (elem_union_right y s (insert y t) (elem_inserted y t)))
+    (λ (e : x ≡ y).
+    subst (λ (z : ℕ). T (elem z (union (y ∷ s) t))) (sym e) (elem_union_right y s (insert y t) (elem_inserted y t)))
     (λ (m : T (elem x s)). elem_union_left x s (insert y t) m)
     (elem_cases x y s h)
 

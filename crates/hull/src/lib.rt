@@ -1,4 +1,5 @@
 // The arrival of a point in a map: why an offered point is refused, or how it arrives.
+#![tactic(auto)]
 
 ghost use Rattle.std.specs.Prelude.{◌≡◌, ◌+◌, ◌≤◌};
 ghost use Rattle.model.specs.Maps.{map_lent};
@@ -20,7 +21,7 @@ const SECOND: usize = 1;
 const INSIDE: usize = 2;
 
 // What an arrival leaves beside a map's arrays: how the point arrived, and the reference.
-#[derive(Drop)]
+#[derive(Clone, Copy)]
 pub struct Growth {
     pub arrival: Arrival,
     pub reference: usize,

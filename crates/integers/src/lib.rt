@@ -1,1 +1,2 @@
 // No code: the crate lives by its `specs/`.
+#![tactic(auto)]

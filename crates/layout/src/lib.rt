@@ -1,5 +1,6 @@
 // The layout of a saved map: numbers in bytes, the places where they stand, and whether a file is in
 // form. It is that of model/specs/Saved.
+#![tactic(auto)]
 
 ghost use Rattle.std.specs.Prelude.{◌≡◌, ◌+◌, ◌*◌, ◌≤◌, ◌<◌, leb, length};
 ghost use Rattle.finite.specs.Bounded.{all};

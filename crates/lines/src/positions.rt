@@ -16,7 +16,7 @@ use printing::writing::put_word;
 
 // How many lines the text has, whether it is too long to be read, and the counts of the map at its
 // end.
-#[derive(Drop)]
+#[derive(Clone, Copy)]
 pub struct Ends {
     pub lines: usize,
     pub long: bool,
@@ -24,7 +24,7 @@ pub struct Ends {
 }
 
 // The position after the last line that was written, and how many bytes were written.
-#[derive(Drop)]
+#[derive(Clone, Copy)]
 pub struct Piece {
     pub next: usize,
     pub length: usize,

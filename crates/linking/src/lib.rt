@@ -1,5 +1,6 @@
 // The arrays of a map after an arrival: how a point is put and what is noted of it, how links are cut and
 // made, and how the first two points and every later corner are linked.
+#![tactic(auto)]
 
 ghost use Rattle.std.specs.Prelude.{◌≡◌, true, ◌<◌, set};
 ghost use Rattle.orbits.specs.Sets.{dart_limit};

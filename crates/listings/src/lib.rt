@@ -1,4 +1,5 @@
 // Corners that some survey lists: read from a text, tested, and written as coordinates.
+#![tactic(auto)]
 
 ghost use Rattle.std.specs.Prelude.{◌≡◌, ◌&&◌, ℕ, ◌*◌, ◌≤◌, T, length};
 ghost use Rattle.finite.specs.Bounded.{table};
@@ -18,7 +19,7 @@ use polygons::{Corners, read_corners};
 use survey::lines::is_too_long;
 
 // The corners of a text that some survey would write: how many they are, or why the text is refused.
-#[derive(Drop)]
+#[derive(Clone, Copy)]
 pub enum Listing {
     Corners(usize),
     Refused(Refusal),

@@ -1,5 +1,6 @@
 // The map of a file: its points are offered anew, once, and what they build is written in the file's version and
 // compared with the file, byte by byte.
+#![tactic(auto)]
 
 mod reading;
 

@@ -1,4 +1,5 @@
 // Maps of darts: the empty map, and in modules what is read from a map.
+#![tactic(auto)]
 
 ghost use Rattle.std.specs.Prelude.{◌≡◌};
 ghost use Rattle.model.specs.Maps.{empty_map};

@@ -1,6 +1,7 @@
 // Marking a candidate's outline: whether a claimed list of point numbers is the corner listing of a list of points,
 // begun at any corner. No map is built: the points are admitted one after another by their coordinates, and each
 // edge of the claim is tested against all of them.
+#![tactic(auto)]
 
 ghost use Rattle.std.specs.Prelude.{◌≡◌, ◌+◌, ◌*◌, ◌<◌, get_or, length};
 ghost use Rattle.model.specs.Answers.{Answered};

@@ -1,4 +1,5 @@
 // What is measured of the outline of a sound map: twice its area.
+#![tactic(auto)]
 
 ghost use Rattle.std.specs.Prelude.{◌≡◌};
 ghost use Rattle.model.specs.Answers.{answer_of};

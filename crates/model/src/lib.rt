@@ -1,5 +1,6 @@
 // The declared types of the engine: what goes in and what comes out. Their meaning is in specs/. The
 // one function is the number of a refusal.
+#![tactic(auto)]
 
 ghost use Rattle.std.specs.Prelude.{◌≡◌};
 ghost use Rattle.model.specs.Refusals.{number};
@@ -16,7 +17,7 @@ pub const NO_DART: usize = DART_LIMIT;
 pub const NONE_FREED: u16 = 1024;
 
 // A mark: whole numbers of thousandths of a millimetre.
-#[derive(Drop)]
+#[derive(Clone, Copy)]
 pub struct Point {
     pub x: i64,
     pub y: i64,
@@ -26,7 +27,7 @@ pub struct Point {
 // 2k + 1 where `helpers` says so. `edge` holds the edge link of each dart; the point link follows
 // from the helpers. `reference` is a dart of the outline, or 1,024 for none. `arrivals`, `lefts` and
 // `rights` hold for each point what is noted of its arrival; a place without a point holds 0, 1,024, 1,024.
-#[derive(Drop)]
+#[derive(Clone, Copy)]
 pub struct Map {
     pub xs: [i64; POINT_LIMIT],
     pub ys: [i64; POINT_LIMIT],
@@ -41,7 +42,7 @@ pub struct Map {
 
 // What is noted of a point: its arrival (0 first, 1 second, 2 inside, 3 outside), and the darts that it
 // freed, the left corner's old partner and the right corner's, or 1,024 for none.
-#[derive(Drop)]
+#[derive(Clone, Copy)]
 pub struct Note {
     pub arrival: usize,
     pub left: usize,
@@ -49,7 +50,7 @@ pub struct Note {
 }
 
 // Why a call is refused. specs/Refusals gives each its number.
-#[derive(Drop)]
+#[derive(Clone, Copy)]
 pub enum Refusal {
     NotSound,
     Full,
@@ -86,14 +87,14 @@ pub fn refusal_number(r: Refusal) -> usize
 }
 
 // The orientation of three points.
-#[derive(Drop)]
+#[derive(Clone, Copy)]
 pub enum Oriented {
     Value(i64),
     Refused(Refusal),
 }
 
 // What became of an offered point. Corners are named by their point numbers.
-#[derive(Drop)]
+#[derive(Clone, Copy)]
 pub enum Arrival {
     First,
     Second,
@@ -107,14 +108,14 @@ pub enum Arrival {
 }
 
 // The map after an offer, and what became of the point.
-#[derive(Drop)]
+#[derive(Clone, Copy)]
 pub struct Offered {
     pub map: Map,
     pub arrival: Arrival,
 }
 
 // Which orbit of a dart: its edge, its vertex, its face, or its connected part.
-#[derive(Drop)]
+#[derive(Clone, Copy)]
 pub enum Kind {
     Edge,
     Vertex,
@@ -123,21 +124,21 @@ pub enum Kind {
 }
 
 // Whether a call whose value is an array was served; the value stands beside it.
-#[derive(Drop)]
+#[derive(Clone, Copy)]
 pub enum Outcome {
     Served,
     Refused(Refusal),
 }
 
 // The orbit of a dart; the empty set where the call is refused.
-#[derive(Drop)]
+#[derive(Clone, Copy)]
 pub struct Orbit {
     pub outcome: Outcome,
     pub darts: DartSet,
 }
 
 // The numbers of darts, and of their vertices, edges, faces and connected parts.
-#[derive(Drop)]
+#[derive(Clone, Copy)]
 pub struct Counts {
     pub darts: usize,
     pub vertices: usize,
@@ -146,20 +147,20 @@ pub struct Counts {
     pub parts: usize,
 }
 
-#[derive(Drop)]
+#[derive(Clone, Copy)]
 pub enum Counted {
     Numbers(Counts),
     Refused(Refusal),
 }
 
-#[derive(Drop)]
+#[derive(Clone, Copy)]
 pub enum Walked {
     Ended(Walk),
     Refused(Refusal),
 }
 
 // By which link a walker is moved.
-#[derive(Drop)]
+#[derive(Clone, Copy)]
 pub enum Link {
     None,
     Edge,
@@ -167,14 +168,14 @@ pub enum Link {
 }
 
 // The walker that was moved.
-#[derive(Drop)]
+#[derive(Clone, Copy)]
 pub enum Moved {
     At(Walker),
     Refused(Refusal),
 }
 
 // Where a query point lies. Corners, and the ends of an edge, are named by their point numbers.
-#[derive(Drop)]
+#[derive(Clone, Copy)]
 pub enum Placed {
     NoOutline,
     Corner(usize),
@@ -185,14 +186,14 @@ pub enum Placed {
 }
 
 // Twice the area of an outline.
-#[derive(Drop)]
+#[derive(Clone, Copy)]
 pub enum Doubled {
     Value(i64),
     Refused(Refusal),
 }
 
 // Whether a claimed outline is the one that a list of points has.
-#[derive(Drop)]
+#[derive(Clone, Copy)]
 pub enum Marked {
     Right,
     Wrong,
@@ -200,28 +201,28 @@ pub enum Marked {
 }
 
 // How many places of a lent list were written.
-#[derive(Drop)]
+#[derive(Clone, Copy)]
 pub enum Written {
     Length(usize),
     Refused(Refusal),
 }
 
 // The map of a file; the empty map where the file is refused.
-#[derive(Drop)]
+#[derive(Clone, Copy)]
 pub struct Loaded {
     pub outcome: Outcome,
     pub map: Map,
 }
 
 // The map before its last point; the map as it was where the call is refused.
-#[derive(Drop)]
+#[derive(Clone, Copy)]
 pub struct Removed {
     pub outcome: Outcome,
     pub map: Map,
 }
 
 // The point that a line of text names.
-#[derive(Drop)]
+#[derive(Clone, Copy)]
 pub enum Line {
     Named(Point),
     Refused(Refusal),

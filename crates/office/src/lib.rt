@@ -2,6 +2,7 @@
 // and the corners of such a text; by candidates, twice the outline's area, the mark of a claimed outline, and
 // the last mark taken back. These are entry points, as those of `engine` are: each checks for itself, asks
 // nothing of its caller, and promises its answer and what a lent list holds, for every argument.
+#![tactic(auto)]
 
 ghost use Rattle.std.specs.Prelude.{[], ◌∷◌};
 ghost use Rattle.model.specs.Reading.{unsound};

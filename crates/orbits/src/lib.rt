@@ -1,5 +1,7 @@
 // Orbits, connected parts and walks of darts, with the links as parameters, and the set of darts
 // that an orbit is given as.
+#![tactic(auto)]
+
 pub mod steps;
 mod visits;
 
@@ -14,7 +16,7 @@ ghost use Rattle.orbits.specs.Links.{link_of, test_of, Composable, Composed, Fol
 pub const DART_LIMIT: usize = 1024;
 
 // A set of the darts, beside its size: bit j of word w stands for dart 64 * w + j.
-#[derive(Drop)]
+#[derive(Clone, Copy)]
 pub struct DartSet {
     pub words: [u64; 16],
     pub size: usize,
@@ -67,14 +69,14 @@ impl DartSet {
 }
 
 // How a walk ends: back at its start, or at a dart that the first link fixes.
-#[derive(Drop)]
+#[derive(Clone, Copy)]
 pub enum Ending {
     Home,
     Loose,
 }
 
 // What a walk gives: the last dart, the ending and the moves made.
-#[derive(Drop)]
+#[derive(Clone, Copy)]
 pub struct Walk {
     pub last: usize,
     pub ending: Ending,
@@ -82,7 +84,7 @@ pub struct Walk {
 }
 
 // A walker stands at a dart.
-#[derive(Drop)]
+#[derive(Clone, Copy)]
 pub struct Walker {
     pub dart: usize,
 }

@@ -9,6 +9,7 @@
 //
 // The language has no exit status, so it is 0 also where the system failed: an empty report or part
 // of one, with a message on standard error, is a failure. Arguments are ignored.
+#![tactic(auto)]
 
 ghost use Rattle.std.specs.Prelude.{◌≡◌, ◌+◌, ◌≤◌, length};
 ghost use Rattle.model.specs.Report.{text_limit};
@@ -24,7 +25,7 @@ use survey::lines::TEXT_LIMIT;
 const READ_LIMIT: usize = TEXT_LIMIT + 1;
 
 // How many bytes of standard input were read, whether it ended there, and whether reading failed.
-#[derive(Drop)]
+#[derive(Clone, Copy)]
 struct Input {
     length: usize,
     ended: bool,
@@ -32,7 +33,7 @@ struct Input {
 }
 
 // The position up to which the printed lines were written, and whether writing failed there.
-#[derive(Drop)]
+#[derive(Clone, Copy)]
 struct Printed {
     next: usize,
     failed: bool,

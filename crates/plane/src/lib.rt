@@ -1,4 +1,5 @@
 // The plane: the orientation of three points, and what is asked of points.
+#![tactic(auto)]
 
 pub mod between;
 pub mod lower;

@@ -1,4 +1,5 @@
 // Outlines as text, read: the corners that a text spells, by the word at its front.
+#![tactic(auto)]
 
 ghost use Rattle.std.specs.Prelude.{◌≡◌, T};
 ghost use Rattle.model.specs.Outlines.{starts_with};
@@ -11,7 +12,7 @@ use positions::words::{is_word, starts_with};
 use positions::{Listed, read_positions};
 
 // Corners that were read: how many, and whether all are in range.
-#[derive(Drop)]
+#[derive(Clone, Copy)]
 pub enum Corners {
     Read { count: usize, ranged: bool },
     Malformed,

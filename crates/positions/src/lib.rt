@@ -1,4 +1,5 @@
 // Positions in a text: two numbers with one space between, and positions one after another; and words.
+#![tactic(auto)]
 
 pub mod words;
 
@@ -14,7 +15,7 @@ use survey::lines::byte_at;
 use survey::numbers::{Front, front_number};
 
 // A position at the front of a list, and how many bytes it takes.
-#[derive(Drop)]
+#[derive(Clone, Copy)]
 pub enum Position {
     Value { x: i64, y: i64, size: usize },
     Malformed,
@@ -22,7 +23,7 @@ pub enum Position {
 
 // One position of a list: the last, with the closing word after it, or one with a comma and a space
 // after it, and how many bytes it takes with them.
-#[derive(Drop)]
+#[derive(Clone, Copy)]
 pub enum Step {
     Last { x: i64, y: i64 },
     More { x: i64, y: i64, size: usize },
@@ -30,7 +31,7 @@ pub enum Step {
 }
 
 // Positions that were read: how many, whether all are in range, and the last of them.
-#[derive(Drop)]
+#[derive(Clone, Copy)]
 pub enum Listed {
     Read {
         count: usize,

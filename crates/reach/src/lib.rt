@@ -2,6 +2,7 @@
 // bytes, which are checked as a file is. The number that is returned is that of the refusal, 0
 // where the call is served; values are written into lent lists. Each function loads, checks,
 // computes its values, and then writes them where there is room.
+#![tactic(auto)]
 
 ghost use Rattle.std.specs.Prelude.{◌≡◌, [], ◌∷◌, T, length};
 ghost use Rattle.model.specs.declared.Link.{Link};

@@ -1,4 +1,5 @@
 // The last point of a map taken back: what is noted of it says how its darts are unlinked.
+#![tactic(auto)]
 
 ghost use Rattle.std.specs.Prelude.{◌≡◌, false, ◌≤◌, ◌<◌, T, length, set};
 ghost use Rattle.model.specs.Maps.{point_limit};

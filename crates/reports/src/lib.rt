@@ -1,6 +1,7 @@
 // The report on a survey text. First every line is decided, then the report's length is known, and
 // then its bytes are written: no line is decided twice, and no array holds a report. The answers of
 // the lines stand in an array that the caller lends, so that no call copies them.
+#![tactic(auto)]
 
 ghost use Rattle.std.specs.Prelude.{◌≡◌, ◌≤◌, length};
 ghost use Rattle.finite.specs.Overwriting.{over};
@@ -20,7 +21,7 @@ use survey::lines::{TEXT_LIMIT, is_too_long};
 
 // What is decided of a text beside the answers of its lines: the corners, which are the first so
 // many of a list, and the ends.
-#[derive(Drop)]
+#[derive(Clone, Copy)]
 pub struct Summary {
     pub corners: [usize; POINT_LIMIT],
     pub listed: usize,
@@ -28,7 +29,7 @@ pub struct Summary {
 }
 
 // The map at the end of a text, and how many lines the text has.
-#[derive(Drop)]
+#[derive(Clone, Copy)]
 pub struct Surveyed {
     pub map: Map,
     pub lines: usize,

@@ -1,4 +1,5 @@
 // The saved form of a map: writing it in a version.
+#![tactic(auto)]
 
 ghost use Rattle.std.specs.Prelude.{◌≡◌, ℕ, ◌≤◌, T, length};
 ghost use Rattle.finite.specs.Overwriting.{over};

@@ -12,6 +12,7 @@
 //     area           twice the area
 // A refused call prints `refused` and the number of document 01's table; every number that is in use is
 // seen.
+#![tactic(auto)]
 
 mod calls;
 mod telling;

@@ -1,4 +1,5 @@
 // What is seen of an outline from a point.
+#![tactic(auto)]
 
 ghost use Rattle.std.specs.Prelude.{◌≡◌, cond, not, ◌+◌, ◌<◌};
 ghost use Rattle.finite.specs.Bounded.{one_if};
@@ -15,7 +16,7 @@ use plane::between::are_opposite;
 use plane::sees_edge;
 
 // The corners between which the visible edges lie, and their number.
-#[derive(Drop)]
+#[derive(Clone, Copy)]
 pub struct Seen {
     pub left: usize,
     pub right: usize,
@@ -23,7 +24,7 @@ pub struct Seen {
 }
 
 // A corner that is sought on the way round an outline.
-#[derive(Drop)]
+#[derive(Clone, Copy)]
 pub struct Sought {
     pub corner: usize,
     pub found: bool,

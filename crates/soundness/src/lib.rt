@@ -1,4 +1,5 @@
 // Whether a map is sound: its points are offered anew, one after another, and what they build is compared with it.
+#![tactic(auto)]
 
 ghost use Rattle.std.specs.Prelude.{◌≡◌};
 ghost use Rattle.finite.specs.Bounded.{table};
@@ -15,7 +16,7 @@ use model::{Map, NO_DART, NONE_FREED, Outcome, POINT_LIMIT};
 use orbits::DART_LIMIT;
 
 // What points that are offered anew leave beside the arrays of a map: the reference, and whether all were accepted.
-#[derive(Drop)]
+#[derive(Clone, Copy)]
 pub struct Anew {
     pub reference: usize,
     pub complete: bool,

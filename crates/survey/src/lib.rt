@@ -1,4 +1,5 @@
 // The survey text: its numbers and lines, read from places of the text.
+#![tactic(auto)]
 
 pub mod lines;
 pub mod numbers;

@@ -18,7 +18,7 @@ use model::{Line, Point, Refusal};
 pub const TEXT_LIMIT: usize = 65536;
 
 // What a line names, and the place at which the next line begins.
-#[derive(Drop)]
+#[derive(Clone, Copy)]
 pub struct Read {
     pub line: Line,
     pub next: usize,

@@ -10,14 +10,14 @@ ghost use Rattle.survey.specs.Numbers.{front_number, magnitude_read};
 pub const DIGIT_LIMIT: usize = 10;
 
 // What the digits at the front of a list stand for, and how many they are.
-#[derive(Drop)]
+#[derive(Clone, Copy)]
 pub enum Magnitude {
     Value { value: u64, count: usize },
     Malformed,
 }
 
 // What the number at the front of a list stands for, and the place after it.
-#[derive(Drop)]
+#[derive(Clone, Copy)]
 pub enum Front {
     Value { value: i64, end: usize },
     Malformed,

@@ -7,7 +7,7 @@ ghost use Rattle.survey.specs.Readers.{line_of, moved_on};
 use super::lines::read_at;
 use model::Line;
 
-#[derive(Drop)]
+#[derive(Clone, Copy)]
 pub struct Reader<'a> {
     pub text: &'a [u8],
     pub at: usize,

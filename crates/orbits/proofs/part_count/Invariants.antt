@@ -1,0 +1,16 @@
+-- `orbits::part_count` meets its contract. The loop's invariant: the darts below `a` have been
+-- passed, and the parts that they lie in counted. The measure is the darts left.
+use mathlib.Core.Path.{◌≡◌, sym, ◌∙◌}
+use mathlib.Core.Logic.{⊎_elim}
+use mathlib.Core.Bool.{true, not, ◌&&◌}
+use Prim.Native.Nat.{◌-◌}
+use native.Mathlib.Omega.{arith}
+use Rattle.orbits.specs.Links.{test_of}
+use Rattle.orbits.proofs.Counts.{Counting, counting_none, counting_small, counting_same, counting_skip, counting_ready, counting_part, counting_ends}
+use Rattle.orbits.proofs.part_count.Given as goal
+
+abbrev pub invariant-loop-a : goal.invariant-loop-a
+invariant-loop-a l = Counting l.f l.g l.n (test_of l.present) l.order l.seen l.end l.parts l.a
+
+abbrev pub decreases-loop-a : goal.decreases-loop-a
+decreases-loop-a l = l.n - l.a

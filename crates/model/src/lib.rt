@@ -67,6 +67,7 @@ pub enum Refusal {
 }
 
 // The number of a refusal.
+#[tactic(auto, unfolding(crate::specs::Refusals::number))]
 pub fn refusal_number(r: Refusal) -> usize
     ensures { result ≡ number r }
 {

@@ -1,0 +1,106 @@
+-- `survey::numbers::front_number` meets its contract, by the cases of sign and magnitude. A
+-- magnitude is below 10^digit-limit, so it fits, and so does its negation.
+use Rattle.integers.specs.Ring.{zero_-ℤ}
+use Rattle.integers.specs.Range.{Number, natural, literal, sub, back, fits}
+use Rattle.survey.specs.declared.numbers.Front.TheVariants.{Value as spelled}
+use lib.IntN.{ℤ, ◌-ℤ◌, pos}
+use mir.Syntax.{w64}
+use mathlib.Core.Path.{◌≡◌, sym, ap, ◌∙◌}
+use mathlib.Core.Logic.{⊎_elim}
+use mathlib.Core.List.{List}
+use Prim.Native.Nat.{ℕ, ◌-◌, ◌+◌, ◌^◌, ◌<◌}
+use native.Mathlib.Omega.{arith}
+use borrow.Author.Tests.{le-ltb}
+use lib.Dec.{eqb}
+use lib.ListN.{length, take, drop, get_or-eq_default}
+use Rattle.model.specs.Spelling.{minus}
+use Rattle.model.specs.Text.{digit_limit, has_minus}
+use Rattle.survey.specs.declared.numbers.Magnitude.{Magnitude}
+use Rattle.survey.specs.Numbers.{magnitude_read}
+use Rattle.survey.proofs.Signs.{Reads, reads_value, Begins, begins_signed, begins_plain, front_malformed, front_positive, front_negative, front_minus_zero}
+use Rattle.survey.proofs.numbers.front_number.Goals as goal
+use Rattle.survey.proofs.numbers.front_number.Goals.{After-front_digits-magnitude, In-Value-2, Joined-negative, Joined-s-gt0}
+
+-- `negative` says whether there is a minus
+sign : (c : Joined-s-gt0) → has_minus c.args.s.now ≡ c.if-s-gt0.negative
+unfolding has_minus
+sign c =
+    let s = c.args.s.now in
+    ⊎_elim
+    (λ w. sym w.2)
+    (λ w.
+    ap (λ (b : ℕ). eqb b minus) (get_or-eq_default s 0 w.0.left)
+    ∙ sym (w.1 ∙ le-ltb 0 (length s) w.0.left))
+    c.if-s-gt0.branch
+
+-- the digits begin at place `first`
+begins : (c : Joined-negative) → Begins c.args.s.now c.if-negative.first
+begins c =
+    ⊎_elim
+    (λ w. begins_signed _ (sign c.before ∙ w.0.taken) w.1)
+    (λ w. begins_plain _ (sign c.before ∙ w.0.left) w.1)
+    c.if-negative.branch
+
+pub slice_bounds-front_digits-count : goal.slice_bounds-front_digits-count
+slice_bounds-front_digits-count c = (begins (goal.at.slice_bounds-front_digits-count c).Joined-negative).inside
+
+pub OLD-slice-bounds-front-digits-start : goal.OLD-slice-bounds-front-digits-start
+OLD-slice-bounds-front-digits-start c = (begins (goal.at.OLD-slice-bounds-front-digits-start c).Joined-negative).inside
+
+-- the magnitude as the machine has it after the cast, and its negation
+module _ (m : ℕ) (small : m < 10 ^ digit_limit) where
+  abbrev magnitude : Number (10 ^ digit_limit) (pos m)
+  magnitude = natural m (omega arith)
+
+  abbrev negation : Number (10 ^ digit_limit) (pos 0 -ℤ pos m)
+  negation = sub (literal (pos 0)) (back w64 tt magnitude)
+
+-- what was read after the minus
+abbrev read : (c : After-front_digits-magnitude) → List ℕ
+read c =
+    let s = c.args.s.now in
+    take (length s - c.if-negative.first) (drop c.if-negative.first s)
+
+module _ (c : In-Value-2) where
+  abbrev value : ℕ
+  value = c.magnitude-1.given.0.0
+
+  abbrev count : ℕ
+  count = c.magnitude-1.given.0.1.0
+
+  has : magnitude_read (read c.before.before) ≡ Magnitude.Value value count
+  has = sym c.front_digits-magnitude.ensures ∙ c.magnitude-1.given.1
+
+  what : Reads (read c.before.before) value count
+  what = reads_value _ value count has
+
+pub returns-then-value-eq0 : goal.returns-then-value-eq0
+returns-then-value-eq0 c = sym (front_minus_zero _ _ (begins (goal.at.returns-then-value-eq0 c).Joined-negative).part _ _ (has (goal.at.returns-then-value-eq0 c).In-Value-2)
+    (sign (goal.at.returns-then-value-eq0 c).Joined-s-gt0 ∙ c.if-negative-2.true) c.if-value-eq0.true)
+
+pub overflow_cast-result : goal.overflow_cast-result
+overflow_cast-result c = fits w64 tt (magnitude _ (what (goal.at.overflow_cast-result c).In-Value-2).small)
+
+pub overflow_sub-result : goal.overflow_sub-result
+overflow_sub-result c = fits w64 tt (negation _ (what (goal.at.overflow_sub-result c).In-Value-2).small)
+
+pub overflow_add-result : goal.overflow_add-result
+overflow_add-result c = omega (arith, (what (goal.at.overflow_add-result c).In-Value-2).few)
+
+pub returns-then-negative-2 : goal.returns-then-negative-2
+returns-then-negative-2 c = ap (λ (z : ℤ). spelled z (count (goal.at.returns-then-negative-2 c).In-Value-2 + 1)) ((back w64 tt (negation _ (what (goal.at.returns-then-negative-2 c).In-Value-2).small)).is
+    ∙ zero_-ℤ (pos (value (goal.at.returns-then-negative-2 c).In-Value-2)))
+    ∙ sym (front_negative _ _ (begins (goal.at.returns-then-negative-2 c).Joined-negative).part _ _ (has (goal.at.returns-then-negative-2 c).In-Value-2)
+    (sign (goal.at.returns-then-negative-2 c).Joined-s-gt0 ∙ c.if-negative-2.true) c.if-value-eq0.false)
+
+pub overflow_cast-result-in-Value : goal.overflow_cast-result-in-Value
+overflow_cast-result-in-Value c = fits w64 tt (magnitude _ (what (goal.at.overflow_cast-result-in-Value c).In-Value-2).small)
+
+pub returns-else-negative-2 : goal.returns-else-negative-2
+returns-else-negative-2 c = ap (λ (z : ℤ). spelled z (count (goal.at.returns-else-negative-2 c).In-Value-2)) (back w64 tt (magnitude _ (what (goal.at.returns-else-negative-2 c).In-Value-2).small)).is
+    ∙ sym (front_positive _ _ (begins (goal.at.returns-else-negative-2 c).Joined-negative).part _ _ (has (goal.at.returns-else-negative-2 c).In-Value-2)
+    (sign (goal.at.returns-else-negative-2 c).Joined-s-gt0 ∙ c.if-negative-2.false))
+
+pub returns-in-Malformed : goal.returns-in-Malformed
+returns-in-Malformed c = sym (front_malformed _ _ (begins (goal.at.returns-in-Malformed c).Joined-negative).part
+    (sym c.front_digits-magnitude.ensures ∙ c.enum_told-1.given.1))

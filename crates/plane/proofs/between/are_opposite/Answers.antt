@@ -9,4 +9,4 @@ use Rattle.plane.proofs.between.are_opposite.Goals as goal
 
 pub returns : goal.returns
 returns c = ap (λ (z : ℤ). lt_z z (pos 0))
-    (to_z-of_z w64 c.dot_of-z.result (record { sfits = c.dot_of-z.type-inv }) ∙ c.dot_of-z.ensures)
+    (to_z-of_z w64 c.dot_of-z.result (record { sfits = c.dot_of-z.type_inv }) ∙ c.dot_of-z.ensures)

@@ -15,7 +15,8 @@ use lib.Signed.{◌≤ℤ◌}
 use mir.Syntax.{w64}
 use Rattle.integers.specs.Order.{order, +ℤ_splits}
 use Rattle.integers.specs.Sign.{nonneg_nonneg}
-use Rattle.integers.specs.Range.{Number, bounded_splits, literal, add, mul, back}
+use Rattle.integers.specs.Range.{Number, bounded_splits, literal, add, mul}
+use Rattle.integers.proofs.Range.{back}
 use Rattle.finite.specs.Tests.{is_false, same_or_not}
 use Rattle.finite.specs.Bounded.{any, any_at, below_suc}
 use Rattle.model.specs.declared.Point.{Point}

@@ -3,12 +3,13 @@
 -- parameter x of `to_z w (of_z w x)`. With hx : Bounded 1000 x and hy : Bounded 1000 y,
 --     fits w64 tt (mul (read w64 tt hx) (read w64 tt hy))
 -- is the need of  x * y  at an `i64`. In this order: absolute values; `Bounded B z`, |z| is at most
--- B; `Number B z`, what the machine computes; `machine`, for `omega` after signed tests; examples.
+-- B; `Number B z`, what the machine computes; `machine`, for `omega` after signed tests; an example.
+-- `fits`, `back` and `read` stand in integers/proofs/Range.
 use Rattle.std.specs.Prelude.{◌≡◌, refl, ◌≢◌, Bool, true, false, ℕ, zero, suc, ◌+◌, ◌*◌, ◌^◌, ◌≤◌, max, min, T, ltb, leb, eqb, ℤ, pos, negsuc, neg_ℤ, ◌+ℤ◌, ◌-ℤ◌, ◌*ℤ◌, nat_abs, ◌≤ℤ◌}
 use Rattle.std.proofs.Common.{sym, ◌∙◌, ap, ap₂, subst, true≢false, add-le-add, mul-le-mul, le_refl, le_trans, lt_of_le_of_lt, arith, eq-eqb, ne_eqb, ltb→lt, leb→le, to_z-of_z}
 use Rattle.std.proofs.lemmas.Bool.{false≢true}
 use Rattle.std.specs.Int.Signed.{mag, lt_z, le_z, non_neg, nat_abs-le, pos-nat_abs, yes_non_neg}
-use Rattle.std.specs.Int.{Width, w32, w64}
+use Rattle.std.specs.Int.{Width, w64}
 use mir.Val.{Fits, SFits, to_z, of_z, bits, hbits}
 use Rattle.integers.specs.Order.{up, dn, order, eq_z, eq_z_true, eq_z_false}
 use Rattle.integers.specs.Order.{cross, nat_abs_splits, +ℤ_splits, ≡_splits}
@@ -135,20 +136,6 @@ module _ {A B : ℕ} {x y : ℤ} (a : Number A x) (b : Number B y) where
         small = *ℤ_bounded a.small b.small;
       }
 
-module _ (w : Width) {B : ℕ} (t : T (ltb B (2 ^ hbits w))) where
-  -- the need of the operation, or of the cast to w, that gives a
-  pub fits : {z : ℤ} (a : Number B z) → SFits w a.has
-  fits a = bounded_fits w t (has_bounded a)
-
-  -- a, read back from its bits
-  abbrev pub back : {z : ℤ} → Number B z → Number B z
-  back a =
-      record { has = to_z w (of_z w a.has); is = to_z-of_z (fits a) ∙ a.is; small = a.small }
-
-  -- a parameter, read from its bits
-  abbrev pub read : {z : ℤ} → Bounded B z → Number B z
-  read h = back (exact h)
-
 -- the cast of a number that is not negative to an unsigned type: its need, and what it gives
 module _ {B : ℕ} {z : ℤ} (a : Number B z) (h : pos 0 ≤ℤ z) where
   has_nonneg : T (non_neg a.has)
@@ -194,26 +181,6 @@ pub other_bits : (w : Width) (x y : ℤ) → (of_z w x ≡ of_z w y → ⊥) →
 other_bits w x y n e = n (ap (of_z w) e)
 
 -- ---- in use
-
--- the needs of  (x - y) * 3  at an `i64`, and what it gives
-module _ (x y : ℤ) (hx : Bounded 1000 x) (hy : Bounded 1000 y) where
-  abbrev difference : Number 2000 (x -ℤ y)
-  difference = sub (read w64 tt hx) (read w64 tt hy)
-
-  abbrev triple : Number 6000 ((x -ℤ y) *ℤ pos 3)
-  triple = mul (back w64 tt difference) (literal (pos 3))
-
-  need_of_difference : SFits w64 (to_z w64 (of_z w64 x) -ℤ to_z w64 (of_z w64 y))
-  need_of_difference = fits w64 tt difference
-
-  need_of_triple : SFits w64 ((back w64 tt difference).has *ℤ pos 3)
-  need_of_triple = fits w64 tt triple
-
-  result : to_z w64 (of_z w64 ((back w64 tt difference).has *ℤ pos 3)) ≡ (x -ℤ y) *ℤ pos 3
-  result = (back w64 tt triple).is
-
-  need_of_cast : SFits w32 (back w64 tt triple).has
-  need_of_cast = fits w32 tt (back w64 tt triple)
 
 -- after  if x < -1000 || x > 1000 { return .. }
 in_range : (x : ℤ) → SFits w64 x →

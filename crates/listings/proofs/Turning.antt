@@ -17,7 +17,8 @@ use lib.ListN.{length, get_or}
 use lib.Signed.{◌≤ℤ◌, ◌<ℤ◌}
 use Rattle.integers.specs.Order.{order, -ℤ_splits, <ℤ_weaken}
 use Rattle.integers.specs.Sign.{pos_pos, nonneg_nonneg, second_pos_pos, sum_pos_left, sum_pos_right}
-use Rattle.integers.specs.Solver.{con, ◌⊕◌, ◌⊖◌, ◌⊗◌, ◌≐◌, identity}
+use Rattle.integers.specs.Solver.{con, ◌⊕◌, ◌⊖◌, ◌⊗◌, ◌≐◌}
+use Rattle.integers.proofs.Solver.{identity}
 use Rattle.finite.specs.Tests.{◌⇒◌, and_left, and_right, and_both, implies_use, implies_by, differ_by, same_test}
 use Rattle.finite.specs.Bounded.{all, all_at, all_by, lt_or_ge}
 use Rattle.finite.specs.Lists.{all_in}

@@ -14,7 +14,8 @@ use lib.Dec.{T, T_not, not_T}
 use lib.IntN.{ℤ, pos, ◌+ℤ◌, ◌-ℤ◌, ◌*ℤ◌, +ℤ_comm, *ℤ_comm}
 use lib.Signed.{◌≤ℤ◌, ◌<ℤ◌, lt_z_yes}
 use Rattle.integers.specs.Ring.{eq_of_difference}
-use Rattle.integers.specs.Solver.{Expr, con, ◌≐◌, ◌⊕◌, ◌⊖◌, ◌⊗◌, identity}
+use Rattle.integers.specs.Solver.{Expr, con, ◌≐◌, ◌⊕◌, ◌⊖◌, ◌⊗◌}
+use Rattle.integers.proofs.Solver.{identity}
 use Rattle.integers.specs.Order.{order, +ℤ_splits, negℤ_splits, ≤ℤ_≢_<ℤ, <ℤ_≢, <ℤ_weaken, ≡_≤ℤ, ≤ℤ_antisym, signs, <_or_≥, -ℤ_splits}
 use Rattle.integers.specs.Sign.{pos_pos, neg_neg, nonneg_nonneg, pos_neg, neg_pos, nonneg_nonpos, square_nonneg, second_pos_pos, second_pos_neg, second_pos_nonpos, second_neg_nonneg, second_zero}
 use Rattle.finite.specs.Tests.{is_true, is_false, and_left, and_right, and_both, or_cases, or_left, or_right, not_not}

@@ -13,7 +13,8 @@ use lib.IntN.{ℤ, pos, ◌+ℤ◌, ◌-ℤ◌, ◌*ℤ◌, *ℤ_comm}
 use lib.Signed.{◌<ℤ◌, ◌≤ℤ◌, ≤ℤ_refl}
 use Rattle.integers.specs.Order.{order, +ℤ_splits, -ℤ_splits, ≤ℤ_trans, +ℤ_mono_≤, ≤_difference, ≤ℤ_total}
 use Rattle.integers.specs.Sign.{nonneg_nonneg, nonpos_nonneg, second_pos_nonneg, *ℤ_mono_≤, sum_nonneg}
-use Rattle.integers.specs.Solver.{◌⊕◌, ◌⊖◌, ◌⊗◌, ◌≐◌, identity}
+use Rattle.integers.specs.Solver.{◌⊕◌, ◌⊖◌, ◌⊗◌, ◌≐◌}
+use Rattle.integers.proofs.Solver.{identity}
 use Rattle.integers.specs.Range.{Bounded, machine}
 use Rattle.finite.specs.Tests.{and_left}
 use Rattle.finite.specs.Lists.{elem, distinct}

@@ -12,7 +12,8 @@ use lib.ListN.{length}
 use lib.Signed.{◌<ℤ◌, ◌≤ℤ◌, ≤ℤ_refl}
 use Rattle.integers.specs.Order.{order, +ℤ_splits}
 use Rattle.integers.specs.Sign.{sum_nonneg, sum_pos_left, sum_pos_right}
-use Rattle.integers.specs.Solver.{con, ◌⊕◌, ◌⊖◌, ◌≐◌, identity}
+use Rattle.integers.specs.Solver.{con, ◌⊕◌, ◌⊖◌, ◌≐◌}
+use Rattle.integers.proofs.Solver.{identity}
 use Rattle.finite.specs.Cycles.{Chain, Cycle}
 use Rattle.model.specs.declared.Point.{Point}
 use Rattle.model.specs.Plane.{orientation}

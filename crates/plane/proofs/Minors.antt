@@ -10,8 +10,10 @@ use mir.Syntax.{w64}
 use mir.Val.{SFits, hbits, to_z, of_z}
 use lib.Dec.{T, ltb, ltb→lt, lt→ltb}
 use lib.IntN.{ℤ, ◌+ℤ◌, ◌-ℤ◌, ◌*ℤ◌}
-use Rattle.integers.specs.Solver.{Expr, ◌≐◌, ◌⊕◌, ◌⊖◌, ◌⊗◌, identity}
-use Rattle.integers.specs.Range.{Bounded, Number, has_bounded, read, add, sub, mul, back, fits}
+use Rattle.integers.specs.Solver.{Expr, ◌≐◌, ◌⊕◌, ◌⊖◌, ◌⊗◌}
+use Rattle.integers.proofs.Solver.{identity}
+use Rattle.integers.specs.Range.{Bounded, Number, has_bounded, add, sub, mul}
+use Rattle.integers.proofs.Range.{read, back, fits}
 use Rattle.model.specs.declared.Point.{Point}
 use Rattle.model.specs.Plane.{at, orientation}
 use Rattle.plane.proofs.Orientation.{orientation_expr}

@@ -9,7 +9,8 @@ use native.Mathlib.Omega.{arith}
 use lib.Dec.{T}
 use lib.IntN.{ℤ, pos, neg_ℤ, ◌+ℤ◌, ◌*ℤ◌}
 use lib.Signed.{lt_z, ◌≤ℤ◌, ◌<ℤ◌}
-use Rattle.integers.specs.Solver.{con, ◌≐◌, ◌⊕◌, ◌⊖◌, ◌⊗◌, ⊝, identity}
+use Rattle.integers.specs.Solver.{con, ◌≐◌, ◌⊕◌, ◌⊖◌, ◌⊗◌, ⊝}
+use Rattle.integers.proofs.Solver.{identity}
 use Rattle.integers.specs.Order.{order, +ℤ_splits, negℤ_splits, <ℤ_≢, <ℤ_weaken, ≡_≤ℤ, signs}
 use Rattle.integers.specs.Sign.{pos_pos, neg_neg, nonneg_nonneg, nonpos_nonpos, sum_nonneg, second_pos_nonneg}
 use Rattle.model.specs.declared.Point.{Point}

@@ -8,7 +8,8 @@ use Prim.Native.Nat.{◌+◌, ◌^◌}
 use native.Mathlib.Omega.{arith}
 use mir.Syntax.{w64}
 use Rattle.integers.specs.Order.{+ℤ_splits, lt_z_false_splits}
-use Rattle.integers.specs.Range.{Number, machine, literal, read, add, back, fits, unsigned_fits}
+use Rattle.integers.specs.Range.{Number, machine, literal, add, unsigned_fits}
+use Rattle.integers.proofs.Range.{read, back, fits}
 use Rattle.integers.specs.Range.{unsigned_is}
 use Rattle.model.specs.Plane.{coordinate_limit}
 use Rattle.layout.proofs.Digits.{complement_negative, complement_not_negative}

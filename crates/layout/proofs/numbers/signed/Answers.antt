@@ -4,7 +4,8 @@ use lib.IntN.{pos, ◌-ℤ◌}
 use Prim.Native.Nat.{◌+◌, ◌^◌}
 use native.Mathlib.Omega.{arith}
 use mir.Syntax.{w64}
-use Rattle.integers.specs.Range.{Number, literal, natural, sub, back, fits}
+use Rattle.integers.specs.Range.{Number, literal, natural, sub}
+use Rattle.integers.proofs.Range.{back, fits}
 use Rattle.layout.proofs.Digits.{signed_low, signed_high}
 use Rattle.layout.proofs.numbers.signed.Goals as goal
 use Rattle.layout.proofs.numbers.signed.Goals.{Start}

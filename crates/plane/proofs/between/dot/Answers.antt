@@ -3,7 +3,8 @@
 use lib.IntN.{◌-ℤ◌, ◌*ℤ◌}
 use mir.Syntax.{w64}
 use Prim.Native.Nat.{◌*◌}
-use Rattle.integers.specs.Range.{Number, add, back, fits}
+use Rattle.integers.specs.Range.{Number, add}
+use Rattle.integers.proofs.Range.{back, fits}
 use Rattle.plane.proofs.Bounds.{span, side, product}
 use Rattle.plane.proofs.between.dot.Goals as goal
 use Rattle.plane.proofs.between.dot.Goals.{Start}

@@ -1,7 +1,8 @@
 -- `survey::numbers::front_number` meets its contract, by the cases of sign and magnitude. A
 -- magnitude is below 10^digit-limit, so it fits, and so does its negation.
 use Rattle.integers.specs.Ring.{zero_-ℤ}
-use Rattle.integers.specs.Range.{Number, natural, literal, sub, back, fits}
+use Rattle.integers.specs.Range.{Number, natural, literal, sub}
+use Rattle.integers.proofs.Range.{back, fits}
 use Rattle.survey.specs.declared.numbers.Front.TheVariants.{Value as spelled}
 use lib.IntN.{ℤ, ◌-ℤ◌, pos}
 use mir.Syntax.{w64}

@@ -1,10 +1,8 @@
-use mathlib.Core.Path.{◌≡◌, sym, ◌∙◌, ap}
-use Prim.Native.Nat.{ℕ, ◌-◌, ◌≤◌, ◌<◌}
+use mathlib.Core.Path.{◌∙◌, ap}
 use native.Mathlib.Omega.{arith}
-use lib.ListN.{length, get_or}
-use Rattle.finite.specs.Loops.{FilledFront, none_in_front, one_in_front, all_in_front}
-use Rattle.orbits.specs.Sets.{dart_limit}
-use Rattle.orbits.specs.Links.{link_of, ◌then◌, Composable}
+use lib.ListN.{length}
+use Rattle.finite.specs.Loops.{none_in_front, one_in_front, all_in_front}
+use Rattle.orbits.specs.Links.{link_of}
 use Rattle.orbits.proofs.Links.{composable_rest, filled_composed}
 use Rattle.orbits.proofs.compose.Goals as goal
 

@@ -1,13 +1,8 @@
 -- `orbits::compose` meets its contract. The loop's invariant: the places passed hold the links of f and then g, and
 -- so do those from n on. The measure is the places left.
-use mathlib.Core.Path.{◌≡◌, sym, ◌∙◌, ap}
-use Prim.Native.Nat.{ℕ, ◌-◌, ◌≤◌, ◌<◌}
-use native.Mathlib.Omega.{arith}
-use lib.ListN.{length, get_or}
-use Rattle.finite.specs.Loops.{FilledFront, none_in_front, one_in_front, all_in_front}
+use Rattle.finite.specs.Loops.{FilledFront}
 use Rattle.orbits.specs.Sets.{dart_limit}
-use Rattle.orbits.specs.Links.{link_of, ◌then◌, Composable}
-use Rattle.orbits.proofs.Links.{composable_rest, filled_composed}
+use Rattle.orbits.specs.Links.{link_of, ◌then◌}
 use Rattle.orbits.proofs.compose.Given as goal
 
 abbrev pub invariant-loop-d : goal.invariant-loop-d

@@ -8,10 +8,10 @@ use Rattle.orbits.proofs.part.Goals as goal
 
 pub visit-end-requires : goal.visit-end-requires
 visit-end-requires c = record {
-      within = c.requires;
-      queue = queue_none;
-      closed = closed_none (link_of c.args.f.now) (link_of c.args.g.now);
-    }
+  within = c.requires;
+  queue = queue_none;
+  closed = closed_none (link_of c.args.f.now) (link_of c.args.g.now);
+}
 
 pub set_of-requires : goal.set_of-requires
 set_of-requires c = queue_small c.visit-end.ensures.lengthened.queue

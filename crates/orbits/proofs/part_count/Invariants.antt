@@ -1,12 +1,8 @@
 -- `orbits::part_count` meets its contract. The loop's invariant: the darts below `a` have been
 -- passed, and the parts that they lie in counted. The measure is the darts left.
-use mathlib.Core.Path.{◌≡◌, sym, ◌∙◌}
-use mathlib.Core.Logic.{⊎_elim}
-use mathlib.Core.Bool.{true, not, ◌&&◌}
 use Prim.Native.Nat.{◌-◌}
-use native.Mathlib.Omega.{arith}
 use Rattle.orbits.specs.Links.{test_of}
-use Rattle.orbits.proofs.Counts.{Counting, counting_none, counting_small, counting_same, counting_skip, counting_ready, counting_part, counting_ends}
+use Rattle.orbits.proofs.Counts.{Counting}
 use Rattle.orbits.proofs.part_count.Given as goal
 
 abbrev pub invariant-loop-a : goal.invariant-loop-a

@@ -1,11 +1,9 @@
 -- `orbits::visits::set_of` meets its contract. The loop's invariant: the set has the darts of the
 -- places passed. The measure is the places left.
-use mathlib.Core.Path.{◌≡◌, ◌∙◌}
+use mathlib.Core.Path.{◌≡◌}
 use Prim.Native.Nat.{◌≤◌, ◌-◌}
-use native.Mathlib.Omega.{arith}
 use Rattle.orbits.specs.Sets.{set_of}
 use Rattle.orbits.specs.Queue.{queued}
-use Rattle.orbits.proofs.Queue.{queued_none, queued_more}
 use Rattle.orbits.proofs.visits.set_of.Given as goal
 
 abbrev pub invariant-loop-i : goal.invariant-loop-i

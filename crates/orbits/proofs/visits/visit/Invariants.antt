@@ -1,12 +1,9 @@
 -- `orbits::visits::visit` meets its contract. The loop's invariant: from wherever the visit began,
 -- it has come as far as `head`. The measure is what is left of the darts.
 use mathlib.Core.List.{List}
-use Prim.Native.Nat.{ℕ, ◌-◌, ◌<◌}
-use native.Mathlib.Omega.{arith}
-use lib.ListN.{get_or}
-use Rattle.orbits.specs.Reach.{here}
+use Prim.Native.Nat.{ℕ, ◌-◌}
 use Rattle.orbits.specs.Sets.{dart_limit}
-use Rattle.orbits.proofs.Queue.{Visiting, queue_small, visit_begins, head_below, first_below, second_below, visit_step, visit_ends}
+use Rattle.orbits.proofs.Queue.{Visiting}
 use Rattle.orbits.proofs.visits.visit.Given as goal
 
 abbrev pub invariant-loop-head : goal.invariant-loop-head

@@ -8,6 +8,8 @@ use Rattle.model.specs.declared.Outcome.{Outcome}
 use Rattle.model.proofs.Answers.{rule_applies, rule_passes, no_rule}
 use Rattle.admission.specs.Admission.{admission_by}
 use Rattle.admission.proofs.Hashing.{unhashed_new}
+use mathlib.Core.Path.{ap}
+use mathlib.Core.Bool.{not}
 use Rattle.admission.proofs.hashes.admission_hashed.Goals as goal
 
 pub returns-then-count-ge-POINT_LIMIT : goal.returns-then-count-ge-POINT_LIMIT
@@ -22,5 +24,5 @@ unfolding admission_by
 returns-then-not-has_hash c = rule_passes Outcome.Refused _ _ _ (lt-leb _ _ c.if-count-ge-POINT_LIMIT.false)
     (rule_passes Outcome.Refused _ _ _ (ap not (sym c.in_range.ensures ∙ c.if-in_range.true))
     (rule_passes Outcome.Refused _ _ _
-    (unhashed_new c.args.p c.requires.all_hashed (sym c.has_hash.ensures ∙ not-true _ c.if-not-has_hash.true))
+    (unhashed_new c.args.p c.requires.all_hashed (sym c.has_hash.ensures ∙ not-true _ (ap not c.if-not-has_hash.true)))
     (no_rule Outcome.Refused _)))

@@ -17,7 +17,7 @@ use Rattle.sight.specs.Sight.{sought_at}
 use Rattle.sight.proofs.Indices.{ranged, corner_linked, corner_held}
 use Rattle.sight.proofs.Seeing.{tests_agree, unsought, SightAhead, at_first, passed_last, passed_one, at_end}
 use Rattle.sight.proofs.turning_from.Goals as goal
-use Rattle.sight.proofs.turning_from.Goals.{After-partner-helper, After-sees_edge-leaving, Joined-differ, Start}
+use Rattle.sight.proofs.turning_from.Goals.{then-differ, else-differ, After-partner-helper, After-sees_edge-leaving, Joined-differ, Start}
 
 pub is_visible-entering-requires : goal.is_visible-entering-requires
 is_visible-entering-requires c = ranged c.requires.outline
@@ -88,23 +88,22 @@ module _ (e : After-sees_edge-leaving) where
       ∙ (λ i. sees_edge (e.loop.invariant.2 i) (e.point_held-to.ensures i) e.args.p)
 
 module _ (c : Joined-differ) where
-  abbrev at-loop : tie.At-loop invariant-loop decreases-loop
-  at-loop = c
-
-  agree : c.differ.result ≡ false → at-loop.loop.entering ≡ c.sees_edge-leaving.result
+  agree : c.differ.result ≡ false → c.loop.entering ≡ c.sees_edge-leaving.result
   agree e = tests_agree _ _ (sym c.differ.ensures ∙ e)
 
-  left_sought : c.if-differ.false
-      ≡ sought_at at-loop.loop.left at-loop.loop.entering c.sees_edge-leaving.result at-loop.loop.a
+  left_sought : c.if-differ.left ≡ sought_at c.loop.left c.loop.entering c.sees_edge-leaving.result c.loop.a
   left_sought =
-      ⊎_elim (λ w. w.3 ∙ w.1.ensures)
-      (λ w. w.1 ∙ unsought at-loop.loop.left at-loop.loop.a (agree w.0.left)) c.if-differ.branch
+      elim c.if-differ.branch
+        [ then-differ w ↦ w.left-is ∙ w.sought_at-left.ensures
+        | else-differ w ↦ w.left-is ∙ unsought c.loop.left c.loop.a (agree w.if-differ.false)
+        ]
 
-  right_sought : c.if-differ.right
-      ≡ sought_at at-loop.loop.right c.sees_edge-leaving.result at-loop.loop.entering at-loop.loop.a
+  right_sought : c.if-differ.right ≡ sought_at c.loop.right c.sees_edge-leaving.result c.loop.entering c.loop.a
   right_sought =
-      ⊎_elim (λ w. w.4 ∙ w.2.ensures)
-      (λ w. w.2 ∙ unsought at-loop.loop.right at-loop.loop.a (sym (agree w.0.left))) c.if-differ.branch
+      elim c.if-differ.branch
+        [ then-differ w ↦ w.right-is ∙ w.sought_at-right.ensures
+        | else-differ w ↦ w.right-is ∙ unsought c.loop.right c.loop.a (sym (agree w.if-differ.false))
+        ]
 
 pub plus_one_if-visible-requires : goal.plus_one_if-visible-requires
 plus_one_if-visible-requires c = let inv = c.loop.invariant in

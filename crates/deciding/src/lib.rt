@@ -4,7 +4,7 @@
 #![tactic(auto)]
 
 ghost use Rattle.std.specs.Prelude.{◌≡◌};
-ghost use Rattle.model.specs.Maps.{map_lent, point_limit};
+ghost use Rattle.model.specs.Maps.{map_of, point_limit};
 ghost use Rattle.maps.specs.Places.{PlacesFor};
 ghost use Rattle.admission.specs.Hashes.{AllHashed};
 ghost use Rattle.deciding.specs.Verdicts.{verdict_by};
@@ -73,13 +73,11 @@ fn decide_line(
     line: Line,
 ) -> Tally
     requires { Decidable
-        (map_lent xs ys helpers edge arrivals lefts rights tally.count tally.reference)
+        (map_of xs.old ys.old helpers.old edge.old arrivals.old lefts.old rights.old tally.count tally.reference)
         hashes.old answers.old tally.lines line }
     ensures { DecidedLine
-        (map_lent xs.entry ys.entry helpers.entry edge.entry arrivals.entry
-        lefts.entry rights.entry tally.count tally.reference)
-        (map_lent xs.exit ys.exit helpers.exit edge.exit arrivals.exit
-        lefts.exit rights.exit result.count result.reference)
+        (map_of xs.old ys.old helpers.old edge.old arrivals.old lefts.old rights.old tally.count tally.reference)
+        (map_of xs.new ys.new helpers.new edge.new arrivals.new lefts.new rights.new result.count result.reference)
         hashes.new answers.old answers.new tally.lines result.lines
         line }
 {
@@ -129,11 +127,10 @@ pub fn survey(
     begun: Tally,
 ) -> Tally
     requires { Surveying text.now
-        (map_lent xs ys helpers edge arrivals lefts rights begun.count begun.reference)
+        (map_of xs.old ys.old helpers.old edge.old arrivals.old lefts.old rights.old begun.count begun.reference)
         hashes.old answers.old begun.lines 0 }
     ensures { Surveys text.now
-        (map_lent xs.exit ys.exit helpers.exit edge.exit arrivals.exit
-        lefts.exit rights.exit result.count result.reference)
+        (map_of xs.new ys.new helpers.new edge.new arrivals.new lefts.new rights.new result.count result.reference)
         answers.new result.lines }
 {
     let mut reader = Reader { text, at: 0 };

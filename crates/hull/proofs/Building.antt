@@ -117,7 +117,7 @@ built_from {m} s [] free = record { is_shaped = s; has_points = sym (append-nil 
 built_from {m} s (p ∷ ps) free =
     let both = none_both (admission_rules m p) free in
     let a = accepted_by p s both.0 in
-    let rest = built_from (arrive_sound a) ps both.1 in
+    let rest = built_from {m = (arrive m p).map} (arrive_sound a) ps both.1 in
     record {
       is_shaped = rest.is_shaped;
       has_points =

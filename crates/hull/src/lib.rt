@@ -2,7 +2,7 @@
 #![tactic(auto)]
 
 ghost use Rattle.std.specs.Prelude.{◌≡◌, ◌+◌, ◌≤◌};
-ghost use Rattle.model.specs.Maps.{map_lent};
+ghost use Rattle.model.specs.Maps.{map_of};
 ghost use Rattle.model.specs.Shape.{Shaped};
 ghost use Rattle.model.specs.Arrival.{admitted, arrive, arrived, later_point, refusing};
 ghost use Rattle.sight.specs.Requires.{Accepted};
@@ -107,13 +107,12 @@ pub fn grow(
     reference: usize,
     p: Point,
 ) -> Growth
-    requires { Accepted (map_lent xs ys helpers edge arrivals lefts rights count reference) p }
+    requires { Accepted (map_of xs.old ys.old helpers.old edge.old arrivals.old lefts.old rights.old count reference) p }
     ensures { arrived result.arrival
-        (map_lent xs.exit ys.exit helpers.exit edge.exit arrivals.exit lefts.exit rights.exit
+        (map_of xs.new ys.new helpers.new edge.new arrivals.new lefts.new rights.new
         (count + 1) result.reference)
         ≡ arrive
-        (map_lent xs.entry ys.entry helpers.entry edge.entry arrivals.entry lefts.entry
-        rights.entry count reference) p }
+        (map_of xs.old ys.old helpers.old edge.old arrivals.old lefts.old rights.old count reference) p }
 {
     if count == 0 {
         put_point(xs, ys, count, p);
@@ -150,14 +149,13 @@ fn grow_later(
     reference: usize,
     p: Point,
 ) -> Growth
-    requires accepted { Accepted (map_lent xs ys helpers edge arrivals lefts rights count reference) p }
+    requires accepted { Accepted (map_of xs.old ys.old helpers.old edge.old arrivals.old lefts.old rights.old count reference) p }
     requires le_count { 2 ≤ count }
     ensures { arrived result.arrival
-        (map_lent xs.exit ys.exit helpers.exit edge.exit arrivals.exit lefts.exit rights.exit
+        (map_of xs.new ys.new helpers.new edge.new arrivals.new lefts.new rights.new
         (count + 1) result.reference)
         ≡ later_point
-        (map_lent xs.entry ys.entry helpers.entry edge.entry arrivals.entry lefts.entry
-        rights.entry count reference) p }
+        (map_of xs.old ys.old helpers.old edge.old arrivals.old lefts.old rights.old count reference) p }
 {
     let seen = seen_from(xs, ys, edge, count, reference, p);
     let left = seen.left;

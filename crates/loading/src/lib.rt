@@ -6,7 +6,7 @@ mod reading;
 
 ghost use Rattle.std.specs.Prelude.{◌≡◌, T, length};
 ghost use Rattle.finite.specs.Lists.{same_list};
-ghost use Rattle.model.specs.Maps.{empty_map, map_lent, no_dart};
+ghost use Rattle.model.specs.Maps.{empty_map, map_lent, map_of, no_dart};
 ghost use Rattle.model.specs.Shape.{Shaped};
 ghost use Rattle.model.specs.Saved.{count_in_file, file_in_form, saved_in, saved_length};
 ghost use Rattle.loading.specs.Opening.{Opens, opened};
@@ -85,9 +85,9 @@ fn read(
     rights: &mut [u16; POINT_LIMIT],
 ) -> Anew
     requires t { T (file_in_form file.now) × (count ≡ count_in_file file.now) }
-    requires no_dart_value { map_lent xs ys helpers edge arrivals lefts rights 0 no_dart ≡ empty_map }
+    requires no_dart_value { map_of xs.old ys.old helpers.old edge.old arrivals.old lefts.old rights.old 0 no_dart ≡ empty_map }
     ensures { Opens file.now result.complete
-        (map_lent xs.exit ys.exit helpers.exit edge.exit arrivals.exit lefts.exit rights.exit
+        (map_of xs.new ys.new helpers.new edge.new arrivals.new lefts.new rights.new
         count result.reference) }
 {
     let mut across = [0i64; POINT_LIMIT];
@@ -127,8 +127,7 @@ fn writes<'a>(
 ) -> bool
     requires shaped { Shaped (map_lent xs ys helpers edge arrivals lefts rights count reference) }
     requires file_len { length file.now ≡ saved_length version count }
-    ensures { result ≡ same_list (saved_in version (map_lent xs.entry ys.entry helpers.entry edge.entry
-        arrivals.entry lefts.entry rights.entry count reference)) file.now }
+    ensures { result ≡ same_list (saved_in version (map_lent xs ys helpers edge arrivals lefts rights count reference)) file.now }
 {
     let mut written = [0u8; FILE_LIMIT];
     write_arrays(

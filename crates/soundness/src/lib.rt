@@ -3,7 +3,7 @@
 
 ghost use Rattle.std.specs.Prelude.{◌≡◌};
 ghost use Rattle.finite.specs.Bounded.{table};
-ghost use Rattle.model.specs.Maps.{empty_map, map_lent, no_dart, point_at};
+ghost use Rattle.model.specs.Maps.{empty_map, map_of, no_dart, point_at};
 ghost use Rattle.model.specs.Sound.{agree, sound};
 ghost use Rattle.soundness.specs.Rebuilding.{Rebuilds};
 
@@ -77,10 +77,9 @@ pub fn rebuild<'a>(
     lefts: &mut [u16; POINT_LIMIT],
     rights: &mut [u16; POINT_LIMIT],
 ) -> Anew
-    requires { map_lent xs ys helpers edge arrivals lefts rights 0 no_dart ≡ empty_map }
+    requires { map_of xs.old ys.old helpers.old edge.old arrivals.old lefts.old rights.old 0 no_dart ≡ empty_map }
     ensures { Rebuilds (table count (point_at across.now upward.now)) result.complete
-        (map_lent xs.exit ys.exit helpers.exit edge.exit arrivals.exit lefts.exit
-        rights.exit count result.reference) }
+        (map_of xs.new ys.new helpers.new edge.new arrivals.new lefts.new rights.new count result.reference) }
 {
     let mut reference = NO_DART;
     let mut hashes = no_hashes();

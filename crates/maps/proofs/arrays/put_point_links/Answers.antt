@@ -24,7 +24,7 @@ module _ (c : After-helped-1) where
   small = byte_small (helped c.loop-k.k)
 
 pub loop-k-preserved : goal.loop-k-preserved
-loop-k-preserved c = let l = at-loop c in pair_filled (helped (goal.at.loop-k-preserved c).After-helped-1) l.loop.k l.loop.inv (omega arith)
+loop-k-preserved c = pair_filled (helped (goal.at.loop-k-preserved c).After-helped-1) c.loop-k.k c.loop-k.invariant (omega arith)
 
 pub returns : goal.returns
 returns c = all_filled (own c.loop-k.k) c.loop-k.invariant (omega arith)

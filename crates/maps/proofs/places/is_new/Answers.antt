@@ -9,11 +9,9 @@ use Rattle.model.specs.Plane.{same_point}
 use Rattle.model.specs.Maps.{point_at}
 use Rattle.finite.specs.Loops.{Passed, Iteration, none_passed, one_passed, one_failed, all_passed}
 use Rattle.finite.specs.Loops.{below, not_twice}
+use Rattle.maps.proofs.places.is_new.Invariants.{here}
 use Rattle.maps.proofs.places.is_new.Goals as goal
 use Rattle.maps.proofs.places.is_new.Goals.{After-is_at}
-
-abbrev here : List ℤ → List ℤ → Point → ℕ → Bool
-here xs ys p j = not (same_point (point_at xs ys j) p)
 
 pub loop-j-init : goal.loop-j-init
 loop-j-init c = none_passed _ 0
@@ -26,7 +24,7 @@ module _ (c : After-is_at) where
   iteration = record { passed = c.loop-j.invariant; found = ap not c.is_at.ensures }
 
 pub returns-then-is_at : goal.returns-then-is_at
-returns-then-is_at c = one_failed (iteration (goal.at.returns-then-is_at c).After-is_at) (below (at_start c).args.n _) (omega arith) (not_twice c.if-is_at.true)
+returns-then-is_at c = one_failed (iteration (goal.at.returns-then-is_at c).After-is_at) (below c.args.n _) (omega arith) (not_twice c.if-is_at.true)
 
 pub loop-j-preserved : goal.loop-j-preserved
 loop-j-preserved c = one_passed (iteration (goal.at.loop-j-preserved c).After-is_at) (not_twice c.if-is_at.false)

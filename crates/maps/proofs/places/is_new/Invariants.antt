@@ -12,5 +12,8 @@ use Rattle.finite.specs.Loops.{Passed, Iteration, none_passed, one_passed, one_f
 use Rattle.finite.specs.Loops.{below, not_twice}
 use Rattle.maps.proofs.places.is_new.Given as goal
 
+abbrev pub here : List ℤ → List ℤ → Point → ℕ → Bool
+here xs ys p j = not (same_point (point_at xs ys j) p)
+
 abbrev pub invariant-loop-j : goal.invariant-loop-j
 invariant-loop-j l = Passed (here l.xs l.ys l.p) 0 l.j

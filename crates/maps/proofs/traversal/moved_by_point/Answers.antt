@@ -15,12 +15,12 @@ use Rattle.maps.proofs.traversal.moved_by_point.Goals.{After-moved}
 module _ (c : After-moved) where
 
   abbrev map : Map
-  map = c.args.t1
+  map = c.args.m
 
   helpers_whole : length map.helpers ≡ point_limit
   helpers_whole = search rules
 
-  leads : link_of c.put_point_links.new.1.0 ≡ point_link map
+  leads : link_of c.put_point_links.new.links ≡ point_link map
   unfolding point_link has_helper
   leads = ap link_of c.put_point_links.ensures ∙ point_table map helpers_whole
 
@@ -28,4 +28,4 @@ pub slice_bounds-moved-end : goal.slice_bounds-moved-end
 slice_bounds-moved-end c = sym (ap length c.put_point_links.ensures ∙ length_table _ _)
 
 pub returns : goal.returns
-returns c = c.moved.ensures ∙ (λ i. walker_at (leads (goal.at.returns c).After-moved i (start c).args.walker.dart))
+returns c = c.moved.ensures ∙ (λ i. walker_at (leads (goal.at.returns c).After-moved i c.args.walker.dart))

@@ -18,12 +18,12 @@ module _ (c : After-dart_count-darts) where
 
 
   abbrev map : Map
-  map = c.args.t1
+  map = c.args.m
 
   helpers_whole : length map.helpers ≡ point_limit
   helpers_whole = search rules
 
-  leads : link_of c.put_point_links.last.1.0 ≡ point_link map
+  leads : link_of c.put_point_links.new.links ≡ point_link map
   unfolding point_link has_helper
   leads = ap link_of c.put_point_links.ensures ∙ point_table map helpers_whole
 
@@ -32,9 +32,8 @@ module _ (c : After-dart_count-darts) where
   darts_are = c.dart_count-darts.ensures
 
 pub slice_bounds-walk-end-2 : goal.slice_bounds-walk-end-2
-slice_bounds-walk-end-2 c = let f = filled c in
-    sym (ap length f.put-point-links.ensures ∙ length_table _ _)
+slice_bounds-walk-end-2 c = sym (ap length c.put_point_links.ensures ∙ length_table _ _)
 
 pub returns : goal.returns
 unfolding edge_link
-returns c = c.walk.ensures ∙ (λ i. walk (edge_link (map (goal.at.returns c).After-dart_count-darts)) (leads (goal.at.returns c).After-dart_count-darts i) (darts_are (goal.at.returns c).After-dart_count-darts i) (start d).args.d)
+returns c = c.walk.ensures ∙ (λ i. walk (edge_link (map (goal.at.returns c).After-dart_count-darts)) (leads (goal.at.returns c).After-dart_count-darts i) (darts_are (goal.at.returns c).After-dart_count-darts i) c.args.d)

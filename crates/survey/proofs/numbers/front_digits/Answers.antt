@@ -1,25 +1,21 @@
 use mathlib.Core.Path.{◌≡◌, sym, ◌∙◌}
-use mathlib.Core.Logic.{⊎_elim}
 use mathlib.Core.Bool.{true}
 use mathlib.Core.List.{List, []}
-use Prim.Native.Nat.{ℕ, ◌+◌, ◌*◌, ◌^◌, ◌<◌, ◌≤◌, ◌-◌}
-use lib.ListN.{get_or, length, drop}
+use Prim.Native.Nat.{ℕ, ◌+◌, ◌*◌, ◌^◌, ◌<◌, ◌-◌}
+use lib.ListN.{get_or, drop}
 use native.Mathlib.Omega.{arith}
-use borrow.Author.Tests.{not-true, not-false}
 use Rattle.finite.specs.Tests.{of_true}
 use Rattle.model.specs.Spelling.{digit_zero}
 use Rattle.model.specs.Text.{digit_limit, is_digit, leading_digits}
 use Rattle.survey.proofs.Digits.{Valued, valued_none, valued_more, valued_end, valued_stop, below_limit, magnitude_digits, magnitude_none, read_empty, read_value, read_zero}
 use Rattle.survey.proofs.numbers.front_digits.Goals as goal
-use Rattle.survey.proofs.numbers.front_digits.Goals.{Else-not-is_digit, Left-loop-count}
+use Rattle.survey.proofs.numbers.front_digits.Goals.{Else-not-is_digit, Left-loop-count, else-loop-count-test, then-loop-count-test+then-not-is_digit}
 
 pub loop-count-init : goal.loop-count-init
 loop-count-init c = (valued_none _, omega arith)
 
 -- a digit was found at place `count`
 module _ (c : Else-not-is_digit) where
-
-
   abbrev list : List ℕ
   list = c.args.s.now
 
@@ -27,7 +23,7 @@ module _ (c : Else-not-is_digit) where
   byte = get_or list c.loop-count.count 0
 
   found : is_digit byte ≡ true
-  found = sym c.is_digit.ensures ∙ not-false _ c.if-not-is_digit.false
+  found = sym c.is_digit.ensures ∙ c.if-not-is_digit.false
 
   next : Valued list (c.loop-count.value * 10 + (byte - digit_zero)) (c.loop-count.count + 1)
   next = valued_more c.loop-count.invariant.0 c.loop-count-test.true found
@@ -56,10 +52,10 @@ no_more : (c : Left-loop-count) →
     leading_digits (drop c.loop-count.count c.args.s.now) ≡ []
 no_more c =
     let w = c.loop-count.invariant.0 in
-    ⊎_elim
-    (λ t. valued_end w t.left)
-    (λ t. valued_stop w t.0.taken (sym t.2.ensures ∙ not-true _ t.3.taken))
-    c.loop-count-test.branch
+    elim c.loop-count-test.branch [
+      | else-loop-count-test t ↦ valued_end w t.loop-count-test.false
+      | then-loop-count-test+then-not-is_digit t ↦ valued_stop w t.loop-count-test.true (sym t.is_digit.ensures ∙ t.if-not-is_digit.true)
+    ]
 
 pub returns-then-count-eq0 : goal.returns-then-count-eq0
 returns-then-count-eq0 c = sym (read_empty c.loop-count.invariant.0 (no_more (goal.at.returns-then-count-eq0 c).Left-loop-count) c.if-count-eq0.true)

@@ -19,16 +19,20 @@ pub overflow_mul-result : goal.overflow_mul-result
 overflow_mul-result c = let s = small (goal.at.overflow_mul-result c).In-Outside in omega arith
 
 pub overflow_add-result-in-Outside : goal.overflow_add-result-in-Outside
-overflow_add-result-in-Outside c = let s = small (goal.at.overflow_add-result-in-Outside c).In-Outside in omega arith
+overflow_add-result-in-Outside c =
+    let s = small (goal.at.overflow_add-result-in-Outside c).In-Outside in omega arith
 
 pub overflow_mul-result-in-Outside : goal.overflow_mul-result-in-Outside
-overflow_mul-result-in-Outside c = let s = small (goal.at.overflow_mul-result-in-Outside c).In-Outside in omega arith
+overflow_mul-result-in-Outside c =
+    let s = small (goal.at.overflow_mul-result-in-Outside c).In-Outside in omega arith
 
 pub overflow_add-result-in-Outside-2 : goal.overflow_add-result-in-Outside-2
-overflow_add-result-in-Outside-2 c = let s = small (goal.at.overflow_add-result-in-Outside-2 c).In-Outside in omega arith
+overflow_add-result-in-Outside-2 c =
+    let s = small (goal.at.overflow_add-result-in-Outside-2 c).In-Outside in omega arith
 
 pub overflow_cast-result-in-Outside : goal.overflow_cast-result-in-Outside
-overflow_cast-result-in-Outside c = let s = small (goal.at.overflow_cast-result-in-Outside c).In-Outside in omega arith
+overflow_cast-result-in-Outside c =
+    let s = small (goal.at.overflow_cast-result-in-Outside c).In-Outside in omega arith
 
 pub overflow_cast-result-in-Refused : goal.overflow_cast-result-in-Refused
 overflow_cast-result-in-Refused c = omega (

@@ -34,7 +34,8 @@ returns-then-i-ends-2 c = corners_length c.args.answers.now _ c.args.ends _ c.va
     c.if-i-ends-2.true)
 
 pub overflow_add-result-2 : goal.overflow_add-result-2
-overflow_add-result-2 c = omega (arith, c.values_length-2.ensures, spaced_length (counts_values c.args.ends.counts))
+overflow_add-result-2 c =
+    omega (arith, c.values_length-2.ensures, spaced_length (counts_values c.args.ends.counts))
 
 pub returns : goal.returns
 returns c = counts_length c.args.answers.now c.args.corners.now c.args.ends _

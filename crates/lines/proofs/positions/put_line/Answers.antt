@@ -41,7 +41,8 @@ put_arrival-requires c = room_as (line_read (goal.at.put_arrival-requires c).Aft
     c.requires
 
 pub returns-then-i-ends : goal.returns-then-i-ends
-returns-then-i-ends c = wrote_as (line_read (goal.at.returns-then-i-ends c).After-unpacked) c.put_arrival.ensures
+returns-then-i-ends c =
+    wrote_as (line_read (goal.at.returns-then-i-ends c).After-unpacked) c.put_arrival.ensures
 
 pub put_answer-requires : goal.put_answer-requires
 unfolding bytes

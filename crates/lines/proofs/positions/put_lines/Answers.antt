@@ -17,7 +17,8 @@ put_line-end-requires c = put_room _ _ _ _ _ c.loop-next.invariant _
     c.line_length-length.ensures c.if-lent-end.false
 
 pub loop-next-preserved : goal.loop-next-preserved
-loop-next-preserved c = put_next _ _ _ _ _ c.loop-next.invariant _ c.line_length-length.ensures c.if-lent-end.false
+loop-next-preserved c =
+    put_next _ _ _ _ _ c.loop-next.invariant _ c.line_length-length.ensures c.if-lent-end.false
     (omega (arith, c.loop-next-test.true, c.line_count-count.ensures))
     c.put_line-end.ensures
 

@@ -18,12 +18,15 @@ before_end c =
 pub overflow_add-total : goal.overflow_add-total
 overflow_add-total c = omega (
   arith,
-  total_most _ _ _ c.loop-j.invariant (before_end (goal.at.overflow_add-total c).After-line_length-total) _ c.line_length-total.ensures
+  total_most _ _ _ c.loop-j.invariant (before_end (goal.at.overflow_add-total c).After-line_length-total)
+      _ c.line_length-total.ensures
       c.requires.corners_len_bound c.requires.printable,
 )
 
 pub loop-j-preserved : goal.loop-j-preserved
-loop-j-preserved c = one_totalled _ _ _ c.loop-j.invariant (before_end (goal.at.loop-j-preserved c).After-line_length-total) _ c.line_length-total.ensures
+loop-j-preserved c =
+    one_totalled _ _ _ c.loop-j.invariant (before_end
+    (goal.at.loop-j-preserved c).After-line_length-total) _ c.line_length-total.ensures
 
 pub returns : goal.returns
 returns c = totalled_all c.loop-j.invariant c.line_count-count.ensures

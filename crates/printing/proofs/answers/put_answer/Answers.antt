@@ -33,7 +33,9 @@ both c =
 
 pub put_byte-requires : goal.put_byte-requires
 unfolding answer_line
-put_byte-requires c = room_second (both (goal.at.put_byte-requires c).After-put_values-after_values) (line_feed ∷ []) c.requires
+put_byte-requires c =
+    room_second (both (goal.at.put_byte-requires c).After-put_values-after_values) (line_feed ∷ [])
+    c.requires
 
 pub returns : goal.returns
 unfolding answer_line

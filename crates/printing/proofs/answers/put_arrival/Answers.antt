@@ -12,7 +12,8 @@ use Rattle.printing.proofs.answers.put_arrival.Goals.{After-put_natural-after_nu
 
 pub put_natural-after_number-requires : goal.put_natural-after_number-requires
 unfolding arrival_line
-put_natural-after_number-requires c = room_first (spelt (pos c.args.line)) (space ∷ printed (arrival_answer c.args.arrival)) c.requires
+put_natural-after_number-requires c =
+    room_first (spelt (pos c.args.line)) (space ∷ printed (arrival_answer c.args.arrival)) c.requires
 
 -- room after the number
 rest_room : (c : After-put_natural-after_number) →
@@ -22,12 +23,17 @@ unfolding arrival_line
 rest_room c = room_second c.put_natural-after_number.ensures _ c.requires
 
 pub put_byte-answer-requires : goal.put_byte-answer-requires
-put_byte-answer-requires c = room_first (space ∷ []) _ (rest_room (goal.at.put_byte-answer-requires c).After-put_natural-after_number)
+put_byte-answer-requires c =
+    room_first (space ∷ []) _ (rest_room (goal.at.put_byte-answer-requires
+    c).After-put_natural-after_number)
 
 pub put_arrival_answer-requires : goal.put_arrival_answer-requires
-put_arrival_answer-requires c = room_second c.put_byte-answer.ensures _ (rest_room (goal.at.put_arrival_answer-requires c).After-put_natural-after_number)
+put_arrival_answer-requires c =
+    room_second c.put_byte-answer.ensures _ (rest_room
+    (goal.at.put_arrival_answer-requires c).After-put_natural-after_number)
 
 pub returns : goal.returns
 unfolding arrival_line
 returns c = wrote_then c.put_natural-after_number.ensures c.requires
-    (wrote_then c.put_byte-answer.ensures (rest_room (goal.at.returns c).After-put_natural-after_number) c.put_arrival_answer.ensures)
+    (wrote_then c.put_byte-answer.ensures (rest_room (goal.at.returns c).After-put_natural-after_number)
+    c.put_arrival_answer.ensures)

@@ -13,10 +13,13 @@ unfolding answer_line spaced
 line_is word = ap (λ (s : List ℕ). s ++ line_feed ∷ []) (append-nil word)
 
 pub put_word-after_word-requires : goal.put_word-after_word-requires
-put_word-after_word-requires c = room_first c.args.word.now (line_feed ∷ []) (room_as (line_is c.args.word.now) c.requires)
+put_word-after_word-requires c =
+    room_first c.args.word.now (line_feed ∷ []) (room_as (line_is c.args.word.now) c.requires)
 
 pub put_byte-requires : goal.put_byte-requires
-put_byte-requires c = room_second c.put_word-after_word.ensures (line_feed ∷ []) (room_as (line_is c.args.word.now) c.requires)
+put_byte-requires c =
+    room_second c.put_word-after_word.ensures (line_feed ∷ [])
+    (room_as (line_is c.args.word.now) c.requires)
 
 pub returns : goal.returns
 returns c = let whole = line_is c.args.word.now in

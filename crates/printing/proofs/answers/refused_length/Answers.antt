@@ -23,7 +23,8 @@ whole c =
     )
 
 pub overflow_add-result : goal.overflow_add-result
-overflow_add-result c = omega (arith, whole (goal.at.overflow_add-result c).After-values_length, refused_most c.args.refusal)
+overflow_add-result c =
+    omega (arith, whole (goal.at.overflow_add-result c).After-values_length, refused_most c.args.refusal)
 
 pub returns : goal.returns
 returns c = whole (goal.at.returns c).After-values_length

@@ -35,10 +35,22 @@ few c =
     )
 
 pub overflow_add-total : goal.overflow_add-total
-overflow_add-total c = omega (arith, next (goal.at.overflow_add-total c).After-natural_length, few (goal.at.overflow_add-total c).After-natural_length)
+overflow_add-total c =
+    omega (
+      arith,
+      next (goal.at.overflow_add-total c).After-natural_length,
+      few
+          (goal.at.overflow_add-total c).After-natural_length,
+    )
 
 pub overflow_add-total-in-loop-i : goal.overflow_add-total-in-loop-i
-overflow_add-total-in-loop-i c = omega (arith, next (goal.at.overflow_add-total-in-loop-i c).After-natural_length, few (goal.at.overflow_add-total-in-loop-i c).After-natural_length)
+overflow_add-total-in-loop-i c =
+    omega (
+      arith,
+      next (goal.at.overflow_add-total-in-loop-i c).After-natural_length,
+      few
+          (goal.at.overflow_add-total-in-loop-i c).After-natural_length,
+    )
 
 pub loop-i-preserved : goal.loop-i-preserved
 loop-i-preserved c = (next (goal.at.loop-i-preserved c).After-natural_length, omega arith)

@@ -20,15 +20,26 @@ pub overflow_sub-result : goal.overflow_sub-result
 overflow_sub-result c = complement_fits c.ranges.z (negative (goal.at.overflow_sub-result c).Then-z-lt0)
 
 pub overflow_cast-result : goal.overflow_cast-result
-overflow_cast-result c = rw (complement_read c.ranges.z (negative (goal.at.overflow_cast-result c).Then-z-lt0))
-    (tt, record { fits = omega (arith, (complement_less c.ranges.z (negative (goal.at.overflow_cast-result c).Then-z-lt0)).1) })
+overflow_cast-result c =
+    rw (complement_read c.ranges.z (negative (goal.at.overflow_cast-result c).Then-z-lt0)) (
+      tt,
+      record {
+        fits = omega (
+          arith,
+          (complement_less c.ranges.z
+              (negative (goal.at.overflow_cast-result c).Then-z-lt0)).1,
+        );
+      },
+    )
 
 pub overflow_add-result : goal.overflow_add-result
 overflow_add-result c = rw (complement_read c.ranges.z (negative (goal.at.overflow_add-result c).Then-z-lt0))
     (omega (arith, (complement_less c.ranges.z (negative (goal.at.overflow_add-result c).Then-z-lt0)).1))
 
 pub overflow_cast-result-else-z-lt0 : goal.overflow_cast-result-else-z-lt0
-overflow_cast-result-else-z-lt0 c = rw (to_z-of_z c.ranges.z) (plain_cast c.args.z c.ranges.z (plain (goal.at.overflow_cast-result-else-z-lt0 c).Else-z-lt0))
+overflow_cast-result-else-z-lt0 c =
+    rw (to_z-of_z c.ranges.z) (plain_cast c.args.z c.ranges.z
+    (plain (goal.at.overflow_cast-result-else-z-lt0 c).Else-z-lt0))
 
 pub returns-then-z-lt0 : goal.returns-then-z-lt0
 returns-then-z-lt0 c = rw (complement_read c.ranges.z (negative (goal.at.returns-then-z-lt0 c).Then-z-lt0))

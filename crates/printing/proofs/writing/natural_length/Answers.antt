@@ -31,7 +31,8 @@ pub overflow_add-count : goal.overflow_add-count
 overflow_add-count c = omega (arith, spelt_length c.args.n)
 
 pub loop-rest-preserved : goal.loop-rest-preserved
-loop-rest-preserved c = (omega (arith, length_more c.loop-rest.rest c.loop-rest-test.true (omega arith)), omega arith)
+loop-rest-preserved c =
+    (omega (arith, length_more c.loop-rest.rest c.loop-rest-test.true (omega arith)), omega arith)
 
 pub returns : goal.returns
 returns c = omega (arith, length_one c.loop-rest.rest c.loop-rest-test.false)

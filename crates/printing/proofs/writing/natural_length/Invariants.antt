@@ -8,7 +8,8 @@ use Rattle.model.specs.Spelling.{spelt}
 use Rattle.printing.proofs.writing.natural_length.Given as goal
 
 abbrev pub invariant-loop-rest : goal.invariant-loop-rest
-invariant-loop-rest l = (l.count + length (spelt (pos l.rest)) ≡ 1 + length (spelt (pos l.n))) × (l.rest ≤ l.n)
+invariant-loop-rest l =
+    (l.count + length (spelt (pos l.rest)) ≡ 1 + length (spelt (pos l.n))) × (l.rest ≤ l.n)
 
 abbrev pub decreases-loop-rest : goal.decreases-loop-rest
 decreases-loop-rest l = l.rest

@@ -8,7 +8,8 @@ use Rattle.printing.proofs.Overwriting.{room_first, room_second, wrote_then, roo
 use Rattle.printing.proofs.writing.put_number.Goals as goal
 
 pub put_byte-digits-requires : goal.put_byte-digits-requires
-put_byte-digits-requires c = room_first (minus ∷ []) _ (room_as (signed_spelling c.ranges.z refl c.if-z-lt0.true)
+put_byte-digits-requires c =
+    room_first (minus ∷ []) _ (room_as (signed_spelling c.ranges.z refl c.if-z-lt0.true)
     c.requires)
 
 pub put_natural-requires : goal.put_natural-requires
@@ -16,7 +17,8 @@ put_natural-requires c = room_second c.put_byte-digits.ensures _
     (room_as (signed_spelling c.ranges.z c.magnitude.ensures c.if-z-lt0.true) c.requires)
 
 pub put_natural-requires-else-z-lt0 : goal.put_natural-requires-else-z-lt0
-put_natural-requires-else-z-lt0 c = room_as (plain_spelling c.ranges.z c.magnitude-else-z-lt0.ensures c.if-z-lt0.false) c.requires
+put_natural-requires-else-z-lt0 c =
+    room_as (plain_spelling c.ranges.z c.magnitude-else-z-lt0.ensures c.if-z-lt0.false) c.requires
 
 pub returns-then-z-lt0 : goal.returns-then-z-lt0
 returns-then-z-lt0 c = let whole = signed_spelling c.ranges.z c.magnitude.ensures c.if-z-lt0.true in

@@ -43,7 +43,8 @@ returns-then-text-stop-eq10 c =
 
 pub returns-else-text-stop-eq10 : goal.returns-else-text-stop-eq10
 returns-else-text-stop-eq10 c = c.refused_from.ensures
-    ∙ second_followed _ _ (some (goal.at.returns-else-text-stop-eq10 c).In-Value) _ c.if-text-stop.false c.if-text-stop-eq10.false
+    ∙ second_followed _ _ (some (goal.at.returns-else-text-stop-eq10 c).In-Value) _ c.if-text-stop.false
+    c.if-text-stop-eq10.false
 
 pub returns-in-Malformed : goal.returns-in-Malformed
 returns-in-Malformed c = c.refused_from-in-Malformed.ensures

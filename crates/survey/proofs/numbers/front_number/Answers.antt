@@ -41,10 +41,12 @@ begins c =
     ]
 
 pub slice_bounds-front_digits-count : goal.slice_bounds-front_digits-count
-slice_bounds-front_digits-count c = (begins (goal.at.slice_bounds-front_digits-count c).Joined-negative).inside
+slice_bounds-front_digits-count c =
+    (begins (goal.at.slice_bounds-front_digits-count c).Joined-negative).inside
 
 pub slice_bounds-front_digits-start : goal.slice_bounds-front_digits-start
-slice_bounds-front_digits-start c = (begins (goal.at.slice_bounds-front_digits-start c).Joined-negative).inside
+slice_bounds-front_digits-start c =
+    (begins (goal.at.slice_bounds-front_digits-start c).Joined-negative).inside
 
 -- the magnitude as the machine has it after the cast, and its negation
 module _ (m : ℕ) (small : m < 10 ^ digit_limit) where
@@ -72,32 +74,45 @@ module _ (c : In-Value) where
   what = reads_value _ value count has
 
 pub returns-then-value-eq0 : goal.returns-then-value-eq0
-returns-then-value-eq0 c = sym (front_minus_zero _ _ (begins (goal.at.returns-then-value-eq0 c).Joined-negative).part _ _ (has (goal.at.returns-then-value-eq0 c).In-Value)
-    (sign (goal.at.returns-then-value-eq0 c).Joined-negative ∙ c.if-negative-2.true) c.if-value-eq0.true)
+returns-then-value-eq0 c =
+    let told = (goal.at.returns-then-value-eq0 c).In-Value in
+    let at_first = (goal.at.returns-then-value-eq0 c).Joined-negative in
+    sym (front_minus_zero _ _ (begins at_first).part _ _ (has told)
+    (sign at_first ∙ c.if-negative-2.true) c.if-value-eq0.true)
 
 pub overflow_cast-result : goal.overflow_cast-result
-overflow_cast-result c = fits w64 tt (magnitude _ (what (goal.at.overflow_cast-result c).In-Value).small)
+overflow_cast-result c =
+    fits w64 tt (magnitude _ (what (goal.at.overflow_cast-result c).In-Value).small)
 
 pub overflow_sub-result : goal.overflow_sub-result
-overflow_sub-result c = fits w64 tt (negation _ (what (goal.at.overflow_sub-result c).In-Value).small)
+overflow_sub-result c =
+    fits w64 tt (negation _ (what (goal.at.overflow_sub-result c).In-Value).small)
 
 pub overflow_add-result : goal.overflow_add-result
 overflow_add-result c = omega (arith, (what (goal.at.overflow_add-result c).In-Value).few)
 
 pub returns-then-negative-2 : goal.returns-then-negative-2
-returns-then-negative-2 c = ap (λ (z : ℤ). spelled z (count (goal.at.returns-then-negative-2 c).In-Value + 1)) ((back w64 tt (negation _ (what (goal.at.returns-then-negative-2 c).In-Value).small)).is
-    ∙ zero_-ℤ (pos (value (goal.at.returns-then-negative-2 c).In-Value)))
-    ∙ sym (front_negative _ _ (begins (goal.at.returns-then-negative-2 c).Joined-negative).part _ _ (has (goal.at.returns-then-negative-2 c).In-Value)
-    (sign (goal.at.returns-then-negative-2 c).Joined-negative ∙ c.if-negative-2.true) c.if-value-eq0.false)
+returns-then-negative-2 c =
+    let told = (goal.at.returns-then-negative-2 c).In-Value in
+    let at_first = (goal.at.returns-then-negative-2 c).Joined-negative in
+    ap (λ (z : ℤ). spelled z (count told + 1)) ((back w64 tt (negation _ (what told).small)).is
+    ∙ zero_-ℤ (pos (value told)))
+    ∙ sym (front_negative _ _ (begins at_first).part _ _ (has told)
+    (sign at_first ∙ c.if-negative-2.true) c.if-value-eq0.false)
 
 pub overflow_cast-result-in-Value : goal.overflow_cast-result-in-Value
-overflow_cast-result-in-Value c = fits w64 tt (magnitude _ (what (goal.at.overflow_cast-result-in-Value c).In-Value).small)
+overflow_cast-result-in-Value c =
+    fits w64 tt (magnitude _ (what (goal.at.overflow_cast-result-in-Value c).In-Value).small)
 
 pub returns-else-negative-2 : goal.returns-else-negative-2
-returns-else-negative-2 c = ap (λ (z : ℤ). spelled z (count (goal.at.returns-else-negative-2 c).In-Value)) (back w64 tt (magnitude _ (what (goal.at.returns-else-negative-2 c).In-Value).small)).is
-    ∙ sym (front_positive _ _ (begins (goal.at.returns-else-negative-2 c).Joined-negative).part _ _ (has (goal.at.returns-else-negative-2 c).In-Value)
-    (sign (goal.at.returns-else-negative-2 c).Joined-negative ∙ c.if-negative-2.false))
+returns-else-negative-2 c =
+    let told = (goal.at.returns-else-negative-2 c).In-Value in
+    let at_first = (goal.at.returns-else-negative-2 c).Joined-negative in
+    ap (λ (z : ℤ). spelled z (count told)) (back w64 tt (magnitude _ (what told).small)).is
+    ∙ sym (front_positive _ _ (begins at_first).part _ _ (has told)
+    (sign at_first ∙ c.if-negative-2.false))
 
 pub returns-in-Malformed : goal.returns-in-Malformed
-returns-in-Malformed c = sym (front_malformed _ _ (begins (goal.at.returns-in-Malformed c).Joined-negative).part
+returns-in-Malformed c =
+    sym (front_malformed _ _ (begins (goal.at.returns-in-Malformed c).Joined-negative).part
     (sym c.in-Malformed.ensures))

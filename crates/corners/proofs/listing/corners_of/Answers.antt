@@ -41,9 +41,6 @@ bounds-points-listed c = omega (arith, c.loop.invariant.few, (sound (goal.at.bou
 pub overflow_add-listed : goal.overflow_add-listed
 overflow_add-listed c = omega (arith, c.loop.invariant.few, (sound (goal.at.overflow_add-listed c).After-lowest_corner-first).links.fits, c.loop-test.true)
 
-pub OLD-overflow-add-counter : goal.OLD-overflow-add-counter
-OLD-overflow-add-counter c = omega (arith, c.loop-test.true, (sound (goal.at.OLD-overflow-add-counter c).After-lowest_corner-first).links.fits)
-
 pub loop-smaller : goal.loop-smaller
 loop-smaller c = omega (arith, c.loop-test.true)
 

@@ -8,16 +8,6 @@ use Rattle.corners.proofs.listing.lowest_corner.Goals.{After-next_corner-a}
 pub loop-init : goal.loop-init
 loop-init c = seeking_first _ _ _ _ _ (sub-zero _)
 
--- an iteration, in which the lower of two corners and the next corner were found
-module _ (c : After-next_corner-a) where
-
-
-  abbrev at_start : tie.Start invariant-loop decreases-loop
-  at_start = c
-
-pub OLD-overflow-add-counter : goal.OLD-overflow-add-counter
-OLD-overflow-add-counter c = omega (arith, c.loop-test.true, (at_start (goal.at.OLD-overflow-add-counter c).After-next_corner-a).requires)
-
 pub loop-smaller : goal.loop-smaller
 loop-smaller c = omega (arith, c.loop-test.true)
 

@@ -13,9 +13,6 @@ bounds-lent-i c = omega (arith, c.loop-i.invariant.0.long)
 pub loop-i-preserved : goal.loop-i-preserved
 loop-i-preserved c = (one_copied c.loop-i.invariant.0 0 (omega arith) (omega arith) (omega arith), omega arith)
 
-pub OLD-same-length : goal.OLD-same-length
-OLD-same-length c = c.loop-i.invariant.0.long
-
 pub returns : goal.returns
 returns c = let e : c.loop-i.i ≡ c.args.list.count = omega arith in
     so_many_copied c.loop-i.invariant.0 e ∙ over_front _ _

@@ -36,11 +36,6 @@ pub returns-then-z-lt0 : goal.returns-then-z-lt0
 unfolding side_of
 returns-then-z-lt0 c = rw (sym (left (goal.at.returns-then-z-lt0 c).After-orientation_in_range-z) ∙ c.if-z-gt0.false, sym (visible (goal.at.returns-then-z-lt0 c).After-orientation_in_range-z) ∙ c.if-z-lt0.true)
 
--- where the last test is made
-module _ (c : After-are_opposite) where
-  abbrev t : tie.After-orientation-in-range
-  t = c
-
 flipped : (b : Bool) → not b ≡ true → b ≡ false
 flipped true e = sym e
 flipped false e = refl
@@ -52,15 +47,15 @@ flipped_back false e = sym e
 pub returns-then-not-are_opposite : goal.returns-then-not-are_opposite
 unfolding side_of
 returns-then-not-are_opposite c = rw (
-      sym (left (t (goal.at.returns-then-not-are_opposite c).After-are_opposite)) ∙ c.if-z-gt0.false,
-      sym (visible (t (goal.at.returns-then-not-are_opposite c).After-are_opposite)) ∙ c.if-z-lt0.false,
+      sym (left (goal.at.returns-then-not-are_opposite c).After-orientation_in_range-z) ∙ c.if-z-gt0.false,
+      sym (visible (goal.at.returns-then-not-are_opposite c).After-orientation_in_range-z) ∙ c.if-z-lt0.false,
       sym c.are_opposite.ensures ∙ flipped c.are_opposite.result (ap not c.if-not-are_opposite.true),
     )
 
 pub returns : goal.returns
 unfolding side_of
 returns c = rw (
-      sym (left (t (goal.at.returns c).After-are_opposite)) ∙ c.if-z-gt0.false,
-      sym (visible (t (goal.at.returns c).After-are_opposite)) ∙ c.if-z-lt0.false,
+      sym (left (goal.at.returns c).After-orientation_in_range-z) ∙ c.if-z-gt0.false,
+      sym (visible (goal.at.returns c).After-orientation_in_range-z) ∙ c.if-z-lt0.false,
       sym c.are_opposite.ensures ∙ flipped_back c.are_opposite.result (ap not c.if-not-are_opposite.false),
     )

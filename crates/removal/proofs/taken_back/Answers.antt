@@ -73,7 +73,7 @@ unsplice-requires c = rw (left_is (goal.at.unsplice-requires c).Start, right_is 
 -- the notes are as many as before
 noted_whole : (c : After-put_note) → length c.put_note.new.arrivals ≡ point_limit
 noted_whole c =
-    ap length c.put_note.ensures.0 ∙ (simp length-set (shaped c.before.before.before.before.before.before.before.before.before.before.before.before.before.before.before.before.before.before.before).notes.arrivals_whole)
+    ap length c.put_note.ensures.0 ∙ (simp length-set (shaped c.before.before.before.before.before.before.before.before.before.before.before.before.before.before.before.before.before).notes.arrivals_whole)
 
 pub slice_bounds-latest-end : goal.slice_bounds-latest-end
 slice_bounds-latest-end c = sym (noted_whole (goal.at.slice_bounds-latest-end c).After-put_note)

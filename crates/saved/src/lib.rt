@@ -4,7 +4,7 @@
 ghost use Rattle.std.specs.Prelude.{◌≡◌, ℕ, ◌≤◌, T, length};
 ghost use Rattle.finite.specs.Overwriting.{over};
 ghost use Rattle.model.specs.Plane.{in_range};
-ghost use Rattle.model.specs.Maps.{map_lent, point_at, point_limit};
+ghost use Rattle.model.specs.Maps.{map_lent, map_of, point_at, point_limit};
 ghost use Rattle.model.specs.Shape.{Shaped};
 ghost use Rattle.model.specs.Saved.{notes_place, saved_in, saved_length};
 ghost use Rattle.saved.specs.Fields.{unnoted_by};
@@ -54,8 +54,8 @@ pub fn write_arrays<'a>(
     requires shaped { Shaped (map_lent xs ys helpers edge arrivals lefts rights count reference) }
     requires count_in_bounds { saved_length version count ≤ length lent.old }
     ensures { lent.new ≡
-        over (saved_in version (map_lent xs.entry ys.entry helpers.entry edge.entry arrivals.entry
-        lefts.entry rights.entry count reference)) lent.old }
+        over (saved_in version (map_of xs.now ys.now helpers.now edge.now arrivals.now lefts.now rights.now
+        count reference)) lent.old }
 {
     write_unnoted(xs, ys, helpers, edge, count, reference, version, lent);
     let noted = writing::noted_in(version, count);

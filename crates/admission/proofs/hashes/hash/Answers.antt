@@ -4,7 +4,8 @@ use mathlib.Core.Path.{ap}
 use Prim.Native.Nat.{◌%◌}
 use lib.IntN.{ℤ, nat_abs}
 use mir.Syntax.{w64}
-use Rattle.integers.specs.Range.{Number, read, back, fits, unsigned_fits}
+use Rattle.integers.specs.Range.{Number, unsigned_fits}
+use Rattle.integers.proofs.Range.{read, back, fits}
 use Rattle.model.specs.Plane.{coordinate_limit}
 use Rattle.plane.proofs.Bounds.{x_near, y_near}
 use Rattle.admission.specs.Hashes.{hash_count, hash}

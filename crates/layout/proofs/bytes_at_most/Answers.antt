@@ -1,18 +1,14 @@
 use borrow.Author.Tests.{le-leb, lt-leb}
 use mathlib.Core.Path.{ap}
-use mathlib.Core.Bool.{Bool, not}
-use mathlib.Core.List.{List}
-use Prim.Native.Nat.{ℕ, suc, ◌+◌, ◌-◌, ◌*◌, ◌≤◌}
+use mathlib.Core.Bool.{not}
+use Prim.Native.Nat.{ℕ, suc, ◌+◌, ◌*◌, ◌≤◌}
 use native.Mathlib.Nat.{mul-le-mul_left, mul-suc}
 use native.Mathlib.Omega.{arith}
 use lib.Dec.{leb}
-use Rattle.model.specs.Saved.{number_at}
-use Rattle.finite.specs.Loops.{Passed, Iteration, none_passed, one_passed, one_failed, all_passed, below}
+use Rattle.finite.specs.Loops.{Iteration, none_passed, one_passed, one_failed, all_passed, below}
+use Rattle.layout.proofs.bytes_at_most.Invariants.{here}
 use Rattle.layout.proofs.bytes_at_most.Goals as goal
 use Rattle.layout.proofs.bytes_at_most.Goals.{After-number_at, In-loop-k}
-
-abbrev here : List ℕ → ℕ → ℕ → ℕ → ℕ → Bool
-here file at width limit k = leb (number_at file (at + width * k) 1) limit
 
 pub loop-k-init : goal.loop-k-init
 loop-k-init c = none_passed _ 0
@@ -36,8 +32,6 @@ pub number_at-requires : goal.number_at-requires
 number_at-requires c = (omega (arith, within (goal.at.number_at-requires c).In-loop-k), omega arith)
 
 module _ (c : After-number_at) where
-
-
   step :
       Iteration (here c.args.file.now c.args.at c.args.width c.args.limit) 0
       c.loop-k.k
@@ -49,7 +43,8 @@ module _ (c : After-number_at) where
       }
 
 pub returns-then-limit-number_at : goal.returns-then-limit-number_at
-returns-then-limit-number_at c = one_failed (step (goal.at.returns-then-limit-number_at c).After-number_at) (below _ _) (omega arith)
+returns-then-limit-number_at c =
+    one_failed (step (goal.at.returns-then-limit-number_at c).After-number_at) (below _ _) (omega arith)
     (ap not (lt-leb c.number_at.result _ c.if-limit-number_at.true))
 
 pub loop-k-preserved : goal.loop-k-preserved

@@ -29,7 +29,9 @@ not_negative : (c : Start) → pos 0 ≤ℤ (c.args.z +ℤ pos (2 ^ 32))
 not_negative c = omega (arith, machine, c.requires, +ℤ_splits c.args.z (pos (2 ^ 32)))
 
 pub overflow_cast-result : goal.overflow_cast-result
-overflow_cast-result c = unsigned_fits (back w64 tt (sum (goal.at.overflow_cast-result c).Start)) (not_negative (goal.at.overflow_cast-result c).Start) w64 tt
+overflow_cast-result c =
+    unsigned_fits (back w64 tt (sum (goal.at.overflow_cast-result c).Start))
+    (not_negative (goal.at.overflow_cast-result c).Start) w64 tt
 
 left_not_negative : (c : Else-z-lt0) → pos 0 ≤ℤ c.args.z
 left_not_negative c =
@@ -41,14 +43,20 @@ left_not_negative c =
     )
 
 pub overflow_cast-result-else-z-lt0 : goal.overflow_cast-result-else-z-lt0
-overflow_cast-result-else-z-lt0 c = unsigned_fits (here (goal.at.overflow_cast-result-else-z-lt0 c).Start) (left_not_negative (goal.at.overflow_cast-result-else-z-lt0 c).Else-z-lt0) w64 tt
+overflow_cast-result-else-z-lt0 c =
+    unsigned_fits (here (goal.at.overflow_cast-result-else-z-lt0 c).Start)
+    (left_not_negative (goal.at.overflow_cast-result-else-z-lt0 c).Else-z-lt0) w64 tt
 
 pub returns-then-z-lt0 : goal.returns-then-z-lt0
 returns-then-z-lt0 c = complement_negative c.args.z _
-    (subst (λ (x : ℤ). lt_z x (pos 0) ≡ true) (here (goal.at.returns-then-z-lt0 c).Start).is c.if-z-lt0.true) c.requires
-    (unsigned_is (back w64 tt (sum (goal.at.returns-then-z-lt0 c).Start)) (not_negative (goal.at.returns-then-z-lt0 c).Start))
+    (subst (λ (x : ℤ). lt_z x (pos 0) ≡ true) (here (goal.at.returns-then-z-lt0 c).Start).is c.if-z-lt0.true)
+    c.requires
+    (unsigned_is (back w64 tt (sum (goal.at.returns-then-z-lt0 c).Start))
+    (not_negative (goal.at.returns-then-z-lt0 c).Start))
 
 pub returns-else-z-lt0 : goal.returns-else-z-lt0
 returns-else-z-lt0 c = complement_not_negative c.args.z _
-    (subst (λ (x : ℤ). lt_z x (pos 0) ≡ false) (here (goal.at.returns-else-z-lt0 c).Start).is c.if-z-lt0.false)
-    (unsigned_is (here (goal.at.returns-else-z-lt0 c).Start) (left_not_negative (goal.at.returns-else-z-lt0 c).Else-z-lt0))
+    (subst (λ (x : ℤ). lt_z x (pos 0) ≡ false) (here (goal.at.returns-else-z-lt0 c).Start).is
+    c.if-z-lt0.false)
+    (unsigned_is (here (goal.at.returns-else-z-lt0 c).Start)
+    (left_not_negative (goal.at.returns-else-z-lt0 c).Else-z-lt0))

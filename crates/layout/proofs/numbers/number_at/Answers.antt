@@ -1,9 +1,9 @@
-use Prim.Native.Nat.{◌+◌, ◌≤◌, ◌-◌}
+use Prim.Native.Nat.{◌+◌}
 use native.Mathlib.Omega.{arith}
 use mir.Syntax.{w8}
 use mir.Val.{Fits}
 use lib.ListN.{get_or}
-use Rattle.layout.proofs.Loops.{NumberRead, no_byte_read, room, one_byte_read, all_bytes_read}
+use Rattle.layout.proofs.Loops.{no_byte_read, room, one_byte_read, all_bytes_read}
 use Rattle.layout.proofs.numbers.number_at.Goals as goal
 use Rattle.layout.proofs.numbers.number_at.Goals.{After-shared_slice_known-1}
 
@@ -21,10 +21,15 @@ byte c =
     c.shared_slice_known-1.given (c.args.at + c.loop-i.i)
 
 pub overflow_add-number-in-loop-i : goal.overflow_add-number-in-loop-i
-overflow_add-number-in-loop-i c = let s = c.loop-i in omega (arith, byte (goal.at.overflow_add-number-in-loop-i c).After-shared_slice_known-1, room s.invariant.0 (omega arith))
+overflow_add-number-in-loop-i c =
+    let s = c.loop-i in omega
+    (arith, byte (goal.at.overflow_add-number-in-loop-i c).After-shared_slice_known-1, room s.invariant.0
+    (omega arith))
 
 pub loop-i-preserved : goal.loop-i-preserved
-loop-i-preserved c = (one_byte_read c.loop-i.invariant.0 (omega (arith, byte (goal.at.loop-i-preserved c).After-shared_slice_known-1)), omega arith)
+loop-i-preserved c =
+    (one_byte_read c.loop-i.invariant.0
+    (omega (arith, byte (goal.at.loop-i-preserved c).After-shared_slice_known-1)), omega arith)
 
 pub returns : goal.returns
 returns c = let s = c.loop-i in

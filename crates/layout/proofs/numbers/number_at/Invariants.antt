@@ -1,11 +1,7 @@
 -- `layout::numbers::number_at` meets its contract: the loop has read the number in the bytes so
 -- far.
-use Prim.Native.Nat.{◌+◌, ◌≤◌, ◌-◌}
-use native.Mathlib.Omega.{arith}
-use mir.Syntax.{w8}
-use mir.Val.{Fits}
-use lib.ListN.{get_or}
-use Rattle.layout.proofs.Loops.{NumberRead, no_byte_read, room, one_byte_read, all_bytes_read}
+use Prim.Native.Nat.{◌≤◌}
+use Rattle.layout.proofs.Loops.{NumberRead}
 use Rattle.layout.proofs.numbers.number_at.Given as goal
 
 abbrev pub invariant-loop-i : goal.invariant-loop-i

@@ -1,8 +1,7 @@
-use mathlib.Core.Path.{◌≡◌}
 use native.Mathlib.Nat.{mod-lt}
 use native.Mathlib.Omega.{arith}
-use lib.ListN.{length, length-set}
-use Rattle.layout.proofs.Loops.{NumberPut, no_byte_put, one_byte_put, all_bytes_put}
+use lib.ListN.{length-set}
+use Rattle.layout.proofs.Loops.{no_byte_put, one_byte_put, all_bytes_put}
 use Rattle.layout.proofs.numbers.put_number.Goals as goal
 
 pub loop-left-init : goal.loop-left-init

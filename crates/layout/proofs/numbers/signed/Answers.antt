@@ -21,8 +21,11 @@ pub overflow_sub-result : goal.overflow_sub-result
 overflow_sub-result c = fits w64 tt (difference (goal.at.overflow_sub-result c).Start)
 
 pub returns-then-number-lt-HALF_WORD : goal.returns-then-number-lt-HALF_WORD
-returns-then-number-lt-HALF_WORD c = (here (goal.at.returns-then-number-lt-HALF_WORD c).Start).is ∙ sym (signed_low c.args.number (omega arith))
+returns-then-number-lt-HALF_WORD c =
+    (here (goal.at.returns-then-number-lt-HALF_WORD c).Start).is
+    ∙ sym (signed_low c.args.number (omega arith))
 
 pub returns-else-number-lt-HALF_WORD : goal.returns-else-number-lt-HALF_WORD
-returns-else-number-lt-HALF_WORD c = (back w64 tt (difference (goal.at.returns-else-number-lt-HALF_WORD c).Start)).is
+returns-else-number-lt-HALF_WORD c =
+    (back w64 tt (difference (goal.at.returns-else-number-lt-HALF_WORD c).Start)).is
     ∙ sym (signed_high c.args.number (omega arith) (omega arith))

@@ -1,8 +1,5 @@
-use mathlib.Core.Path.{◌≡◌, refl, sym, ◌∙◌}
-use Prim.Native.Nat.{◌-◌}
-use native.Mathlib.Omega.{arith}
-use lib.ListN.{length}
-use Rattle.survey.proofs.Separators.{first_place, place_here, place_later, place_past}
+use mathlib.Core.Path.{refl, sym, ◌∙◌}
+use Rattle.survey.proofs.Separators.{place_here, place_later, place_past}
 use Rattle.survey.proofs.lines.place_of.Goals as goal
 
 pub loop-i-init : goal.loop-i-init

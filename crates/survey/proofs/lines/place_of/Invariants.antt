@@ -1,10 +1,9 @@
 -- `survey::lines::place_of` meets its contract: at each place that the search comes to, what is
 -- sought from there on is what is sought.
-use mathlib.Core.Path.{◌≡◌, refl, sym, ◌∙◌}
+use mathlib.Core.Path.{◌≡◌}
 use Prim.Native.Nat.{◌-◌}
-use native.Mathlib.Omega.{arith}
 use lib.ListN.{length}
-use Rattle.survey.proofs.Separators.{first_place, place_here, place_later, place_past}
+use Rattle.survey.proofs.Separators.{first_place}
 use Rattle.survey.proofs.lines.place_of.Given as goal
 
 abbrev pub invariant-loop-i : goal.invariant-loop-i

@@ -3,48 +3,52 @@
 use mathlib.Core.Path.{◌≡◌, sym, ◌∙◌}
 use native.Mathlib.Omega.{arith}
 use mir.Syntax.{w64}
+use mir.Val.{to_z, of_z}
 use mir.ValLaws.{to_z-of_z}
 use lib.ListN.{drop, length-drop}
 use Rattle.survey.specs.declared.numbers.Front.{Front}
 use Rattle.survey.specs.Numbers.{front_number}
 use Rattle.survey.proofs.Readings.{not_past, first_none, first_unspaced, space_there, first_spaced}
+use borrow.Author.Rules.{rules}
 use Rattle.survey.proofs.lines.read_at.Goals as goal
-use Rattle.survey.proofs.lines.read_at.Goals.{In-Value-2}
+use Rattle.survey.proofs.lines.read_at.Goals.{In-Value}
 
-module _ (c : In-Value-2) where
+-- a number stands there
+some : (c : In-Value) →
+    front_number (drop c.args.at c.args.text.now) ≡ Front.Value c.in-Value.value c.in-Value.end
+some c = sym c.in-Value.ensures
 
-  -- a number stands there
-  some : front_number (drop c.args.at c.args.text.now)
-      ≡ Front.Value c.first-1.given.0.0 c.first-1.given.0.1.0
-  some = sym c.Front-at.ensures ∙ c.first-1.given.1
+-- the number stands in the point as it is
+kept : (c : In-Value) → to_z w64 (of_z w64 c.in-Value.value) ≡ c.in-Value.value
+kept c = to_z-of_z w64 c.in-Value.value (search rules)
 
 pub overflow_add-stop : goal.overflow_add-stop
-overflow_add-stop c = let a = (at_start c).args in
+overflow_add-stop c = let a = c.args in
     omega (
       arith,
-      not_past a.text.now a.at (some (goal.at.overflow_add-stop c).In-Value-2),
+      not_past a.text.now a.at (some (goal.at.overflow_add-stop c).In-Value),
       length-drop a.at a.text.now,
     )
 
 pub overflow_add-stop-then-byte_at-eq32 : goal.overflow_add-stop-then-byte_at-eq32
-overflow_add-stop-then-byte_at-eq32 c = let a = (at_start first).args in
+overflow_add-stop-then-byte_at-eq32 c = let a = c.args in
     omega (
       arith,
-      space_there a.text.now a.at (some (goal.at.overflow_add-stop-then-byte_at-eq32 c).In-Value-2)
+      space_there a.text.now a.at (some (goal.at.overflow_add-stop-then-byte_at-eq32 c).In-Value)
           (sym c.byte_at.ensures ∙ c.if-byte_at-eq32.true),
     )
 
 pub returns-then-byte_at-eq32 : goal.returns-then-byte_at-eq32
-returns-then-byte_at-eq32 c = let z = c.first-1.given.0.0 in
-    let kept = to_z-of_z w64 z (record { sfits = c.known_told-1.given.0.1 }) in
-    let spaced = sym c.byte_at.ensures ∙ c.if-byte_at-eq32.true in
-    c.read_second.ensures ∙ rw kept (first_spaced _ _ (some (goal.at.returns-then-byte_at-eq32 c).In-Value-2) spaced)
+returns-then-byte_at-eq32 c =
+    let told = (goal.at.returns-then-byte_at-eq32 c).In-Value in
+    c.read_second.ensures
+    ∙ rw (kept told) (first_spaced _ _ (some told) (sym c.byte_at.ensures ∙ c.if-byte_at-eq32.true))
 
 pub returns-else-byte_at-eq32 : goal.returns-else-byte_at-eq32
 returns-else-byte_at-eq32 c = c.refused_from.ensures
-    ∙ first_unspaced _ _ (some (goal.at.returns-else-byte_at-eq32 c).In-Value-2)
+    ∙ first_unspaced _ _ (some (goal.at.returns-else-byte_at-eq32 c).In-Value)
     (λ e. c.if-byte_at-eq32.false (c.byte_at.ensures ∙ e))
 
 pub returns-in-Malformed : goal.returns-in-Malformed
 returns-in-Malformed c = c.refused_from-in-Malformed.ensures
-    ∙ first_none _ _ (sym c.Front-at.ensures ∙ c.enum_told-1.given.1)
+    ∙ first_none _ _ (sym c.in-Malformed.ensures)

@@ -8,44 +8,44 @@ use lib.ListN.{drop, length-drop}
 use Rattle.survey.specs.declared.numbers.Front.{Front}
 use Rattle.survey.specs.Numbers.{front_number}
 use Rattle.survey.proofs.Readings.{not_past, second_none, second_last, second_fed, second_followed}
+use borrow.Author.Rules.{rules}
 use Rattle.survey.proofs.lines.read_second.Goals as goal
-use Rattle.survey.proofs.lines.read_second.Goals.{In-Value, In-Value-2}
+use Rattle.survey.proofs.lines.read_second.Goals.{In-Value}
 
-module _ (c : In-Value-2) where
-
-  -- a number stands there
-  some : front_number (drop c.args.at c.args.text.now)
-      ≡ Front.Value c.second-1.given.0.0 c.second-1.given.0.1.0
-  some = sym c.Front-at.ensures ∙ c.second-1.given.1
+-- a number stands there
+some : (c : In-Value) →
+    front_number (drop c.args.at c.args.text.now) ≡ Front.Value c.in-Value.value c.in-Value.end
+some c = sym c.in-Value.ensures
 
 -- the two numbers stand in the point as they are
-kept : (c : In-Value) →
-    let z = c.second-1.given.0.0 in to_z w64 (of_z w64 z) ≡ z
-kept c =
-    to_z-of_z w64 c.second-1.given.0.0 (record { sfits = c.known_told-1.given.0.1 })
+kept : (c : In-Value) → to_z w64 (of_z w64 c.in-Value.value) ≡ c.in-Value.value
+kept c = to_z-of_z w64 c.in-Value.value (search rules)
 
 pub overflow_add-stop : goal.overflow_add-stop
-overflow_add-stop c = let a = (at_start c).args in
+overflow_add-stop c = let a = c.args in
     omega (
       arith,
-      not_past a.text.now a.at (some (goal.at.overflow_add-stop c).In-Value-2),
+      not_past a.text.now a.at (some (goal.at.overflow_add-stop c).In-Value),
       length-drop a.at a.text.now,
     )
 
 pub returns-then-text-stop : goal.returns-then-text-stop
-returns-then-text-stop c = let start = at_start c in
-    rw (to_z-of_z w64 start.args.x start.fits.x, kept (goal.at.returns-then-text-stop c).In-Value)
-    (second_last _ _ (some (goal.at.returns-then-text-stop c).In-Value-2) start.args.x c.if-text-stop.true)
+returns-then-text-stop c =
+    let told = (goal.at.returns-then-text-stop c).In-Value in
+    rw (to_z-of_z w64 c.args.x c.ranges.x, kept told)
+    (second_last _ _ (some told) c.args.x c.if-text-stop.true)
 
 pub returns-then-text-stop-eq10 : goal.returns-then-text-stop-eq10
-returns-then-text-stop-eq10 c = let start = at_start c in
-    rw (to_z-of_z w64 start.args.x start.fits.x, kept (goal.at.returns-then-text-stop-eq10 c).In-Value)
-    (second_fed _ _ (some (goal.at.returns-then-text-stop-eq10 c).In-Value-2) start.args.x c.if-text-stop.false c.if-text-stop-eq10.true)
+returns-then-text-stop-eq10 c =
+    let told = (goal.at.returns-then-text-stop-eq10 c).In-Value in
+    rw (to_z-of_z w64 c.args.x c.ranges.x, kept told)
+    (second_fed _ _ (some told) c.args.x c.if-text-stop.false c.if-text-stop-eq10.true)
 
 pub returns-else-text-stop-eq10 : goal.returns-else-text-stop-eq10
 returns-else-text-stop-eq10 c = c.refused_from.ensures
-    ∙ second_followed _ _ (some (goal.at.returns-else-text-stop-eq10 c).In-Value-2) _ c.if-text-stop.false c.if-text-stop-eq10.false
+    ∙ second_followed _ _ (some (goal.at.returns-else-text-stop-eq10 c).In-Value) _ c.if-text-stop.false
+    c.if-text-stop-eq10.false
 
 pub returns-in-Malformed : goal.returns-in-Malformed
 returns-in-Malformed c = c.refused_from-in-Malformed.ensures
-    ∙ second_none _ _ (sym c.Front-at.ensures ∙ c.enum_told-1.given.1) _
+    ∙ second_none _ _ (sym c.in-Malformed.ensures) _

@@ -7,7 +7,6 @@ use Rattle.survey.specs.declared.numbers.Front.TheVariants.{Value as spelled}
 use lib.IntN.{ℤ, ◌-ℤ◌, pos}
 use mir.Syntax.{w64}
 use mathlib.Core.Path.{◌≡◌, sym, ap, ◌∙◌}
-use mathlib.Core.Logic.{⊎_elim}
 use mathlib.Core.List.{List}
 use Prim.Native.Nat.{ℕ, ◌-◌, ◌+◌, ◌^◌, ◌<◌}
 use native.Mathlib.Omega.{arith}
@@ -20,33 +19,35 @@ use Rattle.survey.specs.declared.numbers.Magnitude.{Magnitude}
 use Rattle.survey.specs.Numbers.{magnitude_read}
 use Rattle.survey.proofs.Signs.{Reads, reads_value, Begins, begins_signed, begins_plain, front_malformed, front_positive, front_negative, front_minus_zero}
 use Rattle.survey.proofs.numbers.front_number.Goals as goal
-use Rattle.survey.proofs.numbers.front_number.Goals.{After-front_digits-magnitude, In-Value-2, Joined-negative, Joined-s-gt0}
+use Rattle.survey.proofs.numbers.front_number.Goals.{In-Value, Joined-negative, then-s-gt0, else-s-gt0, then-negative, else-negative}
 
 -- `negative` says whether there is a minus
-sign : (c : Joined-s-gt0) → has_minus c.args.s.now ≡ c.if-s-gt0.negative
+sign : (c : Joined-negative) → has_minus c.args.s.now ≡ c.if-s-gt0.negative
 unfolding has_minus
 sign c =
     let s = c.args.s.now in
-    ⊎_elim
-    (λ w. sym w.2)
-    (λ w.
-    ap (λ (b : ℕ). eqb b minus) (get_or-eq_default s 0 w.0.left)
-    ∙ sym (w.1 ∙ le-ltb 0 (length s) w.0.left))
-    c.if-s-gt0.branch
+    elim c.if-s-gt0.branch [
+      | then-s-gt0 w ↦ sym w.negative-is
+      | else-s-gt0 w ↦
+          ap (λ (b : ℕ). eqb b minus) (get_or-eq_default s 0 w.if-s-gt0.false)
+          ∙ sym (w.negative-is ∙ le-ltb 0 (length s) w.if-s-gt0.false)
+    ]
 
 -- the digits begin at place `first`
 begins : (c : Joined-negative) → Begins c.args.s.now c.if-negative.first
 begins c =
-    ⊎_elim
-    (λ w. begins_signed _ (sign c.before ∙ w.0.taken) w.1)
-    (λ w. begins_plain _ (sign c.before ∙ w.0.left) w.1)
-    c.if-negative.branch
+    elim c.if-negative.branch [
+      | then-negative w ↦ begins_signed _ (sign c ∙ w.if-negative.true) w.first-is
+      | else-negative w ↦ begins_plain _ (sign c ∙ w.if-negative.false) w.first-is
+    ]
 
 pub slice_bounds-front_digits-count : goal.slice_bounds-front_digits-count
-slice_bounds-front_digits-count c = (begins (goal.at.slice_bounds-front_digits-count c).Joined-negative).inside
+slice_bounds-front_digits-count c =
+    (begins (goal.at.slice_bounds-front_digits-count c).Joined-negative).inside
 
-pub OLD-slice-bounds-front-digits-start : goal.OLD-slice-bounds-front-digits-start
-OLD-slice-bounds-front-digits-start c = (begins (goal.at.OLD-slice-bounds-front-digits-start c).Joined-negative).inside
+pub slice_bounds-front_digits-start : goal.slice_bounds-front_digits-start
+slice_bounds-front_digits-start c =
+    (begins (goal.at.slice_bounds-front_digits-start c).Joined-negative).inside
 
 -- the magnitude as the machine has it after the cast, and its negation
 module _ (m : ℕ) (small : m < 10 ^ digit_limit) where
@@ -57,51 +58,62 @@ module _ (m : ℕ) (small : m < 10 ^ digit_limit) where
   negation = sub (literal (pos 0)) (back w64 tt magnitude)
 
 -- what was read after the minus
-abbrev read : (c : After-front_digits-magnitude) → List ℕ
-read c =
-    let s = c.args.s.now in
-    take (length s - c.if-negative.first) (drop c.if-negative.first s)
+abbrev read : List ℕ → ℕ → List ℕ
+read s first = take (length s - first) (drop first s)
 
-module _ (c : In-Value-2) where
+module _ (c : In-Value) where
   abbrev value : ℕ
-  value = c.magnitude-1.given.0.0
+  value = c.in-Value.value
 
   abbrev count : ℕ
-  count = c.magnitude-1.given.0.1.0
+  count = c.in-Value.count
 
-  has : magnitude_read (read c.before.before) ≡ Magnitude.Value value count
-  has = sym c.front_digits-magnitude.ensures ∙ c.magnitude-1.given.1
+  has : magnitude_read (read c.args.s.now c.if-negative.first) ≡ Magnitude.Value value count
+  has = sym c.in-Value.ensures
 
-  what : Reads (read c.before.before) value count
+  what : Reads (read c.args.s.now c.if-negative.first) value count
   what = reads_value _ value count has
 
 pub returns-then-value-eq0 : goal.returns-then-value-eq0
-returns-then-value-eq0 c = sym (front_minus_zero _ _ (begins (goal.at.returns-then-value-eq0 c).Joined-negative).part _ _ (has (goal.at.returns-then-value-eq0 c).In-Value-2)
-    (sign (goal.at.returns-then-value-eq0 c).Joined-s-gt0 ∙ c.if-negative-2.true) c.if-value-eq0.true)
+returns-then-value-eq0 c =
+    let told = (goal.at.returns-then-value-eq0 c).In-Value in
+    let at_first = (goal.at.returns-then-value-eq0 c).Joined-negative in
+    sym (front_minus_zero _ _ (begins at_first).part _ _ (has told)
+    (sign at_first ∙ c.if-negative-2.true) c.if-value-eq0.true)
 
 pub overflow_cast-result : goal.overflow_cast-result
-overflow_cast-result c = fits w64 tt (magnitude _ (what (goal.at.overflow_cast-result c).In-Value-2).small)
+overflow_cast-result c =
+    fits w64 tt (magnitude _ (what (goal.at.overflow_cast-result c).In-Value).small)
 
 pub overflow_sub-result : goal.overflow_sub-result
-overflow_sub-result c = fits w64 tt (negation _ (what (goal.at.overflow_sub-result c).In-Value-2).small)
+overflow_sub-result c =
+    fits w64 tt (negation _ (what (goal.at.overflow_sub-result c).In-Value).small)
 
 pub overflow_add-result : goal.overflow_add-result
-overflow_add-result c = omega (arith, (what (goal.at.overflow_add-result c).In-Value-2).few)
+overflow_add-result c = omega (arith, (what (goal.at.overflow_add-result c).In-Value).few)
 
 pub returns-then-negative-2 : goal.returns-then-negative-2
-returns-then-negative-2 c = ap (λ (z : ℤ). spelled z (count (goal.at.returns-then-negative-2 c).In-Value-2 + 1)) ((back w64 tt (negation _ (what (goal.at.returns-then-negative-2 c).In-Value-2).small)).is
-    ∙ zero_-ℤ (pos (value (goal.at.returns-then-negative-2 c).In-Value-2)))
-    ∙ sym (front_negative _ _ (begins (goal.at.returns-then-negative-2 c).Joined-negative).part _ _ (has (goal.at.returns-then-negative-2 c).In-Value-2)
-    (sign (goal.at.returns-then-negative-2 c).Joined-s-gt0 ∙ c.if-negative-2.true) c.if-value-eq0.false)
+returns-then-negative-2 c =
+    let told = (goal.at.returns-then-negative-2 c).In-Value in
+    let at_first = (goal.at.returns-then-negative-2 c).Joined-negative in
+    ap (λ (z : ℤ). spelled z (count told + 1)) ((back w64 tt (negation _ (what told).small)).is
+    ∙ zero_-ℤ (pos (value told)))
+    ∙ sym (front_negative _ _ (begins at_first).part _ _ (has told)
+    (sign at_first ∙ c.if-negative-2.true) c.if-value-eq0.false)
 
 pub overflow_cast-result-in-Value : goal.overflow_cast-result-in-Value
-overflow_cast-result-in-Value c = fits w64 tt (magnitude _ (what (goal.at.overflow_cast-result-in-Value c).In-Value-2).small)
+overflow_cast-result-in-Value c =
+    fits w64 tt (magnitude _ (what (goal.at.overflow_cast-result-in-Value c).In-Value).small)
 
 pub returns-else-negative-2 : goal.returns-else-negative-2
-returns-else-negative-2 c = ap (λ (z : ℤ). spelled z (count (goal.at.returns-else-negative-2 c).In-Value-2)) (back w64 tt (magnitude _ (what (goal.at.returns-else-negative-2 c).In-Value-2).small)).is
-    ∙ sym (front_positive _ _ (begins (goal.at.returns-else-negative-2 c).Joined-negative).part _ _ (has (goal.at.returns-else-negative-2 c).In-Value-2)
-    (sign (goal.at.returns-else-negative-2 c).Joined-s-gt0 ∙ c.if-negative-2.false))
+returns-else-negative-2 c =
+    let told = (goal.at.returns-else-negative-2 c).In-Value in
+    let at_first = (goal.at.returns-else-negative-2 c).Joined-negative in
+    ap (λ (z : ℤ). spelled z (count told)) (back w64 tt (magnitude _ (what told).small)).is
+    ∙ sym (front_positive _ _ (begins at_first).part _ _ (has told)
+    (sign at_first ∙ c.if-negative-2.false))
 
 pub returns-in-Malformed : goal.returns-in-Malformed
-returns-in-Malformed c = sym (front_malformed _ _ (begins (goal.at.returns-in-Malformed c).Joined-negative).part
-    (sym c.front_digits-magnitude.ensures ∙ c.enum_told-1.given.1))
+returns-in-Malformed c =
+    sym (front_malformed _ _ (begins (goal.at.returns-in-Malformed c).Joined-negative).part
+    (sym c.in-Malformed.ensures))

@@ -3,7 +3,7 @@
 -- In this order: what such a loop tests; its invariant, `Passed`, with the laws of its start, of one
 -- iteration, of an early return and of its end; what tests every number below a bound, every element
 -- from a place on, and every place of a list. Then the same laws for loops that fill an array.
-use Rattle.std.specs.Prelude.{◌≡◌, Bool, true, false, not, ◌&&◌, List, ℕ, suc, ◌+◌, ◌-◌, ◌≤◌, ◌<◌, T, length, get_or, set, drop}
+use Rattle.std.specs.Prelude.{◌≡◌, Bool, true, false, not, ◌&&◌, List, ℕ, ◌+◌, ◌-◌, ◌≤◌, ◌<◌, T, length, get_or, set, drop}
 use Rattle.std.proofs.Common.{sym, ap, subst, ◌∙◌, ⊎_elim, zero-add, add-one, arith, length-drop, length-set, get_or-drop, get_or-set_same, get_or-set_other, ext_get_or}
 use Rattle.std.proofs.lemmas.Bool.{not-true, not-false}
 use Rattle.finite.specs.Tests.{of_true, same_test}

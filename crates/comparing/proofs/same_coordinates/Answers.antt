@@ -23,14 +23,16 @@ returns-then-a-k c =
     let x = get_or c.args.a.now c.loop-k.k (pos 0) in
     let y = get_or c.args.b.now c.loop-k.k (pos 0) in
     one_differs c.loop-k.invariant (omega arith)
-    (ap not (sym (eqb_read {w = w64} {x = x} {y = y} (search rules) (search rules)) ∙ ne_eqb _ _ c.if-a-k.true))
+    (ap not (sym (eqb_read {w = w64} {x = x} {y = y} (search rules) (search rules))
+    ∙ ne_eqb _ _ c.if-a-k.true))
 
 pub loop-k-preserved : goal.loop-k-preserved
 loop-k-preserved c =
     let x = get_or c.args.a.now c.loop-k.k (pos 0) in
     let y = get_or c.args.b.now c.loop-k.k (pos 0) in
     one_alike c.loop-k.invariant
-    (ap not (sym (eqb_read {w = w64} {x = x} {y = y} (search rules) (search rules)) ∙ eq-eqb _ _ c.if-a-k.false))
+    (ap not (sym (eqb_read {w = w64} {x = x} {y = y} (search rules) (search rules))
+    ∙ eq-eqb _ _ c.if-a-k.false))
 
 pub returns : goal.returns
 returns c = all_alike c.loop-k.invariant (omega arith)

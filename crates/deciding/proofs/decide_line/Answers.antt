@@ -5,7 +5,7 @@ use Prim.Native.Nat.{ℕ, ◌+◌, ◌≤◌, ◌<◌}
 use native.Mathlib.Omega.{arith}
 use Rattle.model.specs.declared.Map.{Map}
 use Rattle.model.specs.declared.Offered.{Offered}
-use Rattle.model.specs.Maps.{point_limit, point, map_lent, map_of}
+use Rattle.model.specs.Maps.{point_limit, point, map_of}
 use Rattle.admission.specs.Hashes.{AllHashed}
 use Rattle.admission.proofs.Hashing.{one_hashed}
 use Rattle.sight.specs.Requires.{Accepted}
@@ -21,7 +21,7 @@ use Rattle.deciding.proofs.decide_line.Goals.{After-grow-grown, After-packed, Af
 abbrev map_at : Start → Map
 map_at s =
     let a = s.args in
-    map_lent a.xs a.ys a.helpers a.edge a.arrivals a.lefts a.rights
+    map_of a.xs.now a.ys.now a.helpers.now a.edge.now a.arrivals.now a.lefts.now a.rights.now
     a.tally.count a.tally.reference
 
 few : (s : Start) → s.args.tally.count ≤ point_limit
@@ -69,8 +69,8 @@ bounds-answers-number-in-Refused c = omega (arith, c.requires.free, few (goal.at
 abbrev grown : After-grow-grown → Map
 grown c =
     let last = c.grow-grown.new in
-    map_of last.0 last.1.0 last.1.1.0 last.1.1.1.0 last.1.1.1.1.0
-    last.1.1.1.1.1.0 last.1.1.1.1.1.1.0
+    map_of last.xs last.ys last.helpers last.edge last.arrivals
+    last.lefts last.rights
     (c.args.tally.count + 1)
     c.grow-grown.result.reference
 

@@ -22,18 +22,24 @@ use Rattle.layout.proofs.Form.{Form, version_in_file, in_form_is}
 use Rattle.soundness.specs.Rebuilding.{Rebuilds}
 use Rattle.loading.proofs.Saving.{points_free, map_built, anew_shaped, writes_decides}
 use Rattle.loading.proofs.read.Goals as goal
-use Rattle.loading.proofs.read.Goals.{After-number_at-version, After-rebuild-anew, Start}
+use Rattle.loading.proofs.read.Goals.{After-rebuild-anew, Start}
 
 form : (s : Start) → Form (version_in_file s.args.file.now) s.args.file.now
 form s = (in_form_is s.args.file.now s.requires.t.0).1
 
 pub put_coordinates-requires : goal.put_coordinates-requires
 put_coordinates-requires c = let f = form (goal.at.put_coordinates-requires c).Start in
-    ((omega (arith, c.requires.t.1, f.few), omega (arith, c.requires.t.1, f.whole), omega arith), refl)
+    record {
+      count_le_point_limit = (omega (arith, c.requires.t.1, f.few), omega (arith, c.requires.t.1, f.whole), omega arith);
+      coordinates_value = refl;
+    }
 
 pub put_coordinates-requires-2 : goal.put_coordinates-requires-2
 put_coordinates-requires-2 c = let f = form (goal.at.put_coordinates-requires-2 c).Start in
-    ((omega (arith, c.requires.t.1, f.few), omega (arith, c.requires.t.1, f.whole), omega arith), refl)
+    record {
+      count_le_point_limit = (omega (arith, c.requires.t.1, f.few), omega (arith, c.requires.t.1, f.whole), omega arith);
+      coordinates_value = refl;
+    }
 
 pub slice_bounds-rebuild-end : goal.slice_bounds-rebuild-end
 slice_bounds-rebuild-end c = sym (ap length c.put_coordinates.ensures ∙ length_table _ _)
@@ -48,7 +54,7 @@ module _ (c : After-rebuild-anew) where
   file = c.args.file.now
 
   bytes : Bytes file
-  bytes = record { small = λ i. (c.shared_slice_known-1.given i).fits }
+  bytes = record { small = λ i. (c.type_inv.file i).fits }
 
   counted : c.args.count ≡ count_in_file file
   counted = c.requires.t.1
@@ -71,45 +77,50 @@ module _ (c : After-rebuild-anew) where
       ((upward ∙ ap (λ (n : ℕ). coordinates_in_file file n 1) counted) i)))
       c.rebuild-anew.ensures
 
+  -- where all of them were accepted
+  free : c.rebuild-anew.result.complete ≡ true → NoneApplies (building_rules empty_map (points_in_file file))
+  free complete = anew.all_free complete
+
+  map_is : c.rebuild-anew.result.complete ≡ true → made ≡ built_in_file file
+  map_is complete = anew.is_built complete
+
 pub returns-then-not-anew : goal.returns-then-not-anew
-returns-then-not-anew c = let stopped = not-true _ c.if-not-anew.true in
+returns-then-not-anew c =
+    let d = (goal.at.returns-then-not-anew c).After-rebuild-anew in
+    let stopped = not-true _ c.if-not-anew.true in
     record {
       decided =
-          stopped ∙ sym (is_false (sound (map_in (file (goal.at.returns-then-not-anew c).After-rebuild-anew))) (λ t. (anew (goal.at.returns-then-not-anew c).After-rebuild-anew).some_refused stopped (points_free (file (goal.at.returns-then-not-anew c).After-rebuild-anew) t)));
+          stopped
+          ∙ sym (is_false (sound (map_in (file d))) (λ t. (anew d).some_refused stopped (points_free (file d) t)));
       map_is = λ e. absurd (let z : ◌≡◌ {A = ℕ} 0 1 = cc in omega arith);
     }
 
 pub number_at-version-requires : goal.number_at-version-requires
 number_at-version-requires c = let f = form (goal.at.number_at-version-requires c).Start in (omega (arith, f.whole), omega arith)
 
--- all of them were accepted
-module _ (c : After-number_at-version) where
-
-  complete : c.rebuild-anew.result.complete ≡ true
-  complete = not-false _ c.if-not-anew.false
-
-  free : NoneApplies (building_rules empty_map (points_in_file (file c.before.before.before.before)))
-  free = (anew c.before.before.before.before).all_free complete
-
-  map_is : made c.before.before.before.before ≡ built_in_file (file c.before.before.before.before)
-  map_is = (anew c.before.before.before.before).is_built complete
-
-  version_is : c.number_at-version.result ≡ version_in_file (file c.before.before.before.before)
-  version_is = c.number_at-version.ensures.0
-
 pub writes-complete-requires : goal.writes-complete-requires
-writes-complete-requires c = record {
-      shaped = subst Shaped (sym (map_is (goal.at.writes-complete-requires c).After-number_at-version)) (anew_shaped (file (goal.at.writes-complete-requires c).After-rebuild-anew) (bytes (goal.at.writes-complete-requires c).After-rebuild-anew) c.requires.t.0 (free (goal.at.writes-complete-requires c).After-number_at-version));
-      file_len = (form (goal.at.writes-complete-requires c).Start).whole ∙ (λ i. saved_length (sym (version_is (goal.at.writes-complete-requires c).After-number_at-version) i) (sym (counted (goal.at.writes-complete-requires c).After-rebuild-anew) i));
+writes-complete-requires c =
+    let d = (goal.at.writes-complete-requires c).After-rebuild-anew in
+    let complete = not-false _ c.if-not-anew.false in
+    record {
+      shaped =
+          subst Shaped (sym (map_is d complete))
+          (anew_shaped (file d) (bytes d) c.requires.t.0 (free d complete));
+      file_len =
+          (form (goal.at.writes-complete-requires c).Start).whole
+          ∙ (λ i. saved_length (sym c.number_at-version.ensures.0 i) (sym (counted d) i));
     }
 
 pub returns : goal.returns
-returns c = let s = file (goal.at.returns c).After-rebuild-anew in
+returns c =
+    let d = (goal.at.returns c).After-rebuild-anew in
+    let complete = not-false _ c.if-not-anew.false in
+    let s = file d in
     let decided : c.writes-complete.result ≡ sound (map_in s) =
     c.writes-complete.ensures
-    ∙ (λ i. same_list (saved_in (version_is (goal.at.returns c).After-number_at-version i) (map_is (goal.at.returns c).After-number_at-version i)) s)
-    ∙ writes_decides s (bytes (goal.at.returns c).After-rebuild-anew) c.requires.t.0 (free (goal.at.returns c).After-number_at-version) in
+    ∙ (λ i. same_list (saved_in (c.number_at-version.ensures.0 i) (map_is d complete i)) s)
+    ∙ writes_decides s (bytes d) c.requires.t.0 (free d complete) in
     record {
       decided = decided;
-      map_is = λ e. map_is (goal.at.returns c).After-number_at-version ∙ sym (map_built s (of_true (sound (map_in s)) (sym decided ∙ e)));
+      map_is = λ e. map_is d complete ∙ sym (map_built s (of_true (sound (map_in s)) (sym decided ∙ e)));
     }

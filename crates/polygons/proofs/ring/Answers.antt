@@ -1,0 +1,31 @@
+-- `polygons::ring` meets its contract: four positions or more, and the last is the first.
+use mir.Syntax.{w64}
+use mir.Val.{to_z, of_z}
+use mathlib.Core.Path.{◌≡◌, sym, ap, ◌∙◌}
+use borrow.Author.Rules.{rules}
+use Rattle.polygons.specs.Spellings.{ring_as}
+use Rattle.polygons.proofs.Held.{ring_ends, ring_open, ring_short}
+use Rattle.polygons.proofs.ring.Goals as goal
+use Rattle.polygons.proofs.ring.Goals.{else-count-ge4-via-then-count-ge4+else-is_same, else-count-ge4-via-else-count-ge4}
+
+pub returns-then-is_same : goal.returns-then-is_same
+returns-then-is_same c =
+    let x : to_z w64 (of_z w64 c.in-Read.x) ≡ c.in-Read.x = search rules in
+    let y : to_z w64 (of_z w64 c.in-Read.y) ≡ c.in-Read.y = search rules in
+    ring_ends c.in-Read.is c.args.first c.if-count-ge4.true
+    (sym (rw (x, y) at c.is_same.ensures) ∙ c.if-is_same.true)
+
+pub returns-else-count-ge4 : goal.returns-else-count-ge4
+returns-else-count-ge4 c =
+    let x : to_z w64 (of_z w64 c.in-Read.x) ≡ c.in-Read.x = search rules in
+    let y : to_z w64 (of_z w64 c.in-Read.y) ≡ c.in-Read.y = search rules in
+    elim c.else-count-ge4.branch [
+      | else-count-ge4-via-then-count-ge4+else-is_same w ↦
+          ring_open c.in-Read.is c.args.first w.if-count-ge4.true
+          (sym (rw (x, y) at w.is_same.ensures) ∙ w.if-is_same.false)
+      | else-count-ge4-via-else-count-ge4 w ↦ ring_short c.in-Read.is c.args.first w.if-count-ge4.false
+    ]
+
+pub returns-in-Malformed : goal.returns-in-Malformed
+unfolding ring_as
+returns-in-Malformed c = sym (ap (ring_as _) c.in-Malformed.is)

@@ -8,15 +8,9 @@ use Rattle.maps.proofs.Edges.{length_cut}
 use Rattle.linking.proofs.Cutting.{cut_below}
 use Rattle.linking.proofs.splice.Goals as goal
 
-pub cut-requires : goal.cut-requires
-cut-requires c = record {
-      whole = c.requires.whole;
-      below = omega arith;
-      partner_below = c.requires.links_below (own c.args.left) (omega arith);
-    }
-
 pub cut-requires-2 : goal.cut-requires-2
-cut-requires-2 c = rw c.cut.ensures
+cut-requires-2 c =
+    rw c.cut.ensures
     (record {
       whole = length_cut (own c.args.left) c.args.edge.now ∙ c.requires.whole;
       below = omega arith;
@@ -28,10 +22,5 @@ cut-requires-2 c = rw c.cut.ensures
 pub returns : goal.returns
 returns c = (
   refl,
-  rw (
-    c.join-2.ensures,
-    c.join.ensures,
-    c.cut-2.ensures,
-    c.cut.ensures,
-  ),
+  rw (c.join-2.ensures, c.join.ensures, c.cut-2.ensures, c.cut.ensures),
 )

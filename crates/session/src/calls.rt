@@ -59,22 +59,6 @@ pub(crate) fn offer(map: Map, p: Point) -> Map {
     offered.map
 }
 
-// The points that are left and the reference stand behind the answer. The map that is returned goes on to
-// the next call.
-pub(crate) fn remove_last(map: Map) -> Map {
-    say(b"remove_last");
-    let removed = office::remove_last(map);
-    let outcome = removed.outcome;
-    match outcome {
-        Outcome::Served => {
-            let values = [removed.map.count, removed.map.reference];
-            tell(b"served", &values);
-        }
-        Outcome::Refused(refusal) => tell_refused(refusal),
-    }
-    removed.map
-}
-
 pub(crate) fn orbit(map: Map, name: &[u8], kind: Kind, dart: usize) {
     say(b"orbit ");
     say(name);

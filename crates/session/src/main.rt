@@ -2,7 +2,6 @@
 // crate that uses them. Each call prints a line: its name, what it was given (maps and lists are left out, but for
 // a claim), a colon, and the answer, by its word and its values. The values stand in the order of the declared types:
 //     offer          left corner, right corner, visible edges
-//     remove_last    the points that are left, the reference of the map
 //     orbit          the darts of the set
 //     counts         darts, vertices, edges, faces, parts
 //     walk           the last dart, the moves made
@@ -24,7 +23,6 @@ use model::{Kind, Link, Map, NO_DART, POINT_LIMIT, Point};
 fn main() {
     orientations();
     let map = survey();
-    removals(map);
     rail();
     readings(map);
     queries(map);
@@ -78,19 +76,6 @@ fn survey() -> Map {
     calls::offer(five, at(6, 7))
 }
 
-// The worked survey taken back point by point, until there is none. Offered again, the last point arrives as
-// it did.
-fn removals(map: Map) {
-    let five = calls::remove_last(map);
-    calls::offer(five, at(6, 7));
-    let four = calls::remove_last(five);
-    let three = calls::remove_last(four);
-    let two = calls::remove_last(three);
-    let one = calls::remove_last(two);
-    let none = calls::remove_last(one);
-    calls::remove_last(none);
-}
-
 // Marks along a rail: the third is in line beyond the second, and its left and right corner are both
 // the first, which is farther from it. A mark on an edge is inside; one beyond the rail is outside.
 fn rail() {
@@ -100,7 +85,6 @@ fn rail() {
     calls::counts(three);
     calls::place(three, at(6, 0));
     calls::offer(three, at(1, 0));
-    calls::remove_last(three);
 }
 
 // What is read from the map of six points.
@@ -240,7 +224,6 @@ fn unsound(map: Map) {
     map.reference = NO_DART;
     calls::is_sound(map);
     calls::offer(map, at(2, 5));
-    calls::remove_last(map);
     calls::orbit(map, b"face", Kind::Face, 0);
     calls::counts(map);
     calls::walk(map, 0);

@@ -43,7 +43,7 @@ grown_hashed {m} {p} o a h o_is count_is more_is =
     rw (more_is, count_is) (one_hashed p h put.0 put.1)
 
 pub overflow_add-lines : goal.overflow_add-lines
-overflow_add-lines c = omega (arith, c.requires.free)
+overflow_add-lines c = omega (arith, c.requires.free, few c.requires)
 
 pub overflow_add-result : goal.overflow_add-result
 overflow_add-result c = omega (arith, few c.requires)

@@ -45,27 +45,31 @@ module _ {text : List ℕ} (r : Reader) (same : r.text.now ≡ text) where
 pub decide_line-tally-requires : goal.decide_line-tally-requires
 decide_line-tally-requires c =
     let i = c.loop-reader.invariant in
-    decidable i.surveying (at_its_end c.loop-reader.reader i.same_text c.at_end.ensures c.loop-reader-test.true)
-    (its_line c.loop-reader.reader i.same_text c.next-line.ensures.0)
+    let r = c.loop-reader.reader in
+    decidable i.surveying (at_its_end r i.same_text c.at_end.ensures c.loop-reader-test.true)
+    (its_line r i.same_text c.next-line.ensures.0)
 
 pub loop-reader-smaller : goal.loop-reader-smaller
 loop-reader-smaller c =
     let i = c.loop-reader.invariant in
-    closer c.loop-reader.reader i.same_text c.next-line.ensures.1 i.surveying
-    (at_its_end c.loop-reader.reader i.same_text c.at_end.ensures c.loop-reader-test.true)
+    let r = c.loop-reader.reader in
+    closer r i.same_text c.next-line.ensures.1 i.surveying
+    (at_its_end r i.same_text c.at_end.ensures c.loop-reader-test.true)
 
 pub loop-reader-preserved : goal.loop-reader-preserved
 loop-reader-preserved c =
     let i = c.loop-reader.invariant in
+    let r = c.loop-reader.reader in
     record {
-      same_text = same_later c.loop-reader.reader i.same_text c.next-line.ensures.1;
+      same_text = same_later r i.same_text c.next-line.ensures.1;
       surveying =
-          goes_on c.loop-reader.reader i.same_text c.next-line.ensures.1 i.surveying
-          (at_its_end c.loop-reader.reader i.same_text c.at_end.ensures c.loop-reader-test.true)
-          (its_line c.loop-reader.reader i.same_text c.next-line.ensures.0) c.decide_line-tally.ensures;
+          goes_on r i.same_text c.next-line.ensures.1 i.surveying
+          (at_its_end r i.same_text c.at_end.ensures c.loop-reader-test.true)
+          (its_line r i.same_text c.next-line.ensures.0) c.decide_line-tally.ensures;
     }
 
 pub returns : goal.returns
 returns c =
     let i = c.loop-reader.invariant in
-    all_decided i.surveying (at_its_end c.loop-reader.reader i.same_text c.at_end.ensures c.loop-reader-test.false)
+    all_decided i.surveying
+    (at_its_end c.loop-reader.reader i.same_text c.at_end.ensures c.loop-reader-test.false)

@@ -18,7 +18,7 @@ use Rattle.model.specs.declared.Map.{Map}
 use Rattle.model.specs.Maps.{point_limit, own, point, is_present, edge_link}
 use Rattle.model.specs.Outline.{outline}
 use Rattle.model.specs.Shape.{Shaped}
-use Rattle.model.specs.Arrival.{cut, turning_left, turning_right, farther, left_corner, right_corner}
+use Rattle.model.specs.Arrival.{turning_left, turning_right, farther, left_corner, right_corner}
 use Rattle.model.proofs.Shape.{place_ranged, present_below}
 use Rattle.maps.proofs.Outline.{outline_circuit}
 use Rattle.maps.specs.Places.{PlacesFor, RangedQuery}

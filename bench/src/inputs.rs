@@ -14,7 +14,7 @@ pub fn random(points: usize) -> Vec<(i64, i64)> {
     let mut coordinate = || {
         state =
             state.wrapping_mul(6_364_136_223_846_793_005).wrapping_add(1_442_695_040_888_963_407);
-        (((state >> 32) as i64 * (2 * COORDINATE_LIMIT + 1)) >> 32) - COORDINATE_LIMIT
+        ((state >> 32) as i64 * (2 * COORDINATE_LIMIT + 1) >> 32) - COORDINATE_LIMIT
     };
     (0..points).map(|_| (coordinate(), coordinate())).collect()
 }

@@ -9,7 +9,7 @@
 //!
 //! Both answer first, and the answers must be equal. Each call on a map takes its saved bytes and
 //! looks at soundness: it builds the map of its points and compares. Saving has no call of its own:
-//! it is part of a load, of an offer and of taking the last point back.
+//! it is part of a load and of an offer.
 
 mod inputs;
 mod measure;
@@ -79,8 +79,7 @@ impl Table {
         }
     }
 
-    /// The calls on a map of so many points, the last of which is the one that is offered and taken
-    /// back.
+    /// The calls on a map of so many points, the last of which is the one that is offered.
     fn calls(&self, shape: &str, points: &[(i64, i64)]) {
         let [before @ .., (x, y)] = points else {
             return;
@@ -161,12 +160,6 @@ impl Table {
             (vec![0; file.len()], [0; 4]),
             |(out, arrival)| raw::offer(smaller, x, y, out, arrival),
             |(out, arrival)| plain::offer(smaller, x, y, out, arrival),
-        );
-        self.line(
-            &named("take back the last of"),
-            vec![0; smaller.len()],
-            |out| raw::remove(file, out),
-            |out| plain::remove(file, out),
         );
     }
 

@@ -7,10 +7,9 @@
 //! map that they build is held to the file; a later arrival looks at every outline edge once, going
 //! from own dart to own dart. A map grows in place, and it is compared with the file where that
 //! stands. Other than in the engine, a new point is compared with all points, four at a time. The
-//! last point is taken back by its record, in the map as it stands. The positions of an outline's
-//! text are read from its front on, and its corners are tested by their turns, as in the engine. An
-//! area is the sum over a fan of triangles, as it is there, and a claim is tested edge by edge
-//! against every point, without a map.
+//! positions of an outline's text are read from its front on, and its corners are tested by their
+//! turns, as in the engine. An area is the sum over a fan of triangles, as it is there, and a claim
+//! is tested edge by edge against every point, without a map.
 
 const POINT_LIMIT: usize = 512;
 const DART_LIMIT: usize = 2 * POINT_LIMIT;
@@ -31,7 +30,6 @@ const LONG_TEXT: u32 = 9;
 const SHORT_LIST: u32 = 10;
 const BAD_OUTLINE: u32 = 11;
 const NO_SURVEY: u32 = 12;
-const NO_POINT: u32 = 13;
 
 /// Version 2 is written, version 1 read too.
 const VERSION: u8 = 2;
@@ -373,42 +371,6 @@ impl Map {
         self.helpers[k] = true;
         self.reference = 2 * k;
         Arrival::Outside(left, right, visible)
-    }
-
-    // ---- taking back
-
-    /// Takes the last point back: its two corners are joined again with the darts that they let go,
-    /// or where one edge was visible with each other.
-    fn remove_last(&mut self) -> Result<(), u32> {
-        let k = self.count.checked_sub(1).ok_or(NO_POINT)?;
-        self.count = k;
-        self.helpers[k] = false;
-        match self.records[k] {
-            (1, _) => {
-                self.helpers[0] = false;
-                self.edge[0] = 0;
-                self.edge[1] = 1;
-                self.reference = NO_DART;
-            }
-            (3, freed) => {
-                let (l, r) = (self.edge_link(2 * k + 1), self.edge_link(2 * k));
-                if freed == NONE_FREED {
-                    self.join(l, r);
-                } else {
-                    self.join(l, usize::from(freed[0]));
-                    self.join(r, usize::from(freed[1]));
-                }
-                self.reference = self.latest();
-            }
-            _ => {}
-        }
-        Ok(())
-    }
-
-    /// The own dart of the last point that arrived second or outside, of two points or more.
-    fn latest(&self) -> usize {
-        let is_corner = |&(arrival, _): &Record| arrival % 2 == 1;
-        2 * self.records[..self.count].iter().rposition(is_corner).unwrap_or(0)
     }
 
     // ---- reading
@@ -852,18 +814,6 @@ pub fn offer(file: &[u8], x: i64, y: i64, out: &mut [u8], arrival: &mut [u64]) -
             }
             _ => Err(SHORT_LIST),
         }
-    }))
-}
-
-#[inline(never)]
-pub fn remove(file: &[u8], out: &mut [u8]) -> u32 {
-    answer(Map::load(file).and_then(|mut map| {
-        map.remove_last()?;
-        let Some(list) = out.get_mut(..map.saved_length()) else {
-            return Err(SHORT_LIST);
-        };
-        map.save(list);
-        Ok(0)
     }))
 }
 

@@ -12,13 +12,12 @@ const PAGE: usize = 4096;
 const LEAST_PAGES: usize = 4;
 const MOST_PAGES: usize = 1024;
 
-const CALLS: [&str; 16] = [
+const CALLS: [&str; 15] = [
     "report, 65,536 bytes",
     "report, 65,537 bytes (number 9)",
     "check, 512 points",
     "load, 512 points",
     "offer, 511 points",
-    "take back, 512 points",
     "place, 512 points",
     "part, 512 points",
     "walk, 512 points",
@@ -53,10 +52,6 @@ fn call(name: &str) -> Option<Box<dyn FnOnce() -> u32 + Send>> {
         "offer, 511 points" => {
             let (mut out, mut arrival) = (vec![0; file.len()], [0; 4]);
             Box::new(move || raw::offer(&smaller, x, y, &mut out, &mut arrival))
-        }
-        "take back, 512 points" => {
-            let mut out = smaller;
-            Box::new(move || raw::remove(&file, &mut out))
         }
         "place, 512 points" => Box::new(move || raw::place(&file, 0, 0, &mut [0; 3])),
         "part, 512 points" => Box::new(move || raw::part_orbit(&file, 0, &mut [0; 17])),

@@ -29,14 +29,6 @@ fn compare(file: &[u8], p: Point, dart: u64) {
     let written = &loaded[..length[0] as usize];
     number(map.as_ref().map(|m| m.save()).map_err(|e| *e), |saved| assert_eq!(saved, written), got);
 
-    let removed = map.clone().and_then(|mut m| m.remove_last().map(|()| m.save()));
-    let mut out = vec![7; removed.as_ref().map_or(1, Vec::len)];
-    let short = plain::remove(file, &mut out[1..]);
-    assert_eq!(short, removed.as_ref().err().copied().unwrap_or(10));
-    assert!(out.iter().all(|&byte| byte == 7));
-    let got = plain::remove(file, &mut out);
-    number(removed, |saved| assert_eq!(saved, out, "{file:?}"), got);
-
     let mut counts = [0; 5];
     let got = plain::counts(file, &mut counts);
     let c = map.as_ref().map(|m| m.counts()).map_err(|e| *e);

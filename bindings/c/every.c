@@ -13,8 +13,8 @@
 #include <stdio.h>
 #include <string.h>
 
-#if REACH_HEADER_VERSION != 8
-#error "this program is for version 8 of reach.h"
+#if REACH_HEADER_VERSION != 7
+#error "this program is for version 7 of reach.h"
 #endif
 
 static int values, differences;
@@ -30,10 +30,9 @@ static void is(int line, const char *what, int64_t got, int64_t expected) {
     }
 }
 
-/* The map that the calls read, and how many bytes it has; the map after an offer or a removal, or a
-   loaded one; the map in version 1; the map before a removal. */
+/* The map that the calls read, and how many bytes it has; the map after an offer, or a loaded one;
+   the map in version 1. */
 static uint8_t map[REACH_MAP_BYTES], next[REACH_MAP_BYTES], former[REACH_MAP_BYTES];
-static uint8_t whole[REACH_MAP_BYTES];
 static size_t bytes;
 
 /* What the calls write. */
@@ -48,7 +47,6 @@ static int64_t points[2 * REACH_POINTS + 3] = {0, 0, 4, 0, 1, 3, 5, 4, 2, 1, 6, 
 /* The words of the numbers, and of those that are not there. */
 static const char *const words[] = REACH_REFUSAL_WORDS;
 static_assert(sizeof words / sizeof words[0] == REACH_UNKNOWN + 1, "each number has words");
-static_assert(REACH_NO_POINT + 1 == REACH_UNKNOWN, "the last place is after the last number");
 
 /* The number in so many bytes from a place of the map on. */
 static uint32_t at(size_t place, size_t width) {
@@ -71,17 +69,6 @@ static uint32_t offer(int64_t x, int64_t y) {
     uint32_t refusal = reach_offer(map, bytes, x, y, next, sizeof next, out, 4);
     if (refusal == 0) {
         bytes = REACH_BYTES(n + 1);
-        memcpy(map, next, bytes);
-    }
-    return refusal;
-}
-
-/* Takes the last point back; the map is then the one before it. */
-static uint32_t take_back(void) {
-    const size_t n = at(REACH_COUNT_PLACE, 2);
-    uint32_t refusal = reach_remove(map, bytes, next, sizeof next);
-    if (refusal == 0) {
-        bytes = REACH_BYTES(n - 1);
         memcpy(map, next, bytes);
     }
     return refusal;
@@ -195,60 +182,6 @@ static void marks_not(size_t numbers, uint32_t refusal) {
     IS(out[1], 9);
 }
 
-/* How many bytes of the list, from a place on, are not 99 any more. */
-static size_t changed(size_t place) {
-    size_t count = 0;
-    for (size_t i = place; i < sizeof next; i++) {
-        count += next[i] != 99;
-    }
-    return count;
-}
-
-/* Nothing is taken back from a file, however long the list is: it stays. */
-static void removes_not(const uint8_t *file, size_t file_bytes, uint32_t refusal) {
-    memset(next, 99, sizeof next);
-    IS(reach_remove(file, file_bytes, NULL, 0), refusal);
-    IS(reach_remove(file, file_bytes, next, 0), refusal);
-    IS(reach_remove(file, file_bytes, next, REACH_EMPTY_BYTES), refusal);
-    IS(reach_remove(file, file_bytes, next, sizeof next), refusal);
-    IS(changed(0), 0);
-}
-
-/* Takes the last point back, from the map in either version: a short list stays, a longer one keeps
-   its tail. The point offered again would bring back the same map. */
-static void removes(void) {
-    const size_t n = at(REACH_COUNT_PLACE, 2), few = in_version_1(), less = REACH_BYTES(n - 1);
-    const int64_t x = coordinate(REACH_X_PLACE(n - 1)), y = coordinate(REACH_Y_PLACE(n - 1));
-    const uint32_t kind = at(REACH_ARRIVAL_PLACE(n, n - 1), 1);
-    memcpy(whole, map, bytes);
-    memset(next, 99, sizeof next);
-    IS(reach_remove(map, bytes, NULL, 0), REACH_SHORT_LIST);
-    IS(reach_remove(map, bytes, next, less - 1), REACH_SHORT_LIST);
-    IS(reach_remove(former, few, next, less - 1), REACH_SHORT_LIST);
-    IS(changed(0), 0);
-    IS(take_back(), 0);
-    IS(changed(less), 0);
-    IS(bytes, less);
-    IS(at(REACH_VERSION_PLACE, 1), REACH_FILE_VERSION);
-    IS(reach_check(map, bytes), 0);
-    memset(next, 99, sizeof next);
-    IS(reach_remove(former, few, next, less), 0);
-    IS(memcmp(next, map, less), 0);
-    IS(changed(less), 0);
-    IS(reach_offer(map, bytes, x, y, next, sizeof next, out, 4), 0);
-    IS(out[0], kind);
-    IS(memcmp(next, whole, REACH_BYTES(n)), 0);
-}
-
-/* The map has so many points, this reference, and for each dart this edge link. */
-static void has_links(size_t n, uint32_t reference, const uint32_t *links) {
-    IS(at(REACH_COUNT_PLACE, 2), n);
-    IS(at(REACH_REFERENCE_PLACE, 2), reference);
-    for (size_t dart = 0; dart < 2 * n; dart++) {
-        IS(at(REACH_EDGE_PLACE(n, dart), 2), links[dart]);
-    }
-}
-
 /* A number has these words. */
 static void says(uint32_t number, const char *expected) {
     const char *got = words[number < REACH_UNKNOWN ? number : REACH_UNKNOWN];
@@ -280,8 +213,7 @@ static void refusals(void) {
     says(REACH_SHORT_LIST, "the lent list is too short");
     says(REACH_BAD_OUTLINE, "the outline's text is not in form");
     says(REACH_NO_SURVEY, "no survey lists these corners in this order");
-    says(REACH_NO_POINT, "the map has no point");
-    says(REACH_NO_POINT + 1, "a number that this header does not have");
+    says(REACH_NO_SURVEY + 1, "a number that this header does not have");
     says(UINT32_MAX, "a number that this header does not have");
 }
 
@@ -577,79 +509,6 @@ static void areas(void) {
     measures_not(bytes, 4, REACH_NO_DART);
 }
 
-/* Builds the map of so many points: x and y in turn. */
-static void builds(const int64_t *coordinates, size_t n) {
-    bytes = REACH_EMPTY_BYTES;
-    IS(reach_empty(map, sizeof map), 0);
-    for (size_t k = 0; k < n; k++) {
-        IS(offer(coordinates[2 * k], coordinates[2 * k + 1]), 0);
-    }
-}
-
-/* The session taken back point by point: the maps while it was built, the other way round. */
-static void session_taken_back(void) {
-    static const uint32_t references[] = {REACH_NO_REFERENCE, REACH_NO_REFERENCE, 2, 4, 6, 6};
-    /* points 2 and 3 saw one edge, and its ends are joined with each other; point 5 freed the darts
-       7 and 6 */
-    static const uint32_t links[][10] = {{0},
-                                         {0, 1},
-                                         {3, 2, 1, 0},
-                                         {3, 4, 5, 0, 1, 2},
-                                         {3, 4, 7, 0, 1, 6, 5, 2},
-                                         {3, 4, 7, 0, 1, 6, 5, 2, 8, 9}};
-    static uint8_t before[6][REACH_BYTES(5)];
-    for (size_t n = 0; n < 6; n++) {
-        builds(points, n);
-        memcpy(before[n], map, bytes);
-    }
-    builds(points, 6);
-    for (size_t n = 6; n-- > 0;) {
-        removes();
-        IS(memcmp(map, before[n], REACH_BYTES(n)), 0);
-        has_links(n, references[n], links[n]);
-        for (size_t k = 0; k < n; k++) {
-            IS(at(REACH_HELPER_PLACE(n, k), 1), n > 1 && k != 4);
-        }
-    }
-    removes_not(map, bytes, REACH_NO_POINT);
-    IS(memcmp(map, before[0], REACH_EMPTY_BYTES), 0);
-}
-
-/* Rails with their last point taken back: the two darts of the corner farther from it are joined
-   with those that it freed. */
-static void rails_taken_back(void) {
-    static const int64_t beyond[] = {0, 0, 2, 0, 4, 0, 6, 0}, behind[] = {0, 0, 2, 0, -2, 0};
-    static const uint32_t two[] = {3, 2, 1, 0}, three[] = {5, 4, 2, 3, 1, 0};
-    builds(beyond, 3);
-    removes();
-    has_links(2, 2, two);
-    builds(beyond, 4);
-    removes();
-    has_links(3, 4, three);
-    builds(behind, 3);
-    removes();
-    has_links(2, 2, two);
-}
-
-/* Every number of a removal, each before those that stand after it. */
-static void refused_removals(void) {
-    builds(points, 0);
-    removes_not(map, bytes, REACH_NO_POINT);
-    removes_not(former, in_version_1(), REACH_NO_POINT);
-    removes_not(map, bytes - 1, REACH_BAD_FILE);
-    removes_not(NULL, 0, REACH_BAD_FILE);
-    map[REACH_REFERENCE_PLACE] = 0;
-    removes_not(map, bytes, REACH_NOT_SOUND);
-    removes_not(former, in_version_1(), REACH_NOT_SOUND);
-    removes_not(map, bytes - 1, REACH_BAD_FILE);
-    builds(points, 6);
-    map[REACH_REFERENCE_PLACE + 1] = 6;
-    removes_not(map, bytes, REACH_NOT_SOUND);
-    removes_not(former, in_version_1(), REACH_NOT_SOUND);
-    removes_not(map, bytes - 1, REACH_BAD_FILE);
-    removes_not(map, sizeof map, REACH_BAD_FILE);
-}
-
 /* Claims on the session, on fewer points and on as many as there may be; then refused points. */
 static void claims(void) {
     static const uint64_t listing[] = {0, 1, 5, 2, 0, 1, 5, 2}, clockwise[] = {2, 5, 1, 0};
@@ -769,9 +628,6 @@ static void full(void) {
     measures_not(bytes, REACH_POINTS, REACH_NO_DART);
     IS(reach_walker(map, bytes, REACH_DARTS - 1, out, 1), 0);
     IS(reach_walker(map, bytes, REACH_DARTS, out, 1), REACH_NO_DART);
-    removes();
-    IS(bytes, REACH_MAP_BYTES - REACH_POINT_BYTES);
-    IS(offer(-1, 0), 0);
 }
 
 /* A part of the program, and the stack of its thread. */
@@ -787,16 +643,14 @@ static void *run(void *part) {
 
 int main(void) {
     static struct part parts[] = {
-        {REACH_CALL_STACK, refusals},          {REACH_CALL_STACK, without_points},
-        {REACH_CALL_STACK, arrivals},          {REACH_CALL_STACK, saved_form},
-        {REACH_CALL_STACK, versions},          {REACH_CALL_STACK, offers_to_version_1},
-        {REACH_CALL_STACK, orbits},            {REACH_CALL_STACK, walks},
-        {REACH_CALL_STACK, places},            {REACH_CALL_STACK, numbers},
-        {REACH_REPORT_STACK, reports},         {REACH_CALL_STACK, outlines},
-        {REACH_CALL_STACK, areas},             {REACH_CALL_STACK, session_taken_back},
-        {REACH_CALL_STACK, rails_taken_back},  {REACH_CALL_STACK, refused_removals},
-        {REACH_CALL_STACK, claims},            {REACH_CALL_STACK, rail},
-        {REACH_CALL_STACK, full},
+        {REACH_CALL_STACK, refusals},   {REACH_CALL_STACK, without_points},
+        {REACH_CALL_STACK, arrivals},   {REACH_CALL_STACK, saved_form},
+        {REACH_CALL_STACK, versions},   {REACH_CALL_STACK, offers_to_version_1},
+        {REACH_CALL_STACK, orbits},     {REACH_CALL_STACK, walks},
+        {REACH_CALL_STACK, places},     {REACH_CALL_STACK, numbers},
+        {REACH_REPORT_STACK, reports},  {REACH_CALL_STACK, outlines},
+        {REACH_CALL_STACK, areas},      {REACH_CALL_STACK, claims},
+        {REACH_CALL_STACK, rail},       {REACH_CALL_STACK, full},
     };
     for (size_t i = 0; i < sizeof parts / sizeof parts[0]; i++) {
         pthread_attr_t attributes;

@@ -1,6 +1,6 @@
 /*
- * Prints the session of the requirements through the library, arrival by arrival, has its own list
- * of corners marked, and takes the last mark back to offer it again.
+ * Prints the session of the requirements through the library, arrival by arrival, and has its own
+ * list of corners marked.
  *
  *     cc -std=c11 -Wall -Wextra -o example example.c ../../target/staticlib/libreach.a && ./example
  */
@@ -20,23 +20,6 @@ static int is_served(const char *call, uint32_t number) {
                 refusal_words[number < REACH_UNKNOWN ? number : REACH_UNKNOWN]);
     }
     return number == 0;
-}
-
-/* Takes the last mark, at x and y, back from a map of n points and offers it again. Whether that
-   gives the same map, byte for byte. */
-static int is_the_same_again(const uint8_t *map, size_t n, int64_t x, int64_t y) {
-    uint8_t before[REACH_MAP_BYTES], again[REACH_MAP_BYTES];
-    uint64_t arrival[4];
-    if (!is_served("reach_remove", reach_remove(map, REACH_BYTES(n), before, sizeof before)) ||
-        !is_served("reach_offer", reach_offer(before, REACH_BYTES(n - 1), x, y, again,
-                                              sizeof again, arrival, 4))) {
-        return 0;
-    }
-    if (memcmp(again, map, REACH_BYTES(n)) != 0) {
-        fputs("reach_remove: the last mark, offered again, gives another map\n", stderr);
-        return 0;
-    }
-    return 1;
 }
 
 int main(void) {
@@ -88,5 +71,5 @@ int main(void) {
         fputs("reach_mark: the session's own corners are marked wrong\n", stderr);
         return 1;
     }
-    return is_the_same_again(map, n, session[numbers - 2], session[numbers - 1]) ? 0 : 1;
+    return 0;
 }

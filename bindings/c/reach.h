@@ -24,11 +24,11 @@
  * buffer it lies in: bytes after the map are refused as REACH_BAD_FILE.
  *
  * A list may not overlap another of the same call. A map, a line, a text, coordinates and a claim
- * are lists too: the bytes after an offer or a removal go into another buffer than the map before
- * it. The pointer of a list of no elements may be null. The functions keep no state and may be
- * called from several threads, whose stacks have the sizes below. Several calls may read the same
- * map at once, but nobody else writes that map meanwhile, or any list that a call reads, and nobody
- * else reads or writes a list that a call writes to.
+ * are lists too: the bytes after an offer go into another buffer than the map that is offered to.
+ * The pointer of a list of no elements may be null. The functions keep no state and may be called
+ * from several threads, whose stacks have the sizes below. Several calls may read the same map at
+ * once, but nobody else writes that map meanwhile, or any list that a call reads, and nobody else
+ * reads or writes a list that a call writes to.
  */
 #ifndef REACH_H
 #define REACH_H
@@ -42,7 +42,7 @@
 
 /* The version of this header: it grows with each change of a function, a number, a limit or the
    saved form. */
-#define REACH_HEADER_VERSION 8
+#define REACH_HEADER_VERSION 7
 
 #ifdef __cplusplus
 extern "C" {
@@ -64,8 +64,7 @@ enum {
     REACH_SHORT_LIST = 10,  /* lent list shorter than the result */
     REACH_BAD_OUTLINE = 11, /* outline's text in another spelling, a ring that does not end on its
                                first corner, or a ring of under three corners */
-    REACH_NO_SURVEY = 12,   /* outline's text: corners that no survey lists in that order */
-    REACH_NO_POINT = 13     /* removal: the map has no point */
+    REACH_NO_SURVEY = 12    /* outline's text: corners that no survey lists in that order */
 };
 
 /* The words of the numbers, which a caller may print: the initializer of an array of strings, in
@@ -76,7 +75,7 @@ enum {
        static const char *const words[] = REACH_REFUSAL_WORDS;
        puts(words[number < REACH_UNKNOWN ? number : REACH_UNKNOWN]);
  */
-#define REACH_UNKNOWN 14
+#define REACH_UNKNOWN 13
 #define REACH_REFUSAL_WORDS                                         \
     {                                                               \
         "served",                                                   \
@@ -92,7 +91,6 @@ enum {
         "the lent list is too short",                               \
         "the outline's text is not in form",                        \
         "no survey lists these corners in this order",              \
-        "the map has no point",                                     \
         "a number that this header does not have"                   \
     }
 
@@ -215,15 +213,6 @@ uint32_t reach_empty(uint8_t *out, size_t out_bytes);
    visible. Refusals: 7, 1, 2, 3, 4, 10. */
 uint32_t reach_offer(const uint8_t *map, size_t map_bytes, int64_t x, int64_t y, uint8_t *out,
                      size_t out_bytes, uint64_t *arrival, size_t arrival_length);
-
-/* Takes back the last point of a map of n points: writes the bytes of the map without it to out, in
-   version 2 whichever the map has. It is exactly the map to which that point was offered: the darts
-   that it freed are linked again, and the reference is the one before it. Offering the same point
-   again gives the same map again; the next point that is accepted gets its number. The map without
-   it has REACH_BYTES(n - 1) bytes, REACH_POINT_BYTES less than the map in version 2; for a map of
-   version 1 that may be more than map_bytes. A map without points is refused as REACH_NO_POINT,
-   however short out is. Refusals: 7, 1, 13, 10. */
-uint32_t reach_remove(const uint8_t *map, size_t map_bytes, uint8_t *out, size_t out_bytes);
 
 /* Writes the orbit of a dart under the edge link, REACH_ORBIT_WORDS numbers: bit j of out[w] stands
    for dart 64 * w + j, for w below 16, and out[16] is the number of its darts. Refusals: 7, 1, 6,

@@ -11,9 +11,8 @@ const NO_DART: usize = 1024;
 /// freed.
 ///
 /// A map owns its bytes in version 2 of the saved form, and is sound by the way it comes about:
-/// empty, loaded from bytes that the engine accepts, or changed by an accepted offer or by taking
-/// the last point back. Maps are equal where their bytes are, and so where they have the same
-/// points in the same order.
+/// empty, loaded from bytes that the engine accepts, or changed by an accepted offer. Maps are
+/// equal where their bytes are, and so where the same points came in the same order.
 ///
 /// Point k owns dart 2k and may have the helper dart 2k + 1. Each dart has an edge link and a point
 /// link.
@@ -112,11 +111,10 @@ pub enum ArrivalKind {
 
 /// What a map keeps of a point's arrival: how it came, and the two darts that it freed.
 ///
-/// A freed dart lost its edge link to the left or the right corner. No later arrival links it
-/// again; taking the point back does. Of the visible edges the first and the last are lost so, and
-/// those between stay linked, as a chain from one freed dart to the other. Where two edges were
-/// visible the chain has none, and the freed darts are the two of one point; where one was, no dart
-/// is freed.
+/// A freed dart lost its edge link to the left or the right corner, and no later arrival links it
+/// again. Of the visible edges the first and the last are lost so, and those between stay linked,
+/// as a chain from one freed dart to the other. Where two edges were visible the chain has none,
+/// and the freed darts are the two of one point; where one was, no dart is freed.
 ///
 /// ```
 /// use reach::{Ending, Map, Walk};
@@ -489,42 +487,6 @@ impl Map {
             2 => Arrival::Inside,
             _ => Arrival::Outside { left, right, visible },
         })
-    }
-
-    /// Takes the last accepted point back. The map is then exactly the one before it: the darts
-    /// that it freed are joined again, and the next point that is accepted gets its number.
-    /// Offering the same point again brings back the same map.
-    ///
-    /// # Errors
-    ///
-    /// [`Refusal::NoPoint`] where the map has no point.
-    ///
-    /// ```
-    /// use reach::{Map, Point, Refusal};
-    ///
-    /// let whole = Map::survey(b"0 0\n4 0\n1 3\n5 4\n2 1\n6 7\n")?.map;
-    /// let mut map = whole.clone();
-    /// map.remove_last()?;
-    /// assert_eq!(map.corners(), [0, 1, 3, 2]);
-    /// // point 5 freed dart 6
-    /// assert_eq!((whole.walk(6)?.moves, map.walk(6)?.moves), (0, 8));
-    /// map.offer(Point { x: 6, y: 7 })?;
-    /// assert_eq!(map, whole);
-    ///
-    /// for _ in 0..6 {
-    ///     map.remove_last()?;
-    /// }
-    /// assert_eq!(map, Map::new());
-    /// assert_eq!(map.remove_last(), Err(Refusal::NoPoint));
-    /// assert_eq!(map, Map::new());
-    /// # Ok::<(), reach::Refusal>(())
-    /// ```
-    pub fn remove_last(&mut self) -> Result<(), Refusal> {
-        // a map without points is refused before the list is looked at, so it may have no room
-        let mut bytes = vec![0; self.bytes.len().saturating_sub(POINT_BYTES)];
-        Refusal::of(raw::remove(&self.bytes, &mut bytes))?;
-        self.bytes = bytes;
-        Ok(())
     }
 
     /// The map of a survey text, and the answer of each of its lines, as [`report`] has them.

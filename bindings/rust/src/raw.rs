@@ -31,7 +31,6 @@ mod engine {
             arrival: *mut u64,
             k: usize,
         ) -> u32;
-        pub fn reach_remove(map: *const u8, n: usize, out: *mut u8, m: usize) -> u32;
         pub fn reach_edge_orbit(
             map: *const u8,
             n: usize,
@@ -159,11 +158,6 @@ pub fn offer(map: &[u8], x: i64, y: i64, out: &mut [u8], arrival: &mut [u64]) ->
     let (list, m) = (out.as_mut_ptr(), out.len());
     let (values, k) = (arrival.as_mut_ptr(), arrival.len());
     unsafe { engine::reach_offer(map.as_ptr(), map.len(), x, y, list, m, values, k) }
-}
-
-/// 7, 1, 13, 10: the bytes of the map without its last point, in version 2.
-pub fn remove(map: &[u8], out: &mut [u8]) -> u32 {
-    unsafe { engine::reach_remove(map.as_ptr(), map.len(), out.as_mut_ptr(), out.len()) }
 }
 
 macro_rules! from_a_dart {

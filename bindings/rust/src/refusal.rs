@@ -39,8 +39,6 @@ pub enum Refusal {
     BadOutline,
     /// No survey lists the corners of the outline's text in that order.
     NoSurvey,
-    /// The map has no point to take back.
-    NoPoint,
     /// A number that this crate does not know: the archive it is linked with is of a later engine,
     /// or of an earlier one and the number withdrawn, as 5 is.
     Unknown(u32),
@@ -61,7 +59,6 @@ impl Refusal {
         Refusal::ShortList,
         Refusal::BadOutline,
         Refusal::NoSurvey,
-        Refusal::NoPoint,
     ];
 
     /// The number of the refusal.
@@ -82,7 +79,6 @@ impl Refusal {
             Refusal::ShortList => 10,
             Refusal::BadOutline => 11,
             Refusal::NoSurvey => 12,
-            Refusal::NoPoint => 13,
             Refusal::Unknown(number) => number,
         }
     }
@@ -112,7 +108,6 @@ impl fmt::Display for Refusal {
             Refusal::ShortList => "the lent list is too short",
             Refusal::BadOutline => "the outline's text is not in form",
             Refusal::NoSurvey => "no survey lists these corners in this order",
-            Refusal::NoPoint => "the map has no point",
             Refusal::Unknown(number) => {
                 return write!(f, "refused with {number}, which this crate does not know");
             }
@@ -139,7 +134,7 @@ mod tests {
 
     #[test]
     fn an_unknown_number_is_kept() {
-        for number in [5, 14, 18, u32::MAX] {
+        for number in [5, 13, 18, u32::MAX] {
             assert_eq!(Refusal::of(number), Err(Refusal::Unknown(number)));
             assert_eq!(Refusal::Unknown(number).number(), number);
         }

@@ -71,6 +71,7 @@ module _ (xs ys : List ℤ) (count : ℕ) (p : Point) where
   rule_refusal (at_once t e) = subst OfLine e full
   rule_refusal (later n (at_once t e)) = subst OfLine e out_of_range
   rule_refusal (later n (later m (at_once t e))) = subst OfLine e repeated
+  rule_refusal {r = r} (later n (later m (later k none))) = elim none [ ]
 
   point_refusal : (r : Refusal) → Outcome.Refused r ≡ admission_by xs ys count p → OfLine r
   unfolding admission_by

@@ -73,11 +73,14 @@ fn decide_line(
     line: Line,
 ) -> Tally
     requires { Decidable
-        (map_of xs.old ys.old helpers.old edge.old arrivals.old lefts.old rights.old tally.count tally.reference)
+        (map_of xs.old ys.old helpers.old edge.old arrivals.old lefts.old rights.old
+        tally.count tally.reference)
         hashes.old answers.old tally.lines line }
     ensures { DecidedLine
-        (map_of xs.old ys.old helpers.old edge.old arrivals.old lefts.old rights.old tally.count tally.reference)
-        (map_of xs.new ys.new helpers.new edge.new arrivals.new lefts.new rights.new result.count result.reference)
+        (map_of xs.old ys.old helpers.old edge.old arrivals.old lefts.old rights.old
+        tally.count tally.reference)
+        (map_of xs.new ys.new helpers.new edge.new arrivals.new lefts.new rights.new
+        result.count result.reference)
         hashes.new answers.old answers.new tally.lines result.lines
         line }
 {
@@ -127,10 +130,12 @@ pub fn survey(
     begun: Tally,
 ) -> Tally
     requires { Surveying text.now
-        (map_of xs.old ys.old helpers.old edge.old arrivals.old lefts.old rights.old begun.count begun.reference)
+        (map_of xs.old ys.old helpers.old edge.old arrivals.old lefts.old rights.old
+        begun.count begun.reference)
         hashes.old answers.old begun.lines 0 }
     ensures { Surveys text.now
-        (map_of xs.new ys.new helpers.new edge.new arrivals.new lefts.new rights.new result.count result.reference)
+        (map_of xs.new ys.new helpers.new edge.new arrivals.new lefts.new rights.new
+        result.count result.reference)
         answers.new result.lines }
 {
     let mut reader = Reader { text, at: 0 };

@@ -127,7 +127,9 @@ fn writes<'a>(
 ) -> bool
     requires shaped { Shaped (map_lent xs ys helpers edge arrivals lefts rights count reference) }
     requires file_len { length file.now ≡ saved_length version count }
-    ensures { result ≡ same_list (saved_in version (map_lent xs ys helpers edge arrivals lefts rights count reference)) file.now }
+    ensures { result ≡
+        same_list (saved_in version (map_of xs.now ys.now helpers.now edge.now arrivals.now lefts.now rights.now
+        count reference)) file.now }
 {
     let mut written = [0u8; FILE_LIMIT];
     write_arrays(

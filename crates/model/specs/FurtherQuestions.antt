@@ -91,7 +91,6 @@ refusals =
     ∷ Refusal.ShortList
     ∷ Refusal.BadOutline
     ∷ Refusal.NoSurvey
-    ∷ Refusal.NoPoint
     ∷ []
 
 -- answers with values that all differ
@@ -107,7 +106,7 @@ walk_to ending = record { last = 1; ending = ending; moves = 2 }
 answers : List Question
 answers =
     -- 5 is withdrawn
-    (map number refusals is 1 ∷ 2 ∷ 3 ∷ 4 ∷ 6 ∷ 7 ∷ 8 ∷ 9 ∷ 10 ∷ 11 ∷ 12 ∷ 13 ∷ [])
+    (map number refusals is 1 ∷ 2 ∷ 3 ∷ 4 ∷ 6 ∷ 7 ∷ 8 ∷ 9 ∷ 10 ∷ 11 ∷ 12 ∷ [])
     ∷ (told (oriented_answer (Oriented.Value (neg_ℤ (pos 12)))) is says "orientation -12\n")
     ∷ (told (oriented_answer (Oriented.Refused Refusal.ShortList)) is short)
     ∷ (told (arrival_answer Arrival.First) is says "first\n")

@@ -9,11 +9,11 @@ use mathlib.Core.Option.{Option, none, some}
 use Prim.Native.Nat.{ℕ, zero, suc, ◌+◌, ◌-◌, ◌≤◌, ◌<◌}
 use native.Mathlib.Nat.{sub-zero}
 use native.Mathlib.Omega.{arith}
-use lib.Dec.{T, T_not}
+use lib.Dec.{T}
 use lib.IntN.{ℤ, pos}
 use lib.ListN.{length, get_or, set, take, drop, length-append, length-drop, length-set, get_or-append}
 use lib.Seq.{take_all, drop-drop, append_snoc, get_or-append_seam, get_or-set_same, get_or-set_other}
-use Rattle.finite.specs.Tests.{decide, is_true, is_false, same_or_not}
+use Rattle.finite.specs.Tests.{decide, is_true, same_or_not}
 use Rattle.finite.specs.Lists.{all_in}
 use Rattle.finite.specs.ListLaws.{all_in_snoc}
 use Rattle.model.specs.declared.Point.{Point}

@@ -4,13 +4,12 @@
 // computes its values, and then writes them where there is room.
 #![tactic(auto)]
 
-ghost use Rattle.std.specs.Prelude.{◌≡◌, [], ◌∷◌, T, length};
+ghost use Rattle.std.specs.Prelude.{◌≡◌, [], ◌∷◌, length};
 ghost use Rattle.model.specs.declared.Link.{Link};
 ghost use Rattle.model.specs.Plane.{at, orientation_call};
 ghost use Rattle.model.specs.Maps.{empty_map};
 ghost use Rattle.model.specs.Outline.{corners};
 ghost use Rattle.model.specs.Shape.{Shaped};
-ghost use Rattle.model.specs.Sound.{sound};
 ghost use Rattle.model.specs.Reading.{unsound};
 ghost use Rattle.model.specs.Saved.{load_call, map_in, saved};
 ghost use Rattle.model.specs.Text.{line_call};
@@ -21,7 +20,7 @@ ghost use Rattle.replies.specs.Served.{Served, ServedBoth, number_by, only};
 ghost use Rattle.replies.specs.Opened.{of_file};
 ghost use Rattle.measures.specs.Areas.{sound_area_call};
 ghost use Rattle.replies.specs.Replies.{Offering, area_reply, counts_reply, from_file, length_told};
-ghost use Rattle.replies.specs.Replies.{mark_reply, removal_reply, sound_removal};
+ghost use Rattle.replies.specs.Replies.{mark_reply};
 ghost use Rattle.replies.specs.Replies.{orbit_reply, place_reply, reply, values_of};
 ghost use Rattle.replies.specs.Replies.{walk_reply, walker_reply};
 
@@ -39,7 +38,6 @@ use measures::area_of;
 use model::{Doubled, Kind, Line, Link, Map, Marked, Oriented, Outcome, Point, Written};
 use orbits::Walker;
 use plane::orientation_of;
-use removal::taken_back;
 use replies::opening::{load_at, load_near};
 use replies::values::{placed_values, point, walk_values};
 use replies::writing::{
@@ -48,9 +46,6 @@ use replies::writing::{
 };
 use saved::write_map;
 use survey::lines::read_line;
-
-// The number of a removal from a map without points.
-const NO_POINT: u32 = 13;
 
 // The orientation of three points: numbers 3 and 10.
 #[unsafe(no_mangle)]
@@ -148,37 +143,6 @@ fn write_offer(map: &[u8], p: Point, out: &mut [u8], arrival: &mut [u64]) -> u32
         Outcome::Refused(refusal) => code(refusal),
         Outcome::Served => write_admitted(loaded.map, p, out, arrival),
     }
-}
-
-// The last point of a map taken back: numbers 7, 1, 13 and 10.
-#[unsafe(no_mangle)]
-pub extern "C" fn reach_remove(map: &[u8], out: &mut [u8]) -> u32
-    ensures { Served (from_file removal_reply map.now)
-        out.old out.new result }
-{
-    let loaded = load(map);
-    let outcome = loaded.outcome;
-    match outcome {
-        Outcome::Refused(refusal) => code(refusal),
-        Outcome::Served => write_removed(loaded.map, out),
-    }
-}
-
-// Writes the bytes of a sound map without its last point: numbers 13 and 10.
-fn write_removed(map: Map, out: &mut [u8]) -> u32
-    requires { T (sound map) }
-    ensures { Served (sound_removal map) out.old out.new result }
-{
-    if map.count == 0 {
-        return NO_POINT;
-    }
-    let before = taken_back(map);
-    let bytes = saved_length(VERSION, before.count);
-    if out.len() < bytes {
-        return SHORT_LIST;
-    }
-    write_map(before, VERSION, out);
-    0
 }
 
 // The numbers of darts, vertices, edges, faces and connected parts: numbers 7, 1 and 10.

@@ -3,13 +3,11 @@
 use mathlib.Core.Path.{◌≡◌, refl}
 use mathlib.Core.Bool.{Bool, true, false, cond}
 use mathlib.Core.List.{[], ◌∷◌}
-use types.Run.{OneOf, miss}
-use denote.Enum.Declared.{tag_of}
+use Rattle.model.specs.declared.Refusal.{Refusal}
 use lib.Dec.{eqb}
 use Rattle.model.specs.declared.Point.{Point}
 use Rattle.model.specs.declared.Map.{Map}
 use Rattle.model.specs.declared.Arrival.{Arrival}
-use Rattle.model.specs.contracts.Arrival.{the_type}
 use Rattle.model.specs.declared.Offered.{Offered}
 use Rattle.model.specs.declared.Outcome.{Outcome}
 use Rattle.model.specs.Answers.{outcome_by}
@@ -26,13 +24,13 @@ arrival_outcome (Arrival.Outside l r v) = Outcome.Served
 arrival_outcome (Arrival.Refused r) = Outcome.Refused r
 
 -- the code looks for the last of the five cases
-pub accepted : (a : Arrival) → OneOf (0 ∷ 1 ∷ 2 ∷ 3 ∷ []) (tag_of the_type a) →
+pub accepted : (a : Arrival) → ((r : Refusal) → a ≡ Arrival.Refused r → ⊥) →
     arrival_outcome a ≡ Outcome.Served
 accepted Arrival.First among = refl
 accepted Arrival.Second among = refl
 accepted Arrival.Inside among = refl
 accepted (Arrival.Outside l r v) among = refl
-accepted (Arrival.Refused r) among = absurd (miss (0 ∷ 1 ∷ 2 ∷ 3 ∷ []) 4 tt among)
+accepted (Arrival.Refused r) among = absurd (among r refl)
 
 abbrev outcome_of : Offered → Outcome
 outcome_of o = arrival_outcome o.arrival

@@ -1,52 +1,47 @@
--- Demand 3 at the boundary, in the order of this page: what a call of `reach_offer` or `reach_remove`
--- leaves, by the number that it returns; the file that an offer or a removal leaves of a sound map's
--- file is that of the map after it. So after calls from the empty map's file on, whatever each returned,
--- the caller has the file of the map of the served calls (`calls_run`), of which demand 3 is proved, and
--- its history has just the points of the served offers that no served removal took back
--- (`calls_history`).
+-- Demand 3 at the boundary, in the order of this page: what a call of `reach_offer` leaves, by the
+-- number that it returns; the file that an offer leaves of a sound map's file is that of the map
+-- after the offer. So after calls from the empty map's file on, whatever each returned, the caller has
+-- the file of the map of the run of the served offers (`calls_run`), of which demand 3 is proved, and
+-- the run's history has just these (`calls_history`).
 use mathlib.Core.Path.{◌≡◌, refl, sym, ap, subst, ◌∙◌}
 use mathlib.Core.Logic.{◌≢◌}
-use mathlib.Core.Bool.{Bool, not, ◌||◌}
+use mathlib.Core.Bool.{not, ◌||◌}
 use mathlib.Core.List.{List, [], ◌∷◌, ◌++◌, map, map-append}
-use Prim.Native.Nat.{ℕ, zero, suc, ◌-◌}
+use Prim.Native.Nat.{ℕ}
 use native.Mathlib.Omega.{arith}
 use lib.Dec.{T}
-use lib.ListN.{length, length-map, drop, take}
+use lib.ListN.{length, drop, take}
 use lib.Seq.{take-append_seam}
 use Rattle.finite.specs.Tests.{is_true}
 use Rattle.model.specs.declared.Refusal.{Refusal}
 use Rattle.model.specs.declared.Point.{Point}
 use Rattle.model.specs.declared.Map.{Map}
 use Rattle.model.specs.declared.Offered.{Offered}
-use Rattle.model.specs.declared.Removed.{Removed}
 use Rattle.model.specs.Refusals.{number, Rule, ◌when◌, unless, NoneApplies, nor}
+use Rattle.model.specs.Maps.{empty_map}
 use Rattle.model.specs.Sound.{sound}
 use Rattle.model.specs.Arrival.{arrive, refusing}
 use Rattle.model.specs.Offers.{offer_rules, offer_call, offer}
-use Rattle.model.specs.Removal.{keeping, remove_call, remove}
-use Rattle.model.specs.History.{Run, extended, Action, offering, taking_back, taken_back, acted, performed_from, performed, offered_point}
-use Rattle.model.specs.Lent.{and_short, is_short, lent_after}
+use Rattle.model.specs.History.{Run, extended, run_from, run, offered_point}
 use Rattle.model.specs.Saved.{map_in, saved, file_in_form, loaded}
 use Rattle.model.proofs.Sound.{sound_is}
 use Rattle.model.proofs.Answers.{RulesDecide, refuses, serves, unless_decides, unless_none}
 use Rattle.model.proofs.Answers.{unless_refuses, none_both, refuses_some, rule_passes, unless_made}
 use Rattle.hull.proofs.Sound.{sound_shaped}
-use Rattle.hull.proofs.History.{offer_either}
-use Rattle.hull.proofs.Actions.{taken_either, performed_more, performed_sound}
+use Rattle.hull.proofs.History.{offer_either, run_sound}
 use Rattle.layout.proofs.Form.{is_saved}
 use Rattle.saved.proofs.Files.{saved_in_form, map_back}
 use Rattle.loading.specs.Opening as opening
 use Rattle.loading.proofs.Saving.{load_of_save}
-use Rattle.replies.specs.Served.{number_by, Served}
+use Rattle.model.specs.Lent.{and_short, is_short}
 use Rattle.replies.specs.Opened.{of_file}
-use Rattle.replies.specs.Replies.{Offering, meaning_of, arrival_told, from_file, removal_reply}
-use Rattle.replies.specs.Chains.{file_after, file_before, file_acted, Called, offered, removed}
-use Rattle.replies.specs.Chains.{Calls, begun, served, refused, stands, standing_from, standing}
+use Rattle.replies.specs.Replies.{Offering, meaning_of, arrival_told}
+use Rattle.replies.specs.Chains.{file_after, Calls, begun, served, refused}
 
 -- ---- what a call leaves
 
 -- no refusal has the number 0
-number_some : (r : Refusal) → number r ≢ 0
+pub number_some : (r : Refusal) → number r ≢ 0
 unfolding number
 number_some Refusal.NotSound e = omega arith
 number_some Refusal.Full e = omega arith
@@ -63,7 +58,7 @@ number_some Refusal.NoPoint e = omega arith
 
 module _ (rules : List Rule) where
   -- rules that come to the number 0: none applies
-  none_numbered : unless number rules 0 ≡ 0 → NoneApplies rules
+  pub none_numbered : unless number rules 0 ≡ 0 → NoneApplies rules
   none_numbered = go (unless_decides number rules 0)
     where
       go : {n : ℕ} → RulesDecide number rules 0 n → n ≡ 0 → NoneApplies rules
@@ -71,63 +66,46 @@ module _ (rules : List Rule) where
       go (serves f) e = f
 
   -- another number: one applies
-  some_numbered : {A : Type 0} (a x : A) → unless number rules 0 ≢ 0 → unless (λ r. a) rules x ≡ a
+  pub some_numbered : {A : Type 0} (a x : A) → unless number rules 0 ≢ 0 → unless (λ r. a) rules x ≡ a
   some_numbered a x = go (unless_decides number rules 0)
     where
       go : {n : ℕ} → RulesDecide number rules 0 n → n ≢ 0 → unless (λ r. a) rules x ≡ a
       go (refuses r f) n = unless_refuses (λ r. a) x f
       go (serves f) n = absurd (n refl)
 
--- a call by these rules, with number 10 after them, that writes a file to a lent list
-record Writes (rules : List Rule) (file : List ℕ) (short : Bool) (before after : List ℕ) (k : ℕ) : Type 0 where
-  code : k ≡ number_by (and_short rules short)
-  list : after ≡ lent_after (and_short rules short) file before
+-- a call that was lent the file s, and returned k
+module _ (s : List ℕ) (p : Point) {before after before' after' : List ℕ} {k : ℕ}
+    (o : Offering s p before after before' after' k) where
+  abbrev rules : List Rule
+  rules = of_file s (λ m. (offer_call m p).rules)
 
-module _ {rules : List Rule} {file : List ℕ} {short : Bool} {before after : List ℕ} {k : ℕ}
-    (w : Writes rules file short before after k) where
-  none_applies : k ≡ 0 → NoneApplies (and_short rules short)
-  none_applies e = none_numbered (and_short rules short) (sym w.code ∙ e)
+  abbrev file : List ℕ
+  file = saved (offer_call (map_in s) p).value.map
 
-  -- served: none of its rules applies,
-  free : k ≡ 0 → NoneApplies rules
-  free e = (none_both rules (none_applies e)).0
+  abbrev told : List ℕ
+  told = arrival_told (meaning_of (offer_call (map_in s) p))
 
-  -- and the lent list starts with the file, and keeps its tail
-  leaves : (s : List ℕ) → k ≡ 0 →
-      after ≡ unless (λ r. s) rules file ++ drop (length (unless (λ r. s) rules file)) before
-  leaves s e =
-      w.list
+  abbrev all_rules : List Rule
+  all_rules = and_short rules (is_short file before || is_short told before')
+
+  none_applies : k ≡ 0 → NoneApplies all_rules
+  none_applies e = none_numbered all_rules (sym o.code ∙ e)
+
+  -- served: no rule of an offer to the file's map applies,
+  pub served_free : k ≡ 0 → NoneApplies rules
+  served_free e = (none_both rules (none_applies e)).0
+
+  -- and the lent list starts with the file after the offer, and keeps its tail
+  pub served_leaves : k ≡ 0 → after ≡ file_after s p ++ drop (length (file_after s p)) before
+  unfolding file_after
+  served_leaves e =
+      o.list
       ∙ unless_none (λ r. before) (file ++ drop (length file) before) (none_applies e)
-      ∙ ap (λ (t : List ℕ). t ++ drop (length t) before) (sym (unless_none (λ r. s) file (free e)))
+      ∙ ap (λ (t : List ℕ). t ++ drop (length t) before) (sym (unless_none (λ r. s) file (served_free e)))
 
   -- refused, with any number: the lent list is as it was
-  stays : k ≢ 0 → after ≡ before
-  stays n = w.list ∙ some_numbered (and_short rules short) before _ (λ e. n (w.code ∙ e))
-
-module _ (s : List ℕ) where
-  offer_writes : (p : Point) {before after before' after' : List ℕ} {k : ℕ} →
-      Offering s p before after before' after' k →
-      Writes (of_file s (λ m. (offer_call m p).rules)) (saved (offer_call (map_in s) p).value.map)
-      (is_short (saved (offer_call (map_in s) p).value.map) before
-      || is_short (arrival_told (meaning_of (offer_call (map_in s) p))) before')
-      before after k
-  offer_writes p o = record { code = o.code; list = o.list }
-
-  removal_writes : {before after : List ℕ} {k : ℕ} → Served (from_file removal_reply s) before after k →
-      Writes (of_file s (λ m. (remove_call m).rules)) (saved (remove_call (map_in s)).value.map)
-      (is_short (saved (remove_call (map_in s)).value.map) before) before after k
-  removal_writes o = record { code = o.code; list = o.list }
-
-pub served_leaves : {s : List ℕ} {act : Action} {before after : List ℕ} → Called s act before after 0 →
-    after ≡ file_acted s act ++ drop (length (file_acted s act)) before
-unfolding file_acted file_after file_before
-served_leaves {s} (offered {p} o) = leaves (offer_writes s p o) s refl
-served_leaves {s} (removed o) = leaves (removal_writes s o) s refl
-
-pub refused_leaves : {s : List ℕ} {act : Action} {before after : List ℕ} {k : ℕ} →
-    Called s act before after k → k ≢ 0 → after ≡ before
-refused_leaves {s} (offered {p} o) n = stays (offer_writes s p o) n
-refused_leaves {s} (removed o) n = stays (removal_writes s o) n
+  pub refused_leaves : k ≢ 0 → after ≡ before
+  refused_leaves n = o.list ∙ some_numbered all_rules before _ (λ e. n (o.code ∙ e))
 
 -- ---- the file of a sound map
 
@@ -135,100 +113,66 @@ module _ (m : Map) (t : T (sound m)) where
   map_kept : map_in (saved m) ≡ m
   map_kept = map_back is_saved (sound_shaped m t) (λ e. (sound_is m t).is_built)
 
-  -- a call whose refusals keep the map: what it leaves of the file is the file of the map after it
-  file_of : {A : Type 0} (map_of : A → Map) (refuse : Refusal → A) (rules : List Rule) (value : A) →
-      ((r : Refusal) → map_of (refuse r) ≡ m) →
-      unless (λ r. saved m) ((Refusal.BadFile when not (file_in_form (saved m))) ∷ rules) (saved (map_of value)) ≡
-      saved (map_of (unless refuse rules value))
-  file_of map_of refuse rules value keeps =
-      sym
-      (rule_passes (λ r. saved m) (Refusal.BadFile when not (file_in_form (saved m))) rules
-      (saved (map_of value))
+  file_of_offer : (p : Point) → file_after (saved m) p ≡ saved (offer m p).map
+  unfolding file_after offer
+  file_of_offer p =
+      rw map_kept
+      (sym
+      (rule_passes (λ r. saved m) (Refusal.BadFile when not (file_in_form (saved m)))
+      (offer_rules m p) (saved (arrive m p).map)
       (ap not (is_true (file_in_form (saved m)) (saved_in_form is_saved (sound_shaped m t))))
-      (unless_made (λ a. saved (map_of a)) refuse (λ r. saved m) (λ r. ap saved (keeps r)) rules value))
+      (unless_made (λ (o : Offered). saved o.map) (refusing m) (λ r. saved m) (λ r. refl)
+      (offer_rules m p) (arrive m p))))
 
-  -- where no rule of a call on the file applies, none of the same call on the map does
-  free_of_map : (rules : Map → List Rule) {s : List ℕ} → s ≡ saved m → NoneApplies (of_file s rules) →
-      NoneApplies (rules m)
-  free_of_map rules e f = go (subst (λ (u : List ℕ). NoneApplies (of_file u rules)) e f)
+  -- where no rule of an offer to the file applies, none of an offer to the map does
+  free_of_map : (p : Point) {s : List ℕ} → s ≡ saved m →
+      NoneApplies (of_file s (λ n. (offer_call n p).rules)) → NoneApplies (offer_rules m p)
+  free_of_map p e free = go (subst (λ (u : List ℕ). NoneApplies (of_file u (λ n. (offer_call n p).rules))) e free)
     where
-      go : NoneApplies (of_file (saved m) rules) → NoneApplies (rules m)
-      go (nor n rest) = subst (λ (n : Map). NoneApplies (rules n)) map_kept rest
-
-module _ (r : Run) (t : T (sound r.map)) where
-  file_of_action : (act : Action) → file_acted (saved r.map) act ≡ saved (acted r act).map
-  unfolding file_acted file_after file_before acted extended taken_back offer remove
-  file_of_action (offering p) =
-      let m = r.map in
-      rw (map_kept m t) (file_of m t (λ (o : Offered). o.map) (refusing m) (offer_rules m p) (arrive m p) (λ r. refl))
-  file_of_action taking_back =
-      let m = r.map in
-      rw (map_kept m t)
-      (file_of m t (λ (o : Removed). o.map) (keeping m) (remove_call m).rules (remove_call m).value (λ r. refl))
-
--- ---- the points of a history
-
-map_take : {A B : Type 0} (f : A → B) (n : ℕ) (xs : List A) → map f (take n xs) ≡ take n (map f xs)
-map_take f zero xs = refl
-map_take f (suc n) [] = refl
-map_take f (suc n) (x ∷ xs) = ap (λ ys. f x ∷ ys) (map_take f n xs)
-
-abbrev points : Run → List Point
-points r = map offered_point r.history
-
--- a served call brings its point, or takes back the last one
-module _ (r : Run) (t : T (sound r.map)) {s : List ℕ} (same : s ≡ saved r.map) where
-  served_stands : {act : Action} {before after : List ℕ} → Called s act before after 0 →
-      points (acted r act) ≡ stands (points r) act
-  unfolding acted stands offered_point
-  served_stands (offered {p} o) =
-      offer_either (λ (q : Run). points q ≡ points r ++ p ∷ []) r p
-      (λ t a. map-append offered_point r.history _)
-      (λ refusal f. absurd (refuses_some f
-      (free_of_map r.map t (λ m. (offer_call m p).rules) same (free (offer_writes s p o) refl))))
-  served_stands (removed o) =
-      taken_either (λ (q : Run). points q ≡ take (length (points r) - 1) (points r)) r
-      (λ t some.
-      map_take offered_point (length r.history - 1) r.history
-      ∙ ap (λ (n : ℕ). take (n - 1) (points r)) (sym (length-map r.history offered_point)))
-      (λ refusal f. absurd (refuses_some f
-      (free_of_map r.map t (λ m. (remove_call m).rules) same (free (removal_writes s o) refl))))
-
-standing_more_from : (ps : List Point) (acts : List Action) (act : Action) →
-    standing_from ps (acts ++ act ∷ []) ≡ stands (standing_from ps acts) act
-unfolding standing_from
-standing_more_from ps [] act = refl
-standing_more_from ps (next ∷ acts) act = standing_more_from (stands ps next) acts act
+      go : NoneApplies (of_file (saved m) (λ n. (offer_call n p).rules)) → NoneApplies (offer_rules m p)
+      go (nor n rest) = subst (λ (n : Map). NoneApplies (offer_rules n p)) map_kept rest
 
 -- ---- calls, whatever each returned
 
--- the file that the caller has is that of the map of the served calls, of which
--- `balanced_with_removals` speaks,
-pub calls_run : {s : List ℕ} {acts : List Action} → Calls s acts → s ≡ saved (performed acts).map
-unfolding performed performed_from
+run_more : (r : Run) (ps : List Point) (p : Point) → run_from r (ps ++ p ∷ []) ≡ extended (run_from r ps) p
+unfolding run_from
+run_more r [] p = refl
+run_more r (q ∷ ps) p = run_more (extended r q) ps p
+
+one_more : (ps : List Point) (p : Point) → run (ps ++ p ∷ []) ≡ extended (run ps) p
+unfolding run
+one_more = run_more (record { map = empty_map; history = [] })
+
+-- the file that the caller has is that of the map of the served offers, of which `always_balanced`
+-- speaks,
+pub calls_run : {s : List ℕ} {ps : List Point} → Calls s ps → s ≡ saved (run ps).map
+unfolding run run_from extended
 calls_run begun = refl
-calls_run (served {s} {acts} act c o) =
-    ap (take (length (file_acted s act))) (served_leaves o)
-    ∙ take-append_seam (file_acted s act) _
-    ∙ ap (λ (u : List ℕ). file_acted u act) (calls_run c)
-    ∙ file_of_action (performed acts) (performed_sound acts) act
-    ∙ ap (λ (r : Run). saved r.map) (sym (performed_more acts act))
-calls_run (refused act c o n) = calls_run c
+calls_run (served {s} {ps} p c o) =
+    ap (take (length (file_after s p))) (served_leaves s p o refl)
+    ∙ take-append_seam (file_after s p) _
+    ∙ ap (λ (u : List ℕ). file_after u p) (calls_run c)
+    ∙ file_of_offer (run ps).map (run_sound ps) p
+    ∙ ap (λ (r : Run). saved r.map) (sym (one_more ps p))
+calls_run (refused p c o n) = calls_run c
 
 -- that map is what is loaded from it,
-pub calls_load : {s : List ℕ} {acts : List Action} → Calls s acts →
-    loaded s ≡ opening.served (performed acts).map
-calls_load {acts} c =
-    ap loaded (calls_run c) ∙ load_of_save is_saved (performed acts).map (performed_sound acts)
+pub calls_load : {s : List ℕ} {ps : List Point} → Calls s ps → loaded s ≡ opening.served (run ps).map
+calls_load {ps} c = ap loaded (calls_run c) ∙ load_of_save is_saved (run ps).map (run_sound ps)
 
--- and the accepted offers of its history are the served ones that were not taken back
-pub calls_history : {s : List ℕ} {acts : List Action} → Calls s acts →
-    map offered_point (performed acts).history ≡ standing acts
-unfolding performed performed_from standing standing_from
+-- and the accepted offers of the run are the served ones
+pub calls_history : {s : List ℕ} {ps : List Point} → Calls s ps → map offered_point (run ps).history ≡ ps
+unfolding run run_from offered_point
 calls_history begun = refl
-calls_history (served {s} {acts} act c o) =
-    ap points (performed_more acts act)
-    ∙ served_stands (performed acts) (performed_sound acts) (calls_run c) o
-    ∙ ap (λ (ps : List Point). stands ps act) (calls_history c)
-    ∙ sym (standing_more_from [] acts act)
-calls_history (refused act c o n) = calls_history c
+calls_history (served {s} {ps} p c o) =
+    subst Lists (sym (one_more ps p))
+    (offer_either Lists (run ps) p
+    (λ t a. map-append offered_point (run ps).history _ ∙ ap (λ (qs : List Point). qs ++ p ∷ []) (calls_history c))
+    (λ refusal f. absurd (refuses_some f free)))
+  where
+    free : NoneApplies (offer_rules (run ps).map p)
+    free = free_of_map (run ps).map (run_sound ps) p (calls_run c) (served_free s p o refl)
+
+    Lists : Run → Type 0
+    Lists r = map offered_point r.history ≡ ps ++ p ∷ []
+calls_history (refused p c o n) = calls_history c

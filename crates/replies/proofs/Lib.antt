@@ -5,9 +5,11 @@
 --     Arrived        a point offered to a sound map
 --     Reported       a result and its length, in two lists
 --     Chains         demand 3 at the boundary: `calls_run`
+--     Actions        .. with removals: `acted_run`
 pub mod Told
 pub mod Serving
 pub mod OpenedFiles
 pub mod Arrived
 pub mod Reported
 pub mod Chains
+pub mod Actions

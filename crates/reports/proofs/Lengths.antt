@@ -136,7 +136,8 @@ offered_small : (m : Map) → T (sound m) → (line : Line) →
 offered_small m s line = go (verdict_by m.xs m.ys m.count line) refl
   where
     go : (v : Verdict) → v ≡ verdict_by m.xs m.ys m.count line →
-        (length (printed (arrival_answer (offer_line m line).arrival)) ≤ 20) × T (sound (offer_line m line).map)
+        (length (printed (arrival_answer (offer_line m line).arrival)) ≤ 20)
+        × T (sound (offer_line m line).map)
     go (Verdict.Taken q) e =
         let a = line_accepted m s line q e in
         rw a.0 (answer_most (arrive_packable a.1), sound_grows s a.1)
@@ -261,7 +262,8 @@ arrivals_most m s n (l ∷ ls) few =
       arith,
       arrivals_more m n l ls,
       line_most m s n (omega arith) l,
-      arrivals_most (offer_line m (line_read l)).map (offered_small m s (line_read l)).1 (suc n) ls (omega arith),
+      arrivals_most (offer_line m (line_read l)).map (offered_small m s (line_read l)).1 (suc n) ls
+          (omega arith),
     )
 
 -- ---- the report

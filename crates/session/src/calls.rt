@@ -10,254 +10,255 @@ use model::{
     Point, Walked, Written,
 };
 use orbits::{Ending, Walker};
+use std::io;
 
-pub(crate) fn orientation(a: Point, b: Point, c: Point) {
-    say(b"orientation");
-    say_point(a);
-    say_point(b);
-    say_point(c);
+pub(crate) fn orientation(rt: &impl Print, a: Point, b: Point, c: Point) -> io::Result<()> {
+    say(rt, b"orientation")?;
+    say_point(rt, a)?;
+    say_point(rt, b)?;
+    say_point(rt, c)?;
     let oriented = engine::orientation(a, b, c);
     match oriented {
         Oriented::Value(z) => {
-            say(b": ");
-            say_number(z);
-            say(b"\n");
+            say(rt, b": ")?;
+            say_number(rt, z)?;
+            say(rt, b"\n")
         }
-        Oriented::Refused(refusal) => tell_refused(refusal),
+        Oriented::Refused(refusal) => tell_refused(rt, refusal),
     }
 }
 
-pub(crate) fn is_sound(map: Map) {
-    say(b"is_sound");
+pub(crate) fn is_sound(rt: &impl Print, map: Map) -> io::Result<()> {
+    say(rt, b"is_sound")?;
     if engine::is_sound(map) {
-        tell(b"yes", &[]);
+        tell(rt, b"yes", &[])
     } else {
-        tell(b"no", &[]);
+        tell(rt, b"no", &[])
     }
 }
 
 // The map that is returned goes on to the next call.
-pub(crate) fn offer(map: Map, p: Point) -> Map {
-    say(b"offer");
-    say_point(p);
+pub(crate) fn offer(rt: &impl Print, map: Map, p: Point) -> io::Result<Map> {
+    say(rt, b"offer")?;
+    say_point(rt, p)?;
     let offered = engine::offer(map, p);
-    let arrival = offered.arrival;
+    tell_arrival(rt, offered.arrival)?;
+    Ok(offered.map)
+}
+
+// Ends a line with how a point arrived.
+fn tell_arrival(rt: &impl Print, arrival: Arrival) -> io::Result<()> {
     match arrival {
-        Arrival::First => tell(b"first", &[]),
-        Arrival::Second => tell(b"second", &[]),
-        Arrival::Inside => tell(b"inside", &[]),
+        Arrival::First => tell(rt, b"first", &[]),
+        Arrival::Second => tell(rt, b"second", &[]),
+        Arrival::Inside => tell(rt, b"inside", &[]),
         Arrival::Outside {
             left,
             right,
             visible,
         } => {
             let values = [left, right, visible];
-            tell(b"outside", &values);
+            tell(rt, b"outside", &values)
         }
-        Arrival::Refused(refusal) => tell_refused(refusal),
+        Arrival::Refused(refusal) => tell_refused(rt, refusal),
     }
-    offered.map
 }
 
-// The points that are left and the reference stand behind the answer. The map that is returned goes on to
-// the next call.
-pub(crate) fn remove_last(map: Map) -> Map {
-    say(b"remove_last");
-    let removed = office::remove_last(map);
-    let outcome = removed.outcome;
-    match outcome {
-        Outcome::Served => {
-            let values = [removed.map.count, removed.map.reference];
-            tell(b"served", &values);
-        }
-        Outcome::Refused(refusal) => tell_refused(refusal),
-    }
-    removed.map
-}
-
-pub(crate) fn orbit(map: Map, name: &[u8], kind: Kind, dart: usize) {
-    say(b"orbit ");
-    say(name);
-    say_natural(dart);
+pub(crate) fn orbit(
+    rt: &impl Print,
+    map: Map,
+    name: &[u8],
+    kind: Kind,
+    dart: usize,
+) -> io::Result<()> {
+    say(rt, b"orbit ")?;
+    say(rt, name)?;
+    say_natural(rt, dart)?;
     let orbit = engine::orbit(map, kind, dart);
     let outcome = orbit.outcome;
     match outcome {
-        Outcome::Served => tell_darts(orbit.darts),
-        Outcome::Refused(refusal) => tell_refused(refusal),
+        Outcome::Served => tell_darts(rt, orbit.darts),
+        Outcome::Refused(refusal) => tell_refused(rt, refusal),
     }
 }
 
-pub(crate) fn counts(map: Map) {
-    say(b"counts");
+pub(crate) fn counts(rt: &impl Print, map: Map) -> io::Result<()> {
+    say(rt, b"counts")?;
     let counted = engine::counts(map);
     match counted {
         Counted::Numbers(n) => {
             let values = [n.darts, n.vertices, n.edges, n.faces, n.parts];
-            tell(b"numbers", &values);
+            tell(rt, b"numbers", &values)
         }
-        Counted::Refused(refusal) => tell_refused(refusal),
+        Counted::Refused(refusal) => tell_refused(rt, refusal),
     }
 }
 
-pub(crate) fn walk(map: Map, dart: usize) {
-    say(b"walk");
-    say_natural(dart);
+pub(crate) fn walk(rt: &impl Print, map: Map, dart: usize) -> io::Result<()> {
+    say(rt, b"walk")?;
+    say_natural(rt, dart)?;
     let walked = engine::walk(map, dart);
     match walked {
         Walked::Ended(walk) => {
             let values = [walk.last, walk.moves];
             let ending = walk.ending;
             match ending {
-                Ending::Home => tell(b"home", &values),
-                Ending::Loose => tell(b"loose", &values),
+                Ending::Home => tell(rt, b"home", &values),
+                Ending::Loose => tell(rt, b"loose", &values),
             }
         }
-        Walked::Refused(refusal) => tell_refused(refusal),
+        Walked::Refused(refusal) => tell_refused(rt, refusal),
     }
 }
 
-pub(crate) fn move_walker(map: Map, name: &[u8], link: Link, dart: usize) {
-    say(b"move_walker ");
-    say(name);
-    say_natural(dart);
+pub(crate) fn move_walker(
+    rt: &impl Print,
+    map: Map,
+    name: &[u8],
+    link: Link,
+    dart: usize,
+) -> io::Result<()> {
+    say(rt, b"move_walker ")?;
+    say(rt, name)?;
+    say_natural(rt, dart)?;
     let moved = engine::move_walker(map, link, Walker::starting_at(dart));
     match moved {
         Moved::At(walker) => {
             let values = [walker.dart()];
-            tell(b"dart", &values);
+            tell(rt, b"dart", &values)
         }
-        Moved::Refused(refusal) => tell_refused(refusal),
+        Moved::Refused(refusal) => tell_refused(rt, refusal),
     }
 }
 
-pub(crate) fn place(map: Map, p: Point) {
-    say(b"place");
-    say_point(p);
+pub(crate) fn place(rt: &impl Print, map: Map, p: Point) -> io::Result<()> {
+    say(rt, b"place")?;
+    say_point(rt, p)?;
     let placed = engine::place(map, p);
     match placed {
-        Placed::NoOutline => tell(b"none", &[]),
+        Placed::NoOutline => tell(rt, b"none", &[]),
         Placed::Corner(corner) => {
             let values = [corner];
-            tell(b"corner", &values);
+            tell(rt, b"corner", &values)
         }
         Placed::Edge { from, to } => {
             let values = [from, to];
-            tell(b"edge", &values);
+            tell(rt, b"edge", &values)
         }
-        Placed::Inside => tell(b"inside", &[]),
+        Placed::Inside => tell(rt, b"inside", &[]),
         Placed::Outside(visible) => {
             let values = [visible];
-            tell(b"outside", &values);
+            tell(rt, b"outside", &values)
         }
-        Placed::Refused(refusal) => tell_refused(refusal),
+        Placed::Refused(refusal) => tell_refused(rt, refusal),
     }
 }
 
 // The list is lent by the caller.
-pub(crate) fn list_corners(map: Map, lent: &mut [usize]) {
-    say(b"list_corners");
+pub(crate) fn list_corners(rt: &impl Print, map: Map, lent: &mut [usize]) -> io::Result<()> {
+    say(rt, b"list_corners")?;
     let written = engine::list_corners(map, lent);
     match written {
-        Written::Length(length) => tell(b"corners", &lent[..length]),
-        Written::Refused(refusal) => tell_refused(refusal),
+        Written::Length(length) => tell(rt, b"corners", &lent[..length]),
+        Written::Refused(refusal) => tell_refused(rt, refusal),
     }
 }
 
-pub(crate) fn save(map: Map, lent: &mut [u8]) {
-    say(b"save");
+pub(crate) fn save(rt: &impl Print, map: Map, lent: &mut [u8]) -> io::Result<()> {
+    say(rt, b"save")?;
     let written = engine::files::save(map, lent);
     match written {
-        Written::Length(length) => tell_bytes(&lent[..length]),
-        Written::Refused(refusal) => tell_refused(refusal),
+        Written::Length(length) => tell_bytes(rt, &lent[..length]),
+        Written::Refused(refusal) => tell_refused(rt, refusal),
     }
 }
 
 // The counts of the map that is loaded stand on a line of their own.
-pub(crate) fn load(file: &[u8]) {
-    say(b"load");
+pub(crate) fn load(rt: &impl Print, file: &[u8]) -> io::Result<()> {
+    say(rt, b"load")?;
     let loaded = engine::files::load(file);
     let outcome = loaded.outcome;
     match outcome {
         Outcome::Served => {
-            tell(b"served", &[]);
-            counts(loaded.map);
+            tell(rt, b"served", &[])?;
+            counts(rt, loaded.map)
         }
-        Outcome::Refused(refusal) => tell_refused(refusal),
+        Outcome::Refused(refusal) => tell_refused(rt, refusal),
     }
 }
 
-pub(crate) fn read_line(line: &[u8]) {
-    say(b"read_line ");
-    say(line);
+pub(crate) fn read_line(rt: &impl Print, line: &[u8]) -> io::Result<()> {
+    say(rt, b"read_line ")?;
+    say(rt, line)?;
     let read = engine::texts::read_line(line);
     match read {
         Line::Named(p) => {
-            say(b": point");
-            say_point(p);
-            say(b"\n");
+            say(rt, b": point")?;
+            say_point(rt, p)?;
+            say(rt, b"\n")
         }
-        Line::Refused(refusal) => tell_refused(refusal),
+        Line::Refused(refusal) => tell_refused(rt, refusal),
     }
 }
 
 // The report stands on lines of its own.
-pub(crate) fn report(text: &[u8], lent: &mut [u8]) {
-    say(b"report");
+pub(crate) fn report(rt: &impl Print, text: &[u8], lent: &mut [u8]) -> io::Result<()> {
+    say(rt, b"report")?;
     let written = engine::texts::report(text, lent);
     match written {
         Written::Length(length) => {
             let values = [length];
-            tell(b"length", &values);
-            say(&lent[..length]);
+            tell(rt, b"length", &values)?;
+            say(rt, &lent[..length])
         }
-        Written::Refused(refusal) => tell_refused(refusal),
+        Written::Refused(refusal) => tell_refused(rt, refusal),
     }
 }
 
-pub(crate) fn write_outline(map: Map, lent: &mut [u8]) {
-    say(b"write_outline");
+pub(crate) fn write_outline(rt: &impl Print, map: Map, lent: &mut [u8]) -> io::Result<()> {
+    say(rt, b"write_outline")?;
     let written = office::write_outline(map, lent);
     match written {
         Written::Length(length) => {
-            say(b": ");
-            say(&lent[..length]);
-            say(b"\n");
+            say(rt, b": ")?;
+            say(rt, &lent[..length])?;
+            say(rt, b"\n")
         }
-        Written::Refused(refusal) => tell_refused(refusal),
+        Written::Refused(refusal) => tell_refused(rt, refusal),
     }
 }
 
-pub(crate) fn read_outline(text: &[u8], lent: &mut [i64]) {
-    say(b"read_outline ");
-    say(text);
+pub(crate) fn read_outline(rt: &impl Print, text: &[u8], lent: &mut [i64]) -> io::Result<()> {
+    say(rt, b"read_outline ")?;
+    say(rt, text)?;
     let written = office::read_outline(text, lent);
     match written {
-        Written::Length(length) => tell_numbers(&lent[..length]),
-        Written::Refused(refusal) => tell_refused(refusal),
+        Written::Length(length) => tell_numbers(rt, &lent[..length]),
+        Written::Refused(refusal) => tell_refused(rt, refusal),
     }
 }
 
-pub(crate) fn area(map: Map, place: usize) {
-    say(b"area");
-    say_natural(place);
+pub(crate) fn area(rt: &impl Print, map: Map, place: usize) -> io::Result<()> {
+    say(rt, b"area")?;
+    say_natural(rt, place)?;
     let doubled = office::area(map, place);
     match doubled {
         Doubled::Value(z) => {
-            say(b": ");
-            say_number(z);
-            say(b"\n");
+            say(rt, b": ")?;
+            say_number(rt, z)?;
+            say(rt, b"\n")
         }
-        Doubled::Refused(refusal) => tell_refused(refusal),
+        Doubled::Refused(refusal) => tell_refused(rt, refusal),
     }
 }
 
-pub(crate) fn mark(points: &[i64], claim: &[usize]) {
-    say(b"mark");
-    say_naturals(claim);
+pub(crate) fn mark(rt: &impl Print, points: &[i64], claim: &[usize]) -> io::Result<()> {
+    say(rt, b"mark")?;
+    say_naturals(rt, claim)?;
     let marked = office::mark(points, claim);
     match marked {
-        Marked::Right => tell(b"right", &[]),
-        Marked::Wrong => tell(b"wrong", &[]),
-        Marked::Refused(refusal) => tell_refused(refusal),
+        Marked::Right => tell(rt, b"right", &[]),
+        Marked::Wrong => tell(rt, b"wrong", &[]),
+        Marked::Refused(refusal) => tell_refused(rt, refusal),
     }
 }

@@ -73,7 +73,7 @@ fn from_dart(map: &Map, dart: u64) -> [Answer<Vec<u64>>; 8] {
     ]
 }
 
-pub fn arrival_values(arrival: Arrival) -> Vec<u64> {
+fn arrival_values(arrival: Arrival) -> Vec<u64> {
     match arrival {
         Arrival::First => vec![0, 0, 0, 0],
         Arrival::Second => vec![1, 0, 0, 0],
@@ -127,7 +127,7 @@ impl Comparison {
     }
 
     /// Notes a call, or tells how it differs.
-    pub fn expect<T: Debug + PartialEq>(
+    fn expect<T: Debug + PartialEq>(
         &mut self,
         entry: &'static str,
         input: &dyn Fn() -> String,
@@ -202,16 +202,15 @@ impl Comparison {
         Ok(())
     }
 
-    /// Compares a call that is lent two lists of these lengths, and answers what it wrote into the
-    /// first: nothing where it is refused.
-    pub fn lists_of<T: Element, U: Element>(
+    /// Compares a call that is lent two lists of these lengths.
+    fn lists_of<T: Element, U: Element>(
         &mut self,
         [length, second_length]: [usize; 2],
         entry: &'static str,
         input: &dyn Fn() -> String,
         expected: &Answer<(Vec<T>, Vec<U>)>,
         call: &(impl Fn(&mut [T], &mut [U]) -> u32 + Sync),
-    ) -> Result<Vec<T>, Difference> {
+    ) -> Outcome {
         let mut first = Lent::new(&mut self.draw, length);
         let mut second = Lent::new(&mut self.draw, second_length);
         let (number, first_result, second_result): (u32, &[T], &[U]) = match expected {
@@ -232,7 +231,7 @@ impl Comparison {
             )));
         }
         self.tally.add(entry, number);
-        Ok(first.list()[..first_result.len()].to_vec())
+        Ok(())
     }
 
     pub fn orientation(&mut self, [a, b, c]: [Point; 3]) -> Outcome {
@@ -257,16 +256,6 @@ impl Comparison {
         let input = || format!("{p:?} to map {}", hex(file));
         let call = |out: &mut [u8], arrival: &mut [u64]| raw::offer(file, p.x, p.y, out, arrival);
         self.two_lists("reach_offer", &input, &expected, call)
-    }
-
-    /// Takes the last point back from the map in a file.
-    pub fn remove(&mut self, file: &[u8], map: &Answer<Map>) -> Outcome {
-        let expected = map.clone().and_then(|mut map| {
-            map.remove_last()?;
-            Ok(map.save())
-        });
-        let input = || format!("map {}", hex(file));
-        self.one_list("reach_remove", &input, &expected, |out| raw::remove(file, out))
     }
 
     pub fn place(&mut self, file: &[u8], map: &Answer<Map>, p: Point) -> Outcome {
@@ -294,7 +283,6 @@ impl Comparison {
         let refused = map.as_ref().map_err(|number| *number);
         self.check(file, map)?;
         self.load(file, map)?;
-        self.remove(file, map)?;
         let counts = refused.map(counts_values);
         self.one_list("reach_counts", &input, &counts, |out| raw::counts(file, out))?;
         let corners = refused.map(|m| with_length(m.corners().into_iter().map(word).collect()));

@@ -150,7 +150,7 @@ fn as_long_as_each_other(points: &[Point]) -> Vec<Vec<u8>> {
 
 /// Surveys with chains and without: the session from no point on, marks along a rail, three edges
 /// that a point sees at once, points that each hide the one before.
-pub fn surveys() -> Vec<Vec<Point>> {
+fn surveys() -> Vec<Vec<Point>> {
     let session = [(0, 0), (4, 0), (1, 3), (5, 4), (2, 1), (6, 7)];
     let rail = [(0, 0), (2, 0), (4, 0), (-2, 0), (1, 0)];
     let three = [(0, 0), (4, 0), (3, 1), (1, 1), (2, 9)];
@@ -162,7 +162,7 @@ pub fn surveys() -> Vec<Vec<Point>> {
 }
 
 /// As many points as there may be: all corners, all on a rail, all but three inside.
-pub fn full() -> [Vec<Point>; 3] {
+fn full() -> [Vec<Point>; 3] {
     let most = POINT_LIMIT as i64;
     let rail = (0..most).map(|i| Point::new(if i % 4 < 2 { i } else { -i }, 0)).collect();
     let corners = [(0, 0), (3 * most, 0), (0, 3 * most)].map(|(x, y)| Point::new(x, y));

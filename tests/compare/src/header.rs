@@ -60,7 +60,6 @@ impl Comparison {
             ("REACH_SHORT_LIST", Refusal::ShortList, refusal::SHORT_LIST),
             ("REACH_BAD_OUTLINE", Refusal::BadOutline, refusal::BAD_OUTLINE),
             ("REACH_NO_SURVEY", Refusal::NoSurvey, refusal::NO_SURVEY),
-            ("REACH_NO_POINT", Refusal::NoPoint, refusal::NO_POINT),
         ]
         .map(|(name, refusal, number)| (name, i64::from(refusal.number()), i64::from(number)));
         let limits = [

@@ -6,13 +6,11 @@
 //!     compare [--seed N] --outlines N
 //!
 //! A text is reported, a line is read, so is an outline's text, and a claim is marked; a file of
-//! either version, damaged or with changed fields, goes through every function that reads a map, and
-//! its last point is taken back; a map is built point after point and then read in every way, in
-//! both versions, and rearranged. From it or from the empty map goes a chain of offers and removals
-//! in a drawn order, each call on the bytes that the one before it wrote or left, and each point
-//! that is taken back is offered again. One text in fifty, or in a thousand of a hundred thousand
-//! and more, also goes through the program, in reads of drawn sizes. One call in sixty-one, and each
-//! call on a full map, is made on as little stack as `reach.h` says that it needs.
+//! either version, damaged or with changed fields, goes through every function that reads a map; a
+//! map is built point after point and then read in every way, in both versions, and rearranged. One
+//! text in fifty, or in a thousand of a hundred thousand and more, also goes through the program, in
+//! reads of drawn sizes. One call in sixty-one, and each call on a full map, is made on as little
+//! stack as `reach.h` says that it needs.
 //!
 //! First come inputs that are the same whatever the seed. The clock of `--seconds` starts after
 //! them, and at least `LEAST` inputs of each kind are drawn, whatever it says.
@@ -26,7 +24,6 @@
 //! The second form compares nothing: it prints a line for each of so many surveys, its points and
 //! after a tab the text of their outline, as the archive writes it, for others to read.
 
-mod chains;
 mod draw;
 mod entries;
 mod files;
@@ -153,8 +150,8 @@ fn arguments() -> Result<Arguments, String> {
 }
 
 /// What is compared whatever the seed: the header's constants, short lines, the ends of the range as
-/// it is and as it was, rails across it, files of both versions, points taken back, outlines, their
-/// areas and claims on them, full maps, long texts.
+/// it is and as it was, rails across it, files of both versions, outlines, their areas and claims on
+/// them, full maps, long texts.
 fn fixed(c: &mut Comparison) -> Outcome {
     c.header()?;
     c.header_words()?;
@@ -195,7 +192,6 @@ fn fixed(c: &mut Comparison) -> Outcome {
         }
     }
     c.fixed_files()?;
-    c.fixed_chains()?;
     c.fixed_outlines()?;
     c.fixed_marks()?;
     let convex = (0..POINT_LIMIT as i64).map(|i| Point::new(i, i * i));
@@ -325,8 +321,7 @@ impl Session {
         Ok(())
     }
 
-    /// One map, built by offers and then read in every way, in both versions, taken back and offered
-    /// to in a chain, and rearranged.
+    /// One map, built by offers and then read in every way, in both versions, and rearranged.
     fn map(&mut self) -> Outcome {
         let c = &mut self.comparison;
         let most = if c.draw.one_in(300) { 700 } else { 60 };
@@ -341,8 +336,6 @@ impl Session {
         }
         let version = c.draw.pick(&VERSIONS);
         c.wrapper(&map.save_in(version))?;
-        let start = if c.draw.one_in(3) { Map::empty() } else { map.clone() };
-        c.chain(start)?;
         let file = maps::rearranged(&mut c.draw, map).save_in(version);
         c.file(&file, 1)
     }

@@ -2,14 +2,11 @@
 //! crate `reach` lends an empty slice as a dangling pointer.
 
 use crate::entries::Comparison;
-use crate::maps;
 use crate::tally::{Difference, Outcome};
-use reference::Point;
 use std::ptr::{null, null_mut};
 
 unsafe extern "C" {
     fn reach_empty(out: *mut u8, n: usize) -> u32;
-    fn reach_remove(map: *const u8, n: usize, out: *mut u8, m: usize) -> u32;
     fn reach_check(map: *const u8, n: usize) -> u32;
     fn reach_load(
         file: *const u8,
@@ -60,7 +57,6 @@ impl Comparison {
     pub fn null_lists(&mut self) -> Outcome {
         let file = reference::Map::empty().save();
         let former = reference::Map::empty().save_in(1);
-        let one = maps::built(&[Point::new(3, 4)]).save();
         let text = [0; reference::TEXT_LIMIT + 1];
         let none = b"POLYGON EMPTY";
         let zeros = [0i64; 4];
@@ -70,10 +66,6 @@ impl Comparison {
         let calls = unsafe {
             [
                 ("reach_empty", 10, reach_empty(null_mut(), 0)),
-                ("reach_remove", 7, reach_remove(null(), 0, null_mut(), 0)),
-                ("reach_remove", 7, reach_remove(null(), 0, printed.as_mut_ptr(), 64)),
-                ("reach_remove", 13, reach_remove(file.as_ptr(), file.len(), null_mut(), 0)),
-                ("reach_remove", 10, reach_remove(one.as_ptr(), one.len(), null_mut(), 0)),
                 ("reach_check", 7, reach_check(null(), 0)),
                 (
                     "reach_load, no version",

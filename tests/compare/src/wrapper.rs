@@ -107,7 +107,6 @@ impl Comparison {
             let area = expected.doubled_area(place as u64);
             self.same("Map::doubled_area", &input, area, got)?;
         }
-        self.wrapper_remove(map.clone(), expected.clone())?;
 
         let dart = self.draw.below(2 * map.len() + 2);
         let input = || format!("dart {dart} of map {}", hex(file));
@@ -144,21 +143,6 @@ impl Comparison {
         }
         self.same("Map::offer", &input, expected.offer(p), got.map(arrival))?;
         self.same("Map::as_bytes", &input, Ok(expected.save()), Ok(map.as_bytes().to_vec()))
-    }
-
-    /// The crate's map without its last point: offered again, that gives the same map. Where there is
-    /// none, the map stays as it was.
-    fn wrapper_remove(&mut self, mut map: reach::Map, mut expected: Map) -> Outcome {
-        let before = map.clone();
-        let input = || format!("map {}", hex(before.as_bytes()));
-        let got = number(on_stack("Map::remove_last", reach::CALL_STACK, || map.remove_last()));
-        self.same("Map::remove_last", &input, expected.remove_last(), got)?;
-        self.same("Map::as_bytes", &input, Ok(expected.save()), Ok(map.as_bytes().to_vec()))?;
-        if let Some(last) = before.points().last() {
-            let again = number(map.offer(last)).map(arrival);
-            self.same("Map::offer, taken back", &input, expected.offer(point(last)), again)?;
-        }
-        self.same("Map, taken back and offered again", &input, Ok(&before), Ok(&map))
     }
 
     /// The crate's functions on a text. The answers of a survey, displayed, are the report's lines.

@@ -8,13 +8,11 @@
 //! outline's text is split at its separators and held to the text of its points' hull, an area is
 //! worked out by the shoelace formula, not by triangles, and a claim is held to the listing of the
 //! map that its points build, begun at each corner. A map is held to the one that its points build,
-//! field by field, not byte by byte, and one whose last point is taken back is built anew from the
-//! others, whatever was noted of it.
+//! field by field, not byte by byte.
 //!
 //! Every function answers its value or the number of its refusal. A [`Map`] that comes out of
-//! [`Map::load`] or was built by [`Map::offer`] and [`Map::remove_last`] from [`Map::empty`] is
-//! sound, and the functions that read a map speak of sound maps; [`sound::is_sound`] judges any
-//! other.
+//! [`Map::load`] or was built by [`Map::offer`] from [`Map::empty`] is sound, and the functions
+//! that read a map speak of sound maps; [`sound::is_sound`] judges any other.
 
 pub mod area;
 pub mod arrival;
@@ -25,7 +23,6 @@ pub mod outline;
 pub mod place;
 pub mod plane;
 pub mod refusal;
-pub mod removal;
 pub mod saved;
 pub mod sound;
 pub mod text;

@@ -401,116 +401,6 @@ fn reports_on_rails() {
     );
 }
 
-/// The map with its last point taken back.
-fn taken_back(m: &Map) -> Map {
-    let mut m = m.clone();
-    m.remove_last().expect("a map with a point");
-    m
-}
-
-/// The pairs of darts that the edge link joins, the lower dart of each first.
-fn joined(m: &Map) -> Vec<(usize, usize)> {
-    m.darts().into_iter().map(|d| (d, m.edge_link(d))).filter(|(d, link)| d < link).collect()
-}
-
-#[test]
-fn the_session_taken_back() {
-    let links: [&[(usize, usize)]; 6] = [
-        // point 5 freed darts 7 and 6; point 4 is inside
-        &[(0, 3), (1, 4), (2, 7), (5, 6)],
-        &[(0, 3), (1, 4), (2, 7), (5, 6)],
-        // points 3 and 2 saw one edge, and its ends are joined with each other
-        &[(0, 3), (1, 4), (2, 5)],
-        &[(0, 3), (1, 2)],
-        &[],
-        &[],
-    ];
-    // point 1 takes both helpers with it
-    let helpers: [&[usize]; 6] = [&[0, 1, 2, 3], &[0, 1, 2, 3], &[0, 1, 2], &[0, 1], &[], &[]];
-    let mut m = after(6);
-    for (i, reference) in [6, 6, 4, 2, 1024, 1024].into_iter().enumerate() {
-        assert_eq!(m.remove_last(), Ok(()));
-        assert_eq!(m.points.len(), 5 - i);
-        assert_eq!(m.reference, reference);
-        assert_eq!(joined(&m), links[i]);
-        assert!(m.helpers.iter().eq(helpers[i]));
-        assert_eq!(m, after(5 - i));
-        // "Offering the point again brings back the same map."
-        let (x, y) = SESSION[5 - i];
-        let mut again = m.clone();
-        again.offer(Point::new(x, y)).expect("an accepted point");
-        assert_eq!(again, after(6 - i));
-    }
-    for _ in 0..2 {
-        assert_eq!(m.remove_last(), Err(13));
-        assert_eq!(m, Map::empty());
-    }
-}
-
-#[test]
-fn rails_taken_back() {
-    let back = |points: &[(i64, i64)]| {
-        let m = taken_back(&built(points));
-        (joined(&m), m.reference)
-    };
-    // beyond an end, beyond it again, beyond the other
-    assert_eq!(back(&RAIL), (vec![(0, 3), (1, 2)], 2));
-    assert_eq!(back(&[(0, 0), (2, 0), (4, 0), (6, 0)]), (vec![(0, 5), (1, 4)], 4));
-    assert_eq!(back(&[(0, 0), (2, 0), (-2, 0)]), (vec![(0, 3), (1, 2)], 2));
-}
-
-/// Either version of a file gives the same map, and what is saved of it is of version 2; numbers 7
-/// and 1 are those of its loading.
-#[test]
-fn files_taken_back() {
-    let back = |file: &[u8]| -> Answer<Vec<u8>> {
-        let mut m = Map::load(file)?;
-        m.remove_last()?;
-        Ok(m.save())
-    };
-    for points in 1..=6 {
-        for version in [1, 2] {
-            let file = after(points).save_in(version);
-            assert_eq!(back(&file), Ok(after(points - 1).save_in(2)));
-            assert_eq!(back(&file[1..]), Err(7));
-        }
-    }
-    for version in [1, 2] {
-        let with_reference = |reference| Map { reference, ..Map::empty() }.save_in(version);
-        assert_eq!(back(&with_reference(1024)), Err(13));
-        assert_eq!(back(&with_reference(0)), Err(1));
-        assert_eq!(back(&with_reference(0)[1..]), Err(7));
-    }
-}
-
-/// The map before its last arrival, by what is noted of it: "freed darts joined again, reference
-/// included".
-fn undone(m: &Map) -> Map {
-    let mut m = m.clone();
-    m.points.pop();
-    let record = m.records.pop().expect("a map with a point");
-    let k = m.points.len();
-    m.helpers.remove(&k);
-    match record.arrival {
-        1 => m = Map { points: m.points, records: m.records, ..Map::empty() },
-        3 => {
-            let [l, r] = [2 * k + 1, 2 * k].map(|dart| m.edge_link(dart));
-            m.edge.retain(|dart, _| dart / 2 != k);
-            match record.freed {
-                [NO_DART, NO_DART] => m.join(l, r),
-                [left, right] => {
-                    m.join(l, left);
-                    m.join(r, right);
-                }
-            }
-            let linked = m.records.iter().rposition(|record| record.arrival % 2 == 1);
-            m.reference = 2 * linked.expect("point 1 arrived second");
-        }
-        _ => {}
-    }
-    m
-}
-
 /// The two darts whose edge link an arrival made fixed, where it made any: first the one whose
 /// partner was the left corner's own dart.
 fn came_loose(before: &Map, after: &Map, arrival: Arrival) -> [usize; 2] {
@@ -553,8 +443,6 @@ fn every_short_survey_of_a_small_grid() {
             let mut map = map.clone();
             let arrival = map.offer(p).expect("a new point is accepted");
             assert_eq!(came_loose(before, &map, arrival), map.records[before.points.len()].freed);
-            assert_eq!(taken_back(&map), *before);
-            assert_eq!(undone(&map), *before);
             match arrival {
                 Arrival::Outside { visible: edges, .. } => {
                     every(grid, &map, outside + 1, visible + edges, more - 1);
@@ -905,9 +793,8 @@ fn fan(corners: &[Point], place: usize) -> i128 {
     corners.iter().zip(next).map(|(&a, &b)| cross(corners[place], a, b)).sum()
 }
 
-/// "For a survey from empty it also equals the history's total", after each offer and each removal
-/// of drawn surveys, rails among them; and a fan from any corner gives it. The histories "leave out
-/// arrivals taken back".
+/// "For a survey from empty it also equals the history's total", after each offer of drawn surveys,
+/// rails among them; and a fan from any corner gives it.
 #[test]
 fn areas_by_history() {
     let mut map = Map::empty();
@@ -925,24 +812,14 @@ fn areas_by_history() {
         let width = [2, 5, 100, LIMIT + 1][survey % 4];
         let has_rail = survey / 4 % 4 == 0;
         let mut map = Map::empty();
-        // what each accepted point adds
-        let mut history = Vec::new();
+        let mut total = 0;
         for _ in 0..below(40) {
-            if below(6) == 0 {
-                assert_eq!(map.remove_last().is_ok(), history.pop().is_some());
-            } else {
-                let [x, y] = [0; 2].map(|_| match below(4) {
-                    0 => (width - below(2)) * (2 * below(2) - 1),
-                    _ => below(2 * width + 1) - width,
-                });
-                let is_on_rail = has_rail && below(8) != 0;
-                let added = area_added(&mut map, Point::new(x, if is_on_rail { -x } else { y }));
-                // a refused point is no entry
-                if history.len() < map.points.len() {
-                    history.push(added);
-                }
-            }
-            let total: i128 = history.iter().sum();
+            let [x, y] = [0; 2].map(|_| match below(4) {
+                0 => (width - below(2)) * (2 * below(2) - 1),
+                _ => below(2 * width + 1) - width,
+            });
+            let is_on_rail = has_rail && below(8) != 0;
+            total += area_added(&mut map, Point::new(x, if is_on_rail { -x } else { y }));
             let corners: Vec<Point> = map.corners().iter().map(|&k| map.points[k]).collect();
             for place in 0..corners.len() {
                 let area = map.doubled_area(place as u64).map(i128::from);

@@ -11,4 +11,3 @@ pub const LONG_TEXT: u32 = 9;
 pub const SHORT_LIST: u32 = 10;
 pub const BAD_OUTLINE: u32 = 11;
 pub const NO_SURVEY: u32 = 12;
-pub const NO_POINT: u32 = 13;

@@ -1,0 +1,11 @@
+-- `drawings::positions::positions_length` meets its contract. The loop's invariant: what was added
+-- to the first length is that of the positions before place i.
+use mathlib.Core.Path.{◌≡◌}
+use Prim.Native.Nat.{◌+◌, ◌≤◌}
+use lib.ListN.{length}
+use Rattle.drawings.proofs.Joined.{following_to}
+use Rattle.drawings.proofs.positions.positions_length.Given as goal
+
+abbrev pub invariant-loop-i : goal.invariant-loop-i
+invariant-loop-i l =
+    (l.total ≡ l.initial.total + length (following_to l.xs l.ys l.others l.i)) × (l.i ≤ length l.others)

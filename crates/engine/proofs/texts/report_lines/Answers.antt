@@ -1,0 +1,35 @@
+-- `engine::texts::report_lines` meets its contract: the room is looked at, and then the report is
+-- written.
+use mathlib.Core.Path.{◌≡◌, ap, ◌∙◌}
+use mathlib.Core.Bool.{false}
+use mathlib.Core.List.{List}
+use Prim.Native.Nat.{ℕ}
+use native.Mathlib.Omega.{arith}
+use borrow.Author.Tests.{le-ltb}
+use lib.Dec.{ltb}
+use lib.ListN.{length}
+use Rattle.finite.specs.Overwriting.{over}
+use Rattle.model.specs.Report.{text_limit, report}
+use Rattle.engine.proofs.Entries.{short_refused, result_written}
+use Rattle.engine.proofs.texts.report_lines.Goals as goal
+use Rattle.engine.proofs.texts.report_lines.Goals.{After-length_of-length}
+
+-- the text is not too long
+read : (c : After-length_of-length) →
+    ltb text_limit (length c.args.text.now) ≡ false
+read c = le-ltb text_limit _ c.requires
+
+-- the length that was found is the report's
+found_length : (c : After-length_of-length) →
+    c.length_of-length.result ≡ length (report c.args.text.now)
+found_length c = c.length_of-length.ensures ∙ ap length c.decide-decided.ensures.is_report
+
+pub returns-then-lent-length : goal.returns-then-lent-length
+returns-then-lent-length c = short_refused (read (goal.at.returns-then-lent-length c).After-length_of-length) (omega (arith, found_length (goal.at.returns-then-lent-length c).After-length_of-length, c.if-lent-length.true))
+
+pub returns : goal.returns
+returns c = result_written (read (goal.at.returns c).After-length_of-length) (found_length (goal.at.returns c).After-length_of-length)
+    (omega (arith, found_length (goal.at.returns c).After-length_of-length, c.if-lent-length.false))
+    (c.write_report.ensures
+    ∙ ap (λ (l : List ℕ). over l c.args.lent.now)
+    c.decide-decided.ensures.is_report)

@@ -1,0 +1,12 @@
+-- The loop of `outline::print_lines`: the pieces so far bring to a position, and the measure is how
+-- many printed lines are left.
+use Prim.Native.Nat.{◌-◌}
+use Rattle.lines.specs.Lines.{line_count}
+use Rattle.outline.proofs.Printing.{Printing}
+use Rattle.outline.proofs.print_lines.Given as goal
+
+abbrev pub invariant-loop-decided : goal.invariant-loop-decided
+invariant-loop-decided l = Printing l.answers l.decided l.buffer l.from
+
+abbrev pub decreases-loop-decided : goal.decreases-loop-decided
+decreases-loop-decided l = line_count l.decided.ends - l.from

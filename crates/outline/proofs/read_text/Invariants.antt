@@ -1,0 +1,12 @@
+-- The loop of `outline::read_text`: reads brought to so many bytes, and the measure is what is left of
+-- the list.
+use Prim.Native.Nat.{◌-◌}
+use lib.ListN.{length}
+use Rattle.outline.proofs.Reading.{Filling}
+use Rattle.outline.proofs.read_text.Given as goal
+
+abbrev pub invariant-loop-filled : goal.invariant-loop-filled
+invariant-loop-filled l = Filling l.initial.text l.text l.filled
+
+abbrev pub decreases-loop-filled : goal.decreases-loop-filled
+decreases-loop-filled l = length l.initial.text - l.filled

@@ -189,7 +189,8 @@ module _ (E : ℕ → ℕ → Type 0) where
       let same = only a b e c.0 d.0 in
       rw (
         same,
-        one_way only x e s t (λ h. n (elem_tail x b s h)) (λ h. k (elem_tail x e t h)) (rw same at c.1) d.1,
+        one_way only x e s t (λ h. n (elem_tail x b s h)) (λ h. k (elem_tail x e t h))
+            (subst (λ (y : ℕ). Chain E (y ∷ s ++ x ∷ [])) same c.1) d.1,
       )
 
 -- ---- two points or more

@@ -17,6 +17,7 @@ use plane::orientation_in_range;
 
 // Twice the area of a sound map's outline, as a fan of triangles from the corner at a place of the listing:
 // number 6. Fewer than three points give 0 for any place.
+#[tactic(auto, using(crate::proofs::Calls::few_served))]
 pub fn area_of(map: Map, place: usize) -> Doubled
     requires { Shaped map }
     ensures { result ≡ answer_of (sound_area_call map place) }

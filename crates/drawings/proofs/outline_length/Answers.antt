@@ -33,11 +33,19 @@ module _ (xs ys : List ℤ) (corners : List ℕ) (first : Point) (limited : leng
 
 pub overflow_add-result : goal.overflow_add-result
 overflow_add-result c =
-    omega (arith, few c.args.xs.now c.args.ys.now c.args.corners.now _ c.requires c.positions_length-positions.ensures)
+    omega (
+      arith,
+      few c.args.xs.now c.args.ys.now c.args.corners.now _ c.requires
+          c.positions_length-positions.ensures,
+    )
 
 pub overflow_add-result-then-count-eq1 : goal.overflow_add-result-then-count-eq1
 overflow_add-result-then-count-eq1 c =
-    omega (arith, few c.args.xs.now c.args.ys.now c.args.corners.now _ c.requires c.positions_length-positions.ensures)
+    omega (
+      arith,
+      few c.args.xs.now c.args.ys.now c.args.corners.now _ c.requires
+          c.positions_length-positions.ensures,
+    )
 
 pub returns-then-count-eq1 : goal.returns-then-count-eq1
 unfolding bytes
@@ -56,11 +64,19 @@ returns-then-count-eq1 c =
 
 pub overflow_add-result-then-count-eq2 : goal.overflow_add-result-then-count-eq2
 overflow_add-result-then-count-eq2 c =
-    omega (arith, few c.args.xs.now c.args.ys.now c.args.corners.now _ c.requires c.positions_length-positions.ensures)
+    omega (
+      arith,
+      few c.args.xs.now c.args.ys.now c.args.corners.now _ c.requires
+          c.positions_length-positions.ensures,
+    )
 
 pub overflow_add-result-then-count-eq2-2 : goal.overflow_add-result-then-count-eq2-2
 overflow_add-result-then-count-eq2-2 c =
-    omega (arith, few c.args.xs.now c.args.ys.now c.args.corners.now _ c.requires c.positions_length-positions.ensures)
+    omega (
+      arith,
+      few c.args.xs.now c.args.ys.now c.args.corners.now _ c.requires
+          c.positions_length-positions.ensures,
+    )
 
 pub returns-then-count-eq2 : goal.returns-then-count-eq2
 unfolding bytes
@@ -81,32 +97,32 @@ pub overflow_add-closing : goal.overflow_add-closing
 overflow_add-closing c =
     omega (
       arith,
-      last_few c.args.xs.now c.args.ys.now c.args.corners.now _ c.requires c.positions_length-positions.ensures
-          c.position_length-closing.ensures,
+      last_few c.args.xs.now c.args.ys.now c.args.corners.now _ c.requires
+          c.positions_length-positions.ensures c.position_length-closing.ensures,
     )
 
 pub overflow_add-result-2 : goal.overflow_add-result-2
 overflow_add-result-2 c =
     omega (
       arith,
-      last_few c.args.xs.now c.args.ys.now c.args.corners.now _ c.requires c.positions_length-positions.ensures
-          c.position_length-closing.ensures,
+      last_few c.args.xs.now c.args.ys.now c.args.corners.now _ c.requires
+          c.positions_length-positions.ensures c.position_length-closing.ensures,
     )
 
 pub overflow_add-result-3 : goal.overflow_add-result-3
 overflow_add-result-3 c =
     omega (
       arith,
-      last_few c.args.xs.now c.args.ys.now c.args.corners.now _ c.requires c.positions_length-positions.ensures
-          c.position_length-closing.ensures,
+      last_few c.args.xs.now c.args.ys.now c.args.corners.now _ c.requires
+          c.positions_length-positions.ensures c.position_length-closing.ensures,
     )
 
 pub overflow_add-result-4 : goal.overflow_add-result-4
 overflow_add-result-4 c =
     omega (
       arith,
-      last_few c.args.xs.now c.args.ys.now c.args.corners.now _ c.requires c.positions_length-positions.ensures
-          c.position_length-closing.ensures,
+      last_few c.args.xs.now c.args.ys.now c.args.corners.now _ c.requires
+          c.positions_length-positions.ensures c.position_length-closing.ensures,
     )
 
 pub returns : goal.returns

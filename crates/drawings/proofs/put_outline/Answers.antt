@@ -98,7 +98,8 @@ module _ (xs ys : List ℤ) (corners : List ℕ) {first : Point}
           polygon_written : {now : List ℕ} {end : ℕ} → PutAt closed k' (bytes "))") now end →
               PutAt lent at (outline_text (points_at xs ys corners)) now end
           polygon_written u =
-              both_written (polygon ++ again) (bytes "))") (text_more xs ys corners read three) r ring_written u
+              both_written (polygon ++ again) (bytes "))") (text_more xs ys corners read three) r
+              ring_written u
 
 pub put_positions-end-requires : goal.put_positions-end-requires
 unfolding bytes
@@ -139,22 +140,26 @@ returns-then-count-eq2 c =
 pub put_positions-end-requires-2 : goal.put_positions-end-requires-2
 unfolding bytes
 put_positions-end-requires-2 c =
-    polygon_room c.args.xs.now c.args.ys.now c.args.corners.now c.point_at-first.ensures c.requires (omega arith)
+    polygon_room c.args.xs.now c.args.ys.now c.args.corners.now c.point_at-first.ensures c.requires
+    (omega arith)
 
 pub put_next-closed-requires : goal.put_next-closed-requires
 unfolding bytes
 put_next-closed-requires c =
-    again_room c.args.xs.now c.args.ys.now c.args.corners.now c.point_at-first.ensures c.requires (omega arith)
+    again_room c.args.xs.now c.args.ys.now c.args.corners.now c.point_at-first.ensures c.requires
+    (omega arith)
     c.put_positions-end-2.ensures
 
 pub put_word-requires-2 : goal.put_word-requires-2
 unfolding bytes
 put_word-requires-2 c =
-    polygon_end c.args.xs.now c.args.ys.now c.args.corners.now c.point_at-first.ensures c.requires (omega arith)
+    polygon_end c.args.xs.now c.args.ys.now c.args.corners.now c.point_at-first.ensures c.requires
+    (omega arith)
     c.put_positions-end-2.ensures c.put_next-closed.ensures
 
 pub returns : goal.returns
 unfolding bytes
 returns c =
-    polygon_written c.args.xs.now c.args.ys.now c.args.corners.now c.point_at-first.ensures c.requires (omega arith)
+    polygon_written c.args.xs.now c.args.ys.now c.args.corners.now c.point_at-first.ensures c.requires
+    (omega arith)
     c.put_positions-end-2.ensures c.put_next-closed.ensures c.put_word-2.ensures

@@ -2,7 +2,8 @@
 -- read, and then they are tested.
 use mathlib.Core.Path.{◌≡◌, sym, ◌∙◌}
 use mathlib.Core.Bool.{Bool}
-use Rattle.listings.proofs.Listed.{long_read, malformed_read, far_read, places_ranged, unlisted_read, listed_read}
+use Rattle.listings.proofs.Listed.{long_read, malformed_read, far_read, places_ranged, unlisted_read}
+use Rattle.listings.proofs.Listed.{listed_read}
 use Rattle.listings.proofs.read_listing.Goals as goal
 
 -- what a test told
@@ -19,19 +20,23 @@ returns-then-not-ranged c =
 
 pub is_listable-requires : goal.is_listable-requires
 is_listable-requires c =
-    places_ranged (told c.is_too_long.ensures c.if-is_too_long.false) c.read_corners-corners.ensures c.in-Read.is
+    places_ranged (told c.is_too_long.ensures c.if-is_too_long.false) c.read_corners-corners.ensures
+    c.in-Read.is
     c.if-not-ranged.false
 
 pub returns-then-not-is_listable : goal.returns-then-not-is_listable
 returns-then-not-is_listable c =
-    unlisted_read (told c.is_too_long.ensures c.if-is_too_long.false) c.read_corners-corners.ensures c.in-Read.is
+    unlisted_read (told c.is_too_long.ensures c.if-is_too_long.false) c.read_corners-corners.ensures
+    c.in-Read.is
     c.if-not-ranged.false (told c.is_listable.ensures c.if-not-is_listable.true)
 
 pub returns-else-not-is_listable : goal.returns-else-not-is_listable
 returns-else-not-is_listable c =
-    listed_read (told c.is_too_long.ensures c.if-is_too_long.false) c.read_corners-corners.ensures c.in-Read.is
+    listed_read (told c.is_too_long.ensures c.if-is_too_long.false) c.read_corners-corners.ensures
+    c.in-Read.is
     c.if-not-ranged.false (told c.is_listable.ensures c.if-not-is_listable.false)
 
 pub returns-in-Malformed : goal.returns-in-Malformed
 returns-in-Malformed c =
-    malformed_read (told c.is_too_long.ensures c.if-is_too_long.false) c.read_corners-corners.ensures c.in-Malformed.is
+    malformed_read (told c.is_too_long.ensures c.if-is_too_long.false) c.read_corners-corners.ensures
+    c.in-Malformed.is

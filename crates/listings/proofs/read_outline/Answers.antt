@@ -13,7 +13,8 @@ use Rattle.model.specs.Lent.{is_short}
 use Rattle.model.specs.Outlines.{coordinates, corners_spelt, outline_rules}
 use Rattle.model.proofs.Lent.{by_refused, by_short, by_written}
 use Rattle.polygons.proofs.Held.{zeros_ready}
-use Rattle.listings.proofs.Listed.{listing_refused, listing_served, listing_coordinates, listing_length, listing_places, listing_few}
+use Rattle.listings.proofs.Listed.{listing_refused, listing_served, listing_coordinates, listing_length}
+use Rattle.listings.proofs.Listed.{listing_places, listing_few}
 use Rattle.listings.proofs.read_outline.Goals as goal
 
 pub read_listing-listing-requires : goal.read_listing-listing-requires

@@ -15,10 +15,13 @@ loop-k-init c = none_copied
 pub loop-k-preserved : goal.loop-k-preserved
 loop-k-preserved c =
     let args = c.args in
-    let x : to_z w64 (of_z w64 (get_or args.xs.now c.loop-k.k (pos 0))) ≡ get_or args.xs.now c.loop-k.k (pos 0) = search rules in
-    let y : to_z w64 (of_z w64 (get_or args.ys.now c.loop-k.k (pos 0))) ≡ get_or args.ys.now c.loop-k.k (pos 0) = search rules in
+    let x : to_z w64 (of_z w64 (get_or args.xs.now c.loop-k.k (pos 0)))
+    ≡ get_or args.xs.now c.loop-k.k (pos 0) = search rules in
+    let y : to_z w64 (of_z w64 (get_or args.ys.now c.loop-k.k (pos 0)))
+    ≡ get_or args.ys.now c.loop-k.k (pos 0) = search rules in
     rw (x, y)
-    (pair_copied args.xs.now args.ys.now args.n c.loop-k.k c.loop-k.invariant (omega arith) c.requires.n_in_bounds)
+    (pair_copied args.xs.now args.ys.now args.n c.loop-k.k c.loop-k.invariant (omega arith)
+    c.requires.n_in_bounds)
 
 pub returns : goal.returns
 returns c =

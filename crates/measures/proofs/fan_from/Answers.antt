@@ -24,7 +24,9 @@ module _ {xs ys : List ℤ} {corners : List ℕ} {n : ℕ} {q : Point} (f : Fann
   fits : SFits w64 (total +ℤ to_z w64 (of_z w64 z))
   fits = bounded_fits w64 tt (within f more)
 
-  summed : SummingAt xs ys corners n q (to_z w64 (of_z w64 (total +ℤ to_z w64 (of_z w64 z)))) (get_or corners i 0) (i + 1)
+  summed :
+      SummingAt xs ys corners n q (to_z w64 (of_z w64 (total +ℤ to_z w64 (of_z w64 z)))) (get_or corners i 0)
+      (i + 1)
   summed = rw (to_z-of_z w64 (total +ℤ to_z w64 (of_z w64 z)) fits) more
 
 pub loop-i-init : goal.loop-i-init

@@ -3,7 +3,8 @@ use mathlib.Core.Path.{◌≡◌, sym, ◌∙◌}
 use mathlib.Core.Bool.{Bool}
 use Rattle.finite.specs.Tests.{of_true}
 use Rattle.model.specs.Spelling.{bytes}
-use Rattle.polygons.proofs.Held.{counted_read, ring_read, none_read, other_read, spells_none, spells_point, spells_line, spells_ring, spells_other}
+use Rattle.polygons.proofs.Held.{counted_read, ring_read, none_read, other_read, spells_none, spells_point}
+use Rattle.polygons.proofs.Held.{spells_line, spells_ring, spells_other}
 use Rattle.polygons.proofs.read_corners.Goals as goal
 
 -- what a test told of a word that was sought
@@ -23,7 +24,8 @@ pub returns-then-starts_with : goal.returns-then-starts_with
 unfolding bytes
 returns-then-starts_with c =
     counted_read c.requires c.read_between-listed.ensures 1 c.counted.ensures
-    (spells_point _ (told c.is_word.ensures c.if-is_word.false) (told c.starts_with.ensures c.if-starts_with.true))
+    (spells_point _ (told c.is_word.ensures c.if-is_word.false)
+    (told c.starts_with.ensures c.if-starts_with.true))
 
 pub read_between-listed-requires-then-starts_with-2 : goal.read_between-listed-requires-then-starts_with-2
 unfolding bytes
@@ -33,8 +35,10 @@ read_between-listed-requires-then-starts_with-2 c =
 pub returns-then-starts_with-2 : goal.returns-then-starts_with-2
 unfolding bytes
 returns-then-starts_with-2 c =
-    counted_read c.requires c.read_between-listed-then-starts_with-2.ensures 2 c.counted-then-starts_with-2.ensures
-    (spells_line _ (told c.is_word.ensures c.if-is_word.false) (told c.starts_with.ensures c.if-starts_with.false)
+    counted_read c.requires c.read_between-listed-then-starts_with-2.ensures 2
+    c.counted-then-starts_with-2.ensures
+    (spells_line _ (told c.is_word.ensures c.if-is_word.false)
+    (told c.starts_with.ensures c.if-starts_with.false)
     (told c.starts_with-2.ensures c.if-starts_with-2.true))
 
 pub read_between-listed-requires-then-starts_with-3 : goal.read_between-listed-requires-then-starts_with-3
@@ -46,12 +50,16 @@ pub returns-then-starts_with-3 : goal.returns-then-starts_with-3
 unfolding bytes
 returns-then-starts_with-3 c =
     ring_read c.requires c.read_between-listed-then-starts_with-3.ensures c.point_at.ensures c.ring.ensures
-    (spells_ring _ (told c.is_word.ensures c.if-is_word.false) (told c.starts_with.ensures c.if-starts_with.false)
-    (told c.starts_with-2.ensures c.if-starts_with-2.false) (told c.starts_with-3.ensures c.if-starts_with-3.true))
+    (spells_ring _ (told c.is_word.ensures c.if-is_word.false)
+    (told c.starts_with.ensures c.if-starts_with.false)
+    (told c.starts_with-2.ensures c.if-starts_with-2.false)
+    (told c.starts_with-3.ensures c.if-starts_with-3.true))
 
 pub returns : goal.returns
 unfolding bytes
 returns c =
     other_read
-    (spells_other _ (told c.is_word.ensures c.if-is_word.false) (told c.starts_with.ensures c.if-starts_with.false)
-    (told c.starts_with-2.ensures c.if-starts_with-2.false) (told c.starts_with-3.ensures c.if-starts_with-3.false))
+    (spells_other _ (told c.is_word.ensures c.if-is_word.false)
+    (told c.starts_with.ensures c.if-starts_with.false)
+    (told c.starts_with-2.ensures c.if-starts_with-2.false)
+    (told c.starts_with-3.ensures c.if-starts_with-3.false))

@@ -10,10 +10,12 @@ use Rattle.model.specs.Plane.{at, same_point}
 use Rattle.polygons.specs.Spellings.{ring_as}
 use Rattle.polygons.proofs.Held.{ring_ends, ring_open, ring_short}
 use Rattle.polygons.proofs.ring.Goals as goal
-use Rattle.polygons.proofs.ring.Goals.{else-count-ge4-via-then-count-ge4+else-is_same, else-count-ge4-via-else-count-ge4}
+use Rattle.polygons.proofs.ring.Goals.{else-count-ge4-via-then-count-ge4+else-is_same}
+use Rattle.polygons.proofs.ring.Goals.{else-count-ge4-via-else-count-ge4}
 
 -- what the test told of the last position, whose coordinates the machine has as x' and y'
-same : (first : Point) {x' y' x y : ℤ} {r b : Bool} → x' ≡ x → y' ≡ y → r ≡ same_point first (at x' y') → r ≡ b →
+same : (first : Point) {x' y' x y : ℤ} {r b : Bool} → x' ≡ x → y' ≡ y →
+    r ≡ same_point first (at x' y') → r ≡ b →
     same_point first (at x y) ≡ b
 same first e f found is = ap (same_point first) (sym (ap₂ at e f)) ∙ sym found ∙ is
 

@@ -25,14 +25,16 @@ loop-x-preserved c =
     let x : to_z w64 (of_z w64 c.in-More.x) ≡ c.in-More.x = search rules in
     let y : to_z w64 (of_z w64 c.in-More.y) ≡ c.in-More.y = search rules in
     rw (c.keep.ensures, c.keep-in-More.ensures, x, y)
-    (reading_more c.loop-x.invariant c.in-More.x c.in-More.y c.in-More.ensures (rw (x, y) at c.still_ranged-ranged.ensures))
+    (reading_more c.loop-x.invariant c.in-More.x c.in-More.y c.in-More.ensures
+    (rw (x, y) at c.still_ranged-ranged.ensures))
 
 pub returns-in-Last : goal.returns-in-Last
 returns-in-Last c =
     let x : to_z w64 (of_z w64 c.in-Last.x) ≡ c.in-Last.x = search rules in
     let y : to_z w64 (of_z w64 c.in-Last.y) ≡ c.in-Last.y = search rules in
     rw (c.keep-in-Last.ensures, c.keep-in-Last-2.ensures, x, y)
-    (reading_last c.loop-x.invariant c.in-Last.x c.in-Last.y c.in-Last.ensures (rw (x, y) at c.still_ranged.ensures))
+    (reading_last c.loop-x.invariant c.in-Last.x c.in-Last.y c.in-Last.ensures
+    (rw (x, y) at c.still_ranged.ensures))
 
 pub returns-in-Malformed : goal.returns-in-Malformed
 returns-in-Malformed c = reading_bad c.loop-x.invariant c.in-Malformed.ensures

@@ -27,22 +27,24 @@ pub overflow_add-total : goal.overflow_add-total
 overflow_add-total c =
     omega (
       arith,
-      few c.args.xs.now c.args.ys.now c.args.others.now _ _ c.loop-i.invariant.0 c.loop-i-test.true c.point_at.ensures
-          c.position_length.ensures c.args.first c.position_length-total.ensures c.requires,
+      few c.args.xs.now c.args.ys.now c.args.others.now _ _ c.loop-i.invariant.0 c.loop-i-test.true
+          c.point_at.ensures c.position_length.ensures c.args.first c.position_length-total.ensures
+          c.requires,
     )
 
 pub overflow_add-total-in-loop-i : goal.overflow_add-total-in-loop-i
 overflow_add-total-in-loop-i c =
     omega (
       arith,
-      few c.args.xs.now c.args.ys.now c.args.others.now _ _ c.loop-i.invariant.0 c.loop-i-test.true c.point_at.ensures
-          c.position_length.ensures c.args.first c.position_length-total.ensures c.requires,
+      few c.args.xs.now c.args.ys.now c.args.others.now _ _ c.loop-i.invariant.0 c.loop-i-test.true
+          c.point_at.ensures c.position_length.ensures c.args.first c.position_length-total.ensures
+          c.requires,
     )
 
 pub loop-i-preserved : goal.loop-i-preserved
 loop-i-preserved c = (
-  next c.args.xs.now c.args.ys.now c.args.others.now _ _ c.loop-i.invariant.0 c.loop-i-test.true c.point_at.ensures
-      c.position_length.ensures,
+  next c.args.xs.now c.args.ys.now c.args.others.now _ _ c.loop-i.invariant.0 c.loop-i-test.true
+      c.point_at.ensures c.position_length.ensures,
   omega arith,
 )
 

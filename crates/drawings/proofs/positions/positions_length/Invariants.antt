@@ -7,4 +7,5 @@ use Rattle.drawings.proofs.Joined.{following_to}
 use Rattle.drawings.proofs.positions.positions_length.Given as goal
 
 abbrev pub invariant-loop-i : goal.invariant-loop-i
-invariant-loop-i l = (l.total ≡ l.initial.total + length (following_to l.xs l.ys l.others l.i)) × (l.i ≤ length l.others)
+invariant-loop-i l =
+    (l.total ≡ l.initial.total + length (following_to l.xs l.ys l.others l.i)) × (l.i ≤ length l.others)

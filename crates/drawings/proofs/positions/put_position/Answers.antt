@@ -60,4 +60,5 @@ pub returns : goal.returns
 returns c =
     let x : to_z w64 (of_z w64 c.args.p.x) ≡ c.args.p.x = search rules in
     let y : to_z w64 (of_z w64 c.args.p.y) ≡ c.args.p.y = search rules in
-    position_written c.args.p x y c.requires c.put_number-x_end.ensures c.put_byte-y_start.ensures c.put_number.ensures
+    position_written c.args.p x y c.requires c.put_number-x_end.ensures c.put_byte-y_start.ensures
+    c.put_number.ensures

@@ -34,7 +34,8 @@ module _ (word : List â„•) (first : Point) (points : List Point) {lent : List â„
       written u = both_written begun (following points) (after_word word first points) r wrote_begun u
 
 pub put_position-end-requires : goal.put_position-end-requires
-put_position-end-requires c = room_position c.args.word.now c.args.first _ c.requires c.put_word-position.ensures
+put_position-end-requires c =
+    room_position c.args.word.now c.args.first _ c.requires c.put_word-position.ensures
 
 pub loop-i-init : goal.loop-i-init
 loop-i-init c = drawn_none _ _ _

@@ -16,4 +16,5 @@ returns-then-word-i c =
     (ap not (ne_eqb _ _ c.if-word-i.true))
 
 pub returns : goal.returns
-returns c = all_passed (starts_tests c.args.word.now c.args.text.now (omega arith)) c.loop-i.invariant (omega arith)
+returns c =
+    all_passed (starts_tests c.args.word.now c.args.text.now (omega arith)) c.loop-i.invariant (omega arith)

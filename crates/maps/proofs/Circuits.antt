@@ -11,7 +11,6 @@ use native.Mathlib.Omega.{arith}
 use lib.Dec.{T}
 use lib.ListN.{length}
 use borrow.Author.Tests.{le-ltb}
-use Rattle.finite.specs.Bounded.{count}
 use Rattle.finite.specs.Counting.{count_small}
 use Rattle.finite.specs.Lists.{elem, distinct}
 use Rattle.finite.specs.ListLaws.{elem_swap}

@@ -17,7 +17,7 @@ use Rattle.finite.specs.Cycles.{Chain, Cycle}
 use Rattle.model.specs.declared.Point.{Point}
 use Rattle.model.specs.declared.Map.{Map}
 use Rattle.model.specs.Plane.{in_range}
-use Rattle.model.specs.Maps.{point_limit, own, helper, owner, point, has_helper, is_present, edge_link}
+use Rattle.model.specs.Maps.{point_limit, own, helper, owner, point, has_helper, edge_link}
 use Rattle.model.specs.Outline.{next_corner, outline}
 use Rattle.model.specs.Arrival.{second_kind, freeing_none, join, with_point, pair}
 use Rattle.model.specs.Shape.{Shaped, AllBeside}

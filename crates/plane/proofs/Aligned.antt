@@ -18,7 +18,7 @@ use Rattle.finite.specs.Tests.{and_both, same_or_not}
 use Rattle.finite.specs.Bounded.{lt_or_ge}
 use Rattle.finite.specs.Lists.{elem}
 use Rattle.model.specs.declared.Point.{Point}
-use Rattle.model.specs.Plane.{at, orientation, left_of, visible_from, in_line, strictly_between, beside}
+use Rattle.model.specs.Plane.{orientation, left_of, visible_from, in_line, strictly_between, beside}
 use Rattle.plane.specs.OrientedAnswer.{RangedCoordinates}
 use Rattle.plane.specs.Between.{dot, opposite}
 use Rattle.plane.proofs.Orientation.{orientation_cyclic, orientation_twice, left_positive, positive_left, negative_visible, zero_in_line}

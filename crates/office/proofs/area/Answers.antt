@@ -19,4 +19,5 @@ area_of-requires c = found_sound c.is_sound.ensures (ap not c.if-not-is_sound.fa
 pub returns : goal.returns
 unfolding doubled_answer
 returns c = answered _ (λ r. refl)
-    (rule_passes Doubled.Refused _ _ _ (tested c.is_sound.ensures (ap not c.if-not-is_sound.false)) c.area_of.ensures)
+    (rule_passes Doubled.Refused _ _ _ (tested c.is_sound.ensures (ap not c.if-not-is_sound.false))
+    c.area_of.ensures)

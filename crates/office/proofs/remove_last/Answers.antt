@@ -38,4 +38,5 @@ returns c = let m = c.args.map in
     answered _ (λ r. refl)
     (rule_passes (keeping m) _ _ _ (tested c.is_sound.ensures (ap not c.if-not-is_sound.false))
     (rule_passes (keeping m) _ _ _ (ne_eqb m.count 0 c.if-map-eq0.false)
-    (ap (λ (n : Map). record { outcome = Outcome.Served; map = n }) c.taken_back.ensures ∙ no_rule (keeping m) _)))
+    (ap (λ (n : Map). record { outcome = Outcome.Served; map = n }) c.taken_back.ensures
+    ∙ no_rule (keeping m) _)))

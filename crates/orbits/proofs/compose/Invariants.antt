@@ -1,5 +1,5 @@
--- `orbits::compose` meets its contract. The loop's invariant: the places passed hold the links of f and then g, and
--- so do those from n on. The measure is the places left.
+-- `orbits::compose` meets its contract. The loop's invariant: the places passed hold the links of f and then
+-- g, and so do those from n on.
 use Rattle.finite.specs.Loops.{FilledFront}
 use Rattle.orbits.specs.Sets.{dart_limit}
 use Rattle.orbits.specs.Links.{link_of, ◌then◌}

@@ -16,7 +16,8 @@ unfolding coordinate_in_range
 returns-then-z c = let z = c.args.z in
     let back = to_z-of_z w64 z c.ranges.z in
     let low : le_z lowest z ≡ true = sym (ap (le_z lowest) back) ∙ c.if-z.true in
-    ap (λ (t : ℤ). le_z t (pos coordinate_limit)) back ∙ sym (ap (λ (b : Bool). b && le_z z (pos coordinate_limit)) low)
+    ap (λ (t : ℤ). le_z t (pos coordinate_limit)) back
+    ∙ sym (ap (λ (b : Bool). b && le_z z (pos coordinate_limit)) low)
 
 pub returns-else-z : goal.returns-else-z
 unfolding coordinate_in_range

@@ -5,7 +5,9 @@ use Rattle.plane.proofs.Minors.{product_fits, minor_fits, minor_bounded, partial
 use Rattle.plane.proofs.determinant.Goals as goal
 
 pub returns : goal.returns
-returns c = sum_is L tt c.requires.ax_near c.requires.ay_near c.requires.bx_near c.requires.by_near c.requires.cx_near c.requires.cy_near
+returns c =
+    sum_is L tt c.requires.ax_near c.requires.ay_near c.requires.bx_near c.requires.by_near
+    c.requires.cx_near c.requires.cy_near
 
 pub overflow_mul-without_a : goal.overflow_mul-without_a
 overflow_mul-without_a c = search (product_fits L tt)

@@ -12,9 +12,9 @@ use Rattle.plane.proofs.is_beside.Goals.{After-orientation_in_range-z}
 
 -- what the tests compare with 0
 module _ (c : After-orientation_in_range-z) where
-
   value : to_z w64 (of_z w64 c.orientation_in_range-z.result) ≡ orientation c.args.a c.args.b c.args.c
-  value = to_z-of_z w64 c.orientation_in_range-z.result (record { sfits = c.orientation_in_range-z.type_inv }) ∙ c.orientation_in_range-z.ensures
+  value = to_z-of_z w64 c.orientation_in_range-z.result
+      (record { sfits = c.orientation_in_range-z.type_inv }) ∙ c.orientation_in_range-z.ensures
 
 pub returns-then-z-gt0 : goal.returns-then-z-gt0
 returns-then-z-gt0 c = let v = value (goal.at.returns-then-z-gt0 c).After-orientation_in_range-z in

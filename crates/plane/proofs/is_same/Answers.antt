@@ -17,12 +17,15 @@ first : (c : After-struct_told-2-1) →
     ≡ eq_z c.args.p.x c.args.q.x
 first c =
     let s = c.args in
-    eqb_read {w = w64} {x = s.p.x} {y = s.q.x} (record { sfits = c.struct_told-1.given.0.1 }) (record { sfits = c.struct_told-2-1.given.0.1 })
+    eqb_read {w = w64} {x = s.p.x} {y = s.q.x} (record { sfits = c.struct_told-1.given.0.1 })
+    (record { sfits = c.struct_told-2-1.given.0.1 })
 
 pub returns-then-p-q : goal.returns-then-p-q
 unfolding same_point
 returns-then-p-q c = let s = c.args in
-    let y-same = eqb_read {w = w64} {x = s.p.y} {y = s.q.y} (record { sfits = c.struct_told-then-p-q-1.given.1.0.1 }) (record { sfits = c.struct_told-then-p-q-2-1.given.1.0.1 }) in
+    let y-same = eqb_read {w = w64} {x = s.p.y} {y = s.q.y}
+    (record { sfits = c.struct_told-then-p-q-1.given.1.0.1 })
+    (record { sfits = c.struct_told-then-p-q-2-1.given.1.0.1 }) in
     let x-same = sym (first (goal.at.returns-then-p-q c).After-struct_told-2-1) ∙ eq-eqb _ _ c.if-p-q.true in
     y-same ∙ sym (ap (λ (b : Bool). b && eq_z s.p.y s.q.y) x-same)
 
@@ -30,4 +33,5 @@ pub returns-else-p-q : goal.returns-else-p-q
 unfolding same_point
 returns-else-p-q c = let s = c.args in
     let other = ne_eqb (of_z w64 s.p.x) (of_z w64 s.q.x) c.if-p-q.false in
-    other ∙ sym (ap (λ (b : Bool). b && eq_z s.p.y s.q.y) (sym (first (goal.at.returns-else-p-q c).After-struct_told-2-1) ∙ other))
+    other ∙ sym (ap (λ (b : Bool). b && eq_z s.p.y s.q.y)
+    (sym (first (goal.at.returns-else-p-q c).After-struct_told-2-1) ∙ other))

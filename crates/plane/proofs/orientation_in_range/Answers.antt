@@ -4,7 +4,8 @@ use Rattle.plane.proofs.Bounds.{points_near, read_near, read_determinant}
 use Rattle.plane.proofs.orientation_in_range.Goals as goal
 
 pub determinant-requires : goal.determinant-requires
-determinant-requires c = read_near c.args.a c.args.b c.args.c (points_near c.args.a c.args.b c.args.c c.requires)
+determinant-requires c =
+    read_near c.args.a c.args.b c.args.c (points_near c.args.a c.args.b c.args.c c.requires)
 
 pub returns : goal.returns
 returns c = let near = points_near c.args.a c.args.b c.args.c c.requires in

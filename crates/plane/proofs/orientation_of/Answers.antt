@@ -21,7 +21,8 @@ ranged : (c : Then-all_in_range) → (in_range c.args.a && in_range c.args.b && 
 ranged c = sym c.all_in_range.ensures ∙ c.if-all_in_range.true
 
 pub orientation_in_range-requires : goal.orientation_in_range-requires
-orientation_in_range-requires c = of_true _ (ranged (goal.at.orientation_in_range-requires c).Then-all_in_range)
+orientation_in_range-requires c =
+    of_true _ (ranged (goal.at.orientation_in_range-requires c).Then-all_in_range)
 
 pub returns-then-all_in_range : goal.returns-then-all_in_range
 unfolding oriented_answer
@@ -29,11 +30,13 @@ returns-then-all_in_range c = let s = c.args in
     let in-limit = ranged (goal.at.returns-then-all_in_range c).Then-all_in_range in
     let bounded = orientation_bounded s.a s.b s.c (points_near s.a s.b s.c (of_true _ in-limit)) in
     let value = c.orientation_in_range.ensures in
-    let back = to_z-of_z w64 c.orientation_in_range.result (subst (SFits w64) (sym value) (bounded_fits w64 tt bounded)) ∙ value in
+    let back = to_z-of_z w64 c.orientation_in_range.result
+    (subst (SFits w64) (sym value) (bounded_fits w64 tt bounded)) ∙ value in
     record {
       answer =
           answered (orientation_call s.a s.b s.c) (λ r. refl)
-          (rule_passes Oriented.Refused _ _ _ (ap not in-limit) (ap Oriented.Value back ∙ no_rule Oriented.Refused _));
+          (rule_passes Oriented.Refused _ _ _ (ap not in-limit) (ap Oriented.Value back
+          ∙ no_rule Oriented.Refused _));
       within = subst (λ (z : ℤ). nat_abs z ≤ orientation_limit) (sym back) bounded.bound;
     }
 
@@ -43,6 +46,7 @@ returns-else-all_in_range c = let s = c.args in
     let out = sym c.all_in_range.ensures ∙ c.if-all_in_range.false in
     record {
       answer =
-          answered (orientation_call s.a s.b s.c) (λ r. refl) (rule_applies Oriented.Refused _ _ _ (ap not out));
+          answered (orientation_call s.a s.b s.c) (λ r. refl)
+          (rule_applies Oriented.Refused _ _ _ (ap not out));
       within = tt;
     }

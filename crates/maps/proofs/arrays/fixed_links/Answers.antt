@@ -1,9 +1,9 @@
 use mathlib.Core.Path.{refl}
-use Prim.Native.Nat.{ℕ, ◌-◌}
+use Prim.Native.Nat.{ℕ}
 use native.Mathlib.Omega.{arith}
 use lib.ListN.{length-replicate}
 use Rattle.orbits.specs.Sets.{dart_limit}
-use Rattle.finite.specs.Loops.{Filled, none_filled, one_filled, all_filled}
+use Rattle.finite.specs.Loops.{none_filled, one_filled, all_filled}
 use Rattle.maps.proofs.arrays.fixed_links.Goals as goal
 
 pub loop-d-init : goal.loop-d-init

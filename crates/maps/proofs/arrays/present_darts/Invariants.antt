@@ -1,16 +1,14 @@
 -- `maps::arrays::present_darts` meets its contract: the loop fills the places of the points' darts with whether the dart
 -- is present, and the others hold that it is not.
-use mathlib.Core.Path.{◌≡◌, refl}
+use mathlib.Core.Path.{◌≡◌}
 use mathlib.Core.Bool.{false}
-use Prim.Native.Nat.{◌-◌}
-use native.Mathlib.Omega.{arith}
-use lib.ListN.{length-replicate}
 use Rattle.orbits.specs.Sets.{dart_limit}
 use Rattle.orbits.specs.Links.{test_of}
 use Rattle.model.specs.Maps.{own, present_by}
-use Rattle.finite.specs.Loops.{FilledFront, none_in_front, one_in_front, all_in_front, all_filled}
-use Rattle.maps.proofs.Tables.{none_present}
+use Rattle.finite.specs.Loops.{FilledFront}
 use Rattle.maps.proofs.arrays.present_darts.Given as goal
 
 abbrev pub invariant-loop-d : goal.invariant-loop-d
-invariant-loop-d l = FilledFront (present_by (test_of l.helpers) l.count) false dart_limit (own l.count) l.d l.present × (l.d-end ≡ own l.count)
+invariant-loop-d l =
+    FilledFront (present_by (test_of l.helpers) l.count) false dart_limit (own l.count) l.d l.present ×
+    (l.d-end ≡ own l.count)

@@ -36,8 +36,11 @@ second c =
 
 pub returns-then-xs-k : goal.returns-then-xs-k
 unfolding same_point
-returns-then-xs-k c = both_asked (first (goal.at.returns-then-xs-k c).After-struct_told-1) (eq-eqb _ _ c.if-xs-k.true) (second (goal.at.returns-then-xs-k c).After-struct_told-then-xs-k-1)
+returns-then-xs-k c =
+    both_asked (first (goal.at.returns-then-xs-k c).After-struct_told-1) (eq-eqb _ _ c.if-xs-k.true)
+    (second (goal.at.returns-then-xs-k c).After-struct_told-then-xs-k-1)
 
 pub returns-else-xs-k : goal.returns-else-xs-k
 unfolding same_point
-returns-else-xs-k c = one_asked _ (first (goal.at.returns-else-xs-k c).After-struct_told-1) (ne_eqb _ _ c.if-xs-k.false)
+returns-else-xs-k c =
+    one_asked _ (first (goal.at.returns-else-xs-k c).After-struct_told-1) (ne_eqb _ _ c.if-xs-k.false)

@@ -1,15 +1,12 @@
 -- `maps::places::is_new` meets its contract: the loop tests every point before the n-th.
-use mathlib.Core.Path.{ap}
 use mathlib.Core.Bool.{Bool, not}
 use mathlib.Core.List.{List}
-use Prim.Native.Nat.{ℕ, ◌-◌}
-use native.Mathlib.Omega.{arith}
+use Prim.Native.Nat.{ℕ}
 use lib.IntN.{ℤ}
 use Rattle.model.specs.declared.Point.{Point}
 use Rattle.model.specs.Plane.{same_point}
 use Rattle.model.specs.Maps.{point_at}
-use Rattle.finite.specs.Loops.{Passed, Iteration, none_passed, one_passed, one_failed, all_passed}
-use Rattle.finite.specs.Loops.{below, not_twice}
+use Rattle.finite.specs.Loops.{Passed}
 use Rattle.maps.proofs.places.is_new.Given as goal
 
 abbrev pub here : List ℤ → List ℤ → Point → ℕ → Bool

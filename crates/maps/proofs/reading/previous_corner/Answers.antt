@@ -9,5 +9,6 @@ use Rattle.maps.proofs.reading.previous_corner.Goals as goal
 pub returns-else-a-edge : goal.returns-else-a-edge
 returns-else-a-edge c = let a = c.args.a in
     let edge = c.args.edge.now in
-    let past : get_or edge (helper a) (helper a) ≡ helper a = get_or-eq_default edge (helper a) (omega arith) in
+    let past : get_or edge (helper a) (helper a) ≡ helper a = get_or-eq_default edge (helper a) (omega arith)
+    in
     sym (ap (λ (d : ℕ). owner d) past ∙ omega arith)

@@ -21,7 +21,8 @@ is_beside-requires c = let read = c.requires.0 in
 found : (c : After-is_beside) →
     let s = c.args in
     c.is_beside.result
-    ≡ beside (point_at s.xs.now s.ys.now s.a) (point_at s.xs.now s.ys.now s.b) (point_at s.xs.now s.ys.now s.c)
+    ≡ beside (point_at s.xs.now s.ys.now s.a) (point_at s.xs.now s.ys.now s.b)
+    (point_at s.xs.now s.ys.now s.c)
 found c =
     let read = c.requires.0 in
     c.is_beside.ensures ∙ (λ i. beside (read.from_is i) (read.to_is i) (c.point_held.ensures i))
@@ -37,10 +38,13 @@ fails false r e = sym e
 
 pub returns-then-is_beside : goal.returns-then-is_beside
 returns-then-is_beside c = let s = c.args in
-    passes (not (eqb s.c s.a) && not (eqb s.c s.b)) _ (sym (found (goal.at.returns-then-is_beside c).After-is_beside) ∙ c.if-is_beside.true)
+    passes (not (eqb s.c s.a) && not (eqb s.c s.b)) _
+    (sym (found (goal.at.returns-then-is_beside c).After-is_beside) ∙ c.if-is_beside.true)
 
 pub returns-then-c-a : goal.returns-then-c-a
 returns-then-c-a c = rw (eq-eqb _ _ c.if-c-a.true)
 
 pub returns : goal.returns
-returns c = rw (ne_eqb _ _ c.if-c-a.false) (fails _ _ (sym (found (goal.at.returns c).After-is_beside) ∙ c.if-is_beside.false))
+returns c =
+    rw (ne_eqb _ _ c.if-c-a.false) (fails _ _ (sym (found (goal.at.returns c).After-is_beside)
+    ∙ c.if-is_beside.false))

@@ -4,7 +4,7 @@
 use mathlib.Core.Path.{refl, ◌≡◌, sym, ap, subst, ◌∙◌}
 use mathlib.Core.Bool.{Bool, ◌&&◌}
 use mathlib.Core.List.{List}
-use Prim.Native.Nat.{ℕ, ◌+◌, ◌-◌, ◌*◌, ◌/◌, ◌≤◌}
+use Prim.Native.Nat.{ℕ, ◌+◌, ◌-◌, ◌/◌, ◌≤◌}
 use native.Mathlib.Omega.{arith}
 use lib.ListN.{length}
 use Rattle.finite.specs.Bounded.{count, table, length_table}
@@ -115,23 +115,33 @@ module _ (c : After-orbit_count-faces) where
   vertices_counted : c.orbit_count-vertices.result ≡ number_of c.args.m Kind.Vertex
   vertices_counted =
       c.orbit_count-vertices.ensures
-      ∙ vertices_are c.args.m c.requires c.put_point_links.ensures c.compose.ensures c.present_darts-present.ensures
+      ∙ vertices_are c.args.m c.requires c.put_point_links.ensures c.compose.ensures
+      c.present_darts-present.ensures
 
   edges_counted : c.orbit_count-edges.result ≡ number_of c.args.m Kind.Edge
   edges_counted =
       c.orbit_count-edges.ensures
-      ∙ edges_are c.args.m c.requires c.put_point_links.ensures c.compose.ensures c.present_darts-present.ensures
+      ∙ edges_are c.args.m c.requires c.put_point_links.ensures c.compose.ensures
+      c.present_darts-present.ensures
 
   faces_counted : c.orbit_count-faces.result ≡ number_of c.args.m Kind.Face
   faces_counted =
       c.orbit_count-faces.ensures
-      ∙ faces_are c.args.m c.requires c.put_point_links.ensures c.compose.ensures c.present_darts-present.ensures
+      ∙ faces_are c.args.m c.requires c.put_point_links.ensures c.compose.ensures
+      c.present_darts-present.ensures
 
 pub overflow_add-result : goal.overflow_add-result
 overflow_add-result c =
     record {
       fits =
-          omega (arith, vertices_counted c, edges_counted c, few c.requires Kind.Vertex, few c.requires Kind.Edge);
+          omega (
+            arith,
+            vertices_counted c,
+            edges_counted c,
+            few c.requires Kind.Vertex,
+            few c.requires
+                Kind.Edge,
+          );
     }
 
 pub overflow_add-result-2 : goal.overflow_add-result-2
@@ -171,4 +181,11 @@ returns c =
     (c.orbit_count-vertices.result + c.orbit_count-edges.result + c.orbit_count-faces.result
     - c.dart_count-darts.result) / 2 ≡ number_of c.args.m Kind.Part =
     omega (arith, counts_balance c.requires) in
-    λ i. record { darts = present i; vertices = vertices i; edges = edges i; faces = around i; parts = parts i }
+    λ i. record {
+      darts = present i;
+      vertices = vertices i;
+      edges = edges i;
+      faces = around i;
+      parts =
+          parts i;
+    }

@@ -1,5 +1,5 @@
 use mathlib.Core.Path.{◌≡◌, refl, ap, ◌∙◌}
-use Prim.Native.Nat.{ℕ, ◌≤◌, ◌-◌}
+use Prim.Native.Nat.{ℕ}
 use native.Mathlib.Omega.{arith}
 use Rattle.finite.specs.Bounded.{one_if, count}
 use Rattle.finite.specs.Counting.{count_small}
@@ -21,23 +21,23 @@ overflow_cast-darts c = tt
 
 pub overflow_add-darts : goal.overflow_add-darts
 overflow_add-darts c = omega (
-      arith,
-      byte_small c.is_present.result,
-      count_small c.loop-d.d (present_by (test_of c.args.helpers.now) c.args.points),
-      c.requires,
-    )
+  arith,
+  byte_small c.is_present.result,
+  count_small c.loop-d.d (present_by (test_of c.args.helpers.now) c.args.points),
+  c.requires,
+)
 
 pub loop-d-preserved : goal.loop-d-preserved
 loop-d-preserved c = let p = present_by (test_of c.args.helpers.now) c.args.points in (
-      omega arith,
-      c.loop-d.invariant.1,
-      omega (
-        arith,
-        count_next c.loop-d.d p,
-        one_if_byte c.is_present.result,
-        ap one_if c.is_present.ensures,
-      ),
-    )
+  omega arith,
+  c.loop-d.invariant.1,
+  omega (
+    arith,
+    count_next c.loop-d.d p,
+    one_if_byte c.is_present.result,
+    ap one_if c.is_present.ensures,
+  ),
+)
 
 pub returns : goal.returns
 returns c = let p = present_by (test_of c.args.helpers.now) c.args.points in

@@ -13,7 +13,6 @@ use Rattle.maps.proofs.traversal.moved_by_point.Goals as goal
 use Rattle.maps.proofs.traversal.moved_by_point.Goals.{After-moved}
 
 module _ (c : After-moved) where
-
   abbrev map : Map
   map = c.args.m
 

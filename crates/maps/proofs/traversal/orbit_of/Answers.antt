@@ -4,7 +4,6 @@ use mathlib.Core.Path.{◌≡◌, refl, sym, ap, ◌∙◌}
 use mathlib.Core.List.{List}
 use Prim.Native.Nat.{ℕ}
 use native.Mathlib.Omega.{arith}
-use lib.Dec.{T}
 use lib.ListN.{length}
 use Rattle.finite.specs.Bounded.{table, length_table}
 use Rattle.orbits.specs.Reach.{by_one, by_two}
@@ -12,13 +11,12 @@ use Rattle.orbits.specs.Sets.{dart_limit}
 use Rattle.orbits.specs.Links.{Composed, link_of, test_of}
 use Rattle.model.specs.declared.Kind.{Kind}
 use Rattle.model.specs.declared.Map.{Map}
-use Rattle.model.specs.Maps.{point_link_by, has_helper, is_present, edge_link, point_link, face_link}
+use Rattle.model.specs.Maps.{point_link_by, has_helper, edge_link, point_link, face_link}
 use Rattle.model.specs.Reading.{links_of, orbit_set}
 use Rattle.model.specs.Shape.{Shaped}
 use Rattle.maps.proofs.Tables.{point_table, composable}
 use Rattle.maps.proofs.Orbits.{read_stays, read_orbit}
 use Rattle.maps.proofs.traversal.orbit_of.Goals as goal
-
 
 -- the point links as the code writes them
 module _ (map : Map) (sound : Shaped map) {point : List ℕ}
@@ -83,7 +81,8 @@ part-requires c =
     }
 
 -- what is read, for the kind that was told
-told_orbit : (map : Map) (d : ℕ) {told kind : Kind} → told ≡ kind → orbit_set map kind d ≡ orbit_set map told d
+told_orbit : (map : Map) (d : ℕ) {told kind : Kind} → told ≡ kind →
+    orbit_set map kind d ≡ orbit_set map told d
 told_orbit map d e = ap (λ (k : Kind). orbit_set map k d) (sym e)
 
 pub returns-in-Edge : goal.returns-in-Edge
@@ -95,7 +94,8 @@ returns-in-Edge c =
 pub returns-in-Vertex : goal.returns-in-Vertex
 returns-in-Vertex c =
     c.orbit-in-Vertex.ensures
-    ∙ read_orbit c.requires.0 Kind.Vertex _ (vertices c.args.m c.requires.0 c.put_point_links.ensures) _ c.requires.1
+    ∙ read_orbit c.requires.0 Kind.Vertex _ (vertices c.args.m c.requires.0 c.put_point_links.ensures) _
+    c.requires.1
     ∙ told_orbit c.args.m c.args.d c.in-Vertex.is
 
 pub returns-in-Face : goal.returns-in-Face
@@ -108,5 +108,6 @@ returns-in-Face c =
 pub returns-in-Part : goal.returns-in-Part
 returns-in-Part c =
     c.part.ensures
-    ∙ read_orbit c.requires.0 Kind.Part _ (parts c.args.m c.requires.0 c.put_point_links.ensures) _ c.requires.1
+    ∙ read_orbit c.requires.0 Kind.Part _ (parts c.args.m c.requires.0 c.put_point_links.ensures) _
+    c.requires.1
     ∙ told_orbit c.args.m c.args.d c.in-Part.is

@@ -15,8 +15,6 @@ use Rattle.maps.proofs.traversal.walk_of.Goals.{After-dart_count-darts}
 
 -- where the darts are counted
 module _ (c : After-dart_count-darts) where
-
-
   abbrev map : Map
   map = c.args.m
 
@@ -36,4 +34,7 @@ slice_bounds-walk-end-2 c = sym (ap length c.put_point_links.ensures ∙ length_
 
 pub returns : goal.returns
 unfolding edge_link
-returns c = c.walk.ensures ∙ (λ i. walk (edge_link (map (goal.at.returns c).After-dart_count-darts)) (leads (goal.at.returns c).After-dart_count-darts i) (darts_are (goal.at.returns c).After-dart_count-darts i) c.args.d)
+returns c =
+    c.walk.ensures ∙ (λ i. walk (edge_link (map (goal.at.returns c).After-dart_count-darts))
+    (leads (goal.at.returns c).After-dart_count-darts i)
+    (darts_are (goal.at.returns c).After-dart_count-darts i) c.args.d)

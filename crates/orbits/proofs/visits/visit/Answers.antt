@@ -28,7 +28,8 @@ links_below : (c : In-loop-head) →
     (get_or c.args.f.now a 0 < dart_limit) × (get_or c.args.g.now a 0 < dart_limit)
 links_below c =
     let w = c.requires.within in
-    let v = visiting c.before in (first_below w v c.loop-head-test.true, second_below w v c.loop-head-test.true)
+    let v = visiting c.before in
+    (first_below w v c.loop-head-test.true, second_below w v c.loop-head-test.true)
 
 pub put-last-requires : goal.put-last-requires
 put-last-requires c = (c.requires.queue, c.requires.within.below c.args.d here)
@@ -49,7 +50,11 @@ pub bounds-f-a : goal.bounds-f-a
 bounds-f-a c = at_head (goal.at.bounds-f-a c).In-loop-head
 
 pub put-last-requires-in-loop-head : goal.put-last-requires-in-loop-head
-put-last-requires-in-loop-head c = ((visiting (goal.at.put-last-requires-in-loop-head c).At-loop-head).lengthened.queue, search (links_below (goal.at.put-last-requires-in-loop-head c).In-loop-head))
+put-last-requires-in-loop-head c = (
+  (visiting (goal.at.put-last-requires-in-loop-head c).At-loop-head).lengthened.queue,
+  search
+      (links_below (goal.at.put-last-requires-in-loop-head c).In-loop-head),
+)
 
 pub offset_bounds-g-a : goal.offset_bounds-g-a
 offset_bounds-g-a c = omega (arith, at_head (goal.at.offset_bounds-g-a c).In-loop-head)
@@ -58,7 +63,11 @@ pub bounds-g-a : goal.bounds-g-a
 bounds-g-a c = at_head (goal.at.bounds-g-a c).In-loop-head
 
 pub put-last-requires-in-loop-head-2 : goal.put-last-requires-in-loop-head-2
-put-last-requires-in-loop-head-2 c = (c.put-last-in-loop-head.ensures.lengthened.queue, search (links_below (goal.at.put-last-requires-in-loop-head-2 c).In-loop-head))
+put-last-requires-in-loop-head-2 c = (
+  c.put-last-in-loop-head.ensures.lengthened.queue,
+  search
+      (links_below (goal.at.put-last-requires-in-loop-head-2 c).In-loop-head),
+)
 
 pub overflow_add-head : goal.overflow_add-head
 overflow_add-head c = omega (arith, left (goal.at.overflow_add-head c).In-loop-head)
@@ -67,7 +76,8 @@ pub loop-head-smaller : goal.loop-head-smaller
 loop-head-smaller c = omega (arith, left (goal.at.loop-head-smaller c).In-loop-head)
 
 pub loop-head-preserved : goal.loop-head-preserved
-loop-head-preserved c entry v = visit_step c.requires.within (c.loop-head.invariant entry v) c.loop-head-test.true
+loop-head-preserved c entry v = visit_step c.requires.within (c.loop-head.invariant entry v)
+    c.loop-head-test.true
     c.put-last-in-loop-head.ensures c.put-last-in-loop-head-2.ensures
 
 pub returns : goal.returns

@@ -7,7 +7,9 @@ use Rattle.orbits.proofs.Queue.{Visiting}
 use Rattle.orbits.proofs.visits.visit.Given as goal
 
 abbrev pub invariant-loop-head : goal.invariant-loop-head
-invariant-loop-head l = (entry : List ℕ) → Visiting l.f l.g l.d entry l.end l.initial.order l.initial.seen l.initial.last l.initial.head →
+invariant-loop-head l =
+    (entry : List ℕ) → Visiting l.f l.g l.d entry l.end l.initial.order l.initial.seen l.initial.last
+    l.initial.head →
     Visiting l.f l.g l.d entry l.end l.order l.seen l.last l.head
 
 abbrev pub decreases-loop-head : goal.decreases-loop-head

@@ -35,7 +35,11 @@ pub overflow_mul-result-2 : goal.overflow_mul-result-2
 overflow_mul-result-2 c = fits w64 tt (along (goal.at.overflow_mul-result-2 c).Start)
 
 pub overflow_add-result : goal.overflow_add-result
-overflow_add-result c = fits w64 tt (add (back w64 tt (across (goal.at.overflow_add-result c).Start)) (back w64 tt (along (goal.at.overflow_add-result c).Start)))
+overflow_add-result c =
+    fits w64 tt (add (back w64 tt (across (goal.at.overflow_add-result c).Start))
+    (back w64 tt (along (goal.at.overflow_add-result c).Start)))
 
 pub returns : goal.returns
-returns c = (back w64 tt (add (back w64 tt (across (goal.at.returns c).Start)) (back w64 tt (along (goal.at.returns c).Start)))).is
+returns c =
+    (back w64 tt (add (back w64 tt (across (goal.at.returns c).Start))
+    (back w64 tt (along (goal.at.returns c).Start)))).is

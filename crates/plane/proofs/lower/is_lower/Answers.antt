@@ -30,7 +30,8 @@ returns-then-p-q c = let s = c.args in
 
 pub returns-else-p-q : goal.returns-else-p-q
 returns-else-p-q c = let s = c.args in
-    let apart = sym (heights (goal.at.returns-else-p-q c).After-struct_told-2-1) ∙ ne_eqb (of_z w64 s.p.y) (of_z w64 s.q.y) c.if-p-q.false in
+    let apart = sym (heights (goal.at.returns-else-p-q c).After-struct_told-2-1)
+    ∙ ne_eqb (of_z w64 s.p.y) (of_z w64 s.q.y) c.if-p-q.false in
     ap₂ lt_z (to_z-of_z w64 s.p.y (record { sfits = c.struct_told-else-p-q-1.given.1.0.1 }))
     (to_z-of_z w64 s.q.y (record { sfits = c.struct_told-else-p-q-2-1.given.1.0.1 }))
     ∙ sym (lower_height s.p s.q apart)

@@ -7,4 +7,5 @@ pub slice_bounds-tell-end-in-Length : goal.slice_bounds-tell-end-in-Length
 slice_bounds-tell-end-in-Length g c = written_within c.list_corners-written.ensures c.in-Length.is
 
 pub slice_bounds-tell-end-in-Length-2 : goal.slice_bounds-tell-end-in-Length-2
-slice_bounds-tell-end-in-Length-2 g c = first_part _ _ (written_within c.list_corners-written.ensures c.in-Length.is)
+slice_bounds-tell-end-in-Length-2 g c =
+    first_part _ _ (written_within c.list_corners-written.ensures c.in-Length.is)

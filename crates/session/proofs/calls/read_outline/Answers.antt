@@ -7,4 +7,5 @@ pub slice_bounds-tell_numbers-end : goal.slice_bounds-tell_numbers-end
 slice_bounds-tell_numbers-end g c = written_within c.read_outline-written.ensures c.in-Length.is
 
 pub slice_bounds-tell_numbers-end-in-Length : goal.slice_bounds-tell_numbers-end-in-Length
-slice_bounds-tell_numbers-end-in-Length g c = first_part _ _ (written_within c.read_outline-written.ensures c.in-Length.is)
+slice_bounds-tell_numbers-end-in-Length g c =
+    first_part _ _ (written_within c.read_outline-written.ensures c.in-Length.is)

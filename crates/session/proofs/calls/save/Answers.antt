@@ -7,4 +7,5 @@ pub slice_bounds-tell_bytes-end : goal.slice_bounds-tell_bytes-end
 slice_bounds-tell_bytes-end g c = written_within c.save-written.ensures c.in-Length.is
 
 pub slice_bounds-tell_bytes-end-in-Length : goal.slice_bounds-tell_bytes-end-in-Length
-slice_bounds-tell_bytes-end-in-Length g c = first_part _ _ (written_within c.save-written.ensures c.in-Length.is)
+slice_bounds-tell_bytes-end-in-Length g c =
+    first_part _ _ (written_within c.save-written.ensures c.in-Length.is)

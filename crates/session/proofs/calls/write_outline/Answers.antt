@@ -7,4 +7,5 @@ pub slice_bounds-say-end-in-Length-2 : goal.slice_bounds-say-end-in-Length-2
 slice_bounds-say-end-in-Length-2 g c = written_within c.write_outline-written.ensures c.in-Length.is
 
 pub slice_bounds-say-end-in-Length-3 : goal.slice_bounds-say-end-in-Length-3
-slice_bounds-say-end-in-Length-3 g c = first_part _ _ (written_within c.write_outline-written.ensures c.in-Length.is)
+slice_bounds-say-end-in-Length-3 g c =
+    first_part _ _ (written_within c.write_outline-written.ensures c.in-Length.is)

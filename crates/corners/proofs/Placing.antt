@@ -26,7 +26,7 @@ use Rattle.finite.specs.Cycles.{Chain, Cycle}
 use Rattle.model.specs.declared.Point.{Point}
 use Rattle.model.specs.declared.Map.{Map}
 use Rattle.model.specs.declared.Placed.{Placed}
-use Rattle.model.specs.Plane.{at, orientation, left_of, in_line, strictly_between}
+use Rattle.model.specs.Plane.{orientation, left_of, in_line, strictly_between}
 use Rattle.model.specs.Maps.{point}
 use Rattle.model.specs.Outline.{next_corner, outline, corners}
 use Rattle.model.specs.Shape.{Shaped}
@@ -35,7 +35,7 @@ use Rattle.model.proofs.Shape.{same_point_eq, same_point_by}
 use Rattle.plane.specs.Between.{opposite}
 use Rattle.plane.proofs.Orientation.{orientation_cyclic, orientation_swap, orientation_twice, left_positive, in_line_zero}
 use Rattle.plane.proofs.Aligned.{left_of_all}
-use Rattle.maps.proofs.Circuits.{Circuit, Edge, edge_next}
+use Rattle.maps.proofs.Circuits.{Circuit, edge_next}
 use Rattle.maps.proofs.Outline.{outline_circuit, outline_long}
 use Rattle.sight.proofs.Beyond.{sound_convex}
 use Rattle.corners.proofs.Corners.{corners_rotated, corners_members}

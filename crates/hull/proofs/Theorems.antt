@@ -22,7 +22,6 @@ use Rattle.model.specs.Maps.{point}
 use Rattle.model.specs.Outline.{next_corner, previous_corner, outline, sees, visible_edges}
 use Rattle.model.specs.Shape.{Shaped}
 use Rattle.model.specs.Arrival.{turning_left, turning_right, is_beyond, farther, left_corner, right_corner, arrive}
-use Rattle.model.specs.Offers.{offer}
 use Rattle.plane.proofs.Betweenness.{between_of, seen_not_beside}
 use Rattle.plane.proofs.Convex.{next_member, prev_next, turns_left}
 use Rattle.plane.proofs.Corners.{LeftCorner, RightCorner, left_corner_unique, right_corner_unique}

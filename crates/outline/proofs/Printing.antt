@@ -16,7 +16,7 @@ use Rattle.reports.proofs.Wholes.{piece_whole, piece_last, piece_further, pieces
 use Rattle.outline.specs.declared.Printed.{Printed}
 use Rattle.outline.specs.Printing.{PrintsLines, PrintsReport}
 
--- as many bytes as the kit's large buffer has
+-- as many bytes as the buffer of `print_lines` has
 abbrev pub buffer_length : ℕ
 buffer_length = 65_536
 

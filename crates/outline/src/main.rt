@@ -7,8 +7,8 @@
 // reach the system no contract can say, and `main` can have none: that the pieces are written is
 // tested, by the session beside this folder and by the comparison of tests/.
 //
-// The language has no exit status, so it is 0 also where the system failed: an empty report or part
-// of one, with a message on standard error, is a failure. Arguments are ignored.
+// The exit status is 0 also where the system failed: an empty report or part of one, with a message on
+// standard error, is a failure. Arguments are ignored.
 #![tactic(auto)]
 
 ghost use Rattle.std.specs.Prelude.{◌≡◌, ◌+◌, ◌≤◌, length};
@@ -17,8 +17,8 @@ ghost use Rattle.reports.specs.Summaries.{Fits};
 ghost use Rattle.outline.specs.Reading.{ReadMore, ReadText};
 ghost use Rattle.outline.specs.Printing.{PrintsLines, PrintsReport};
 
-use libc::{STDERR_FILENO, STDIN_FILENO, STDOUT_FILENO};
 use reports::{Summary, decide, no_answers, write_lines};
+use std::io::Read;
 use survey::lines::TEXT_LIMIT;
 
 // One byte more than a text may have: who has read so many knows that the text is too long.
@@ -39,20 +39,18 @@ struct Printed {
     failed: bool,
 }
 
-fn main() {
+fn main(rt: HostRuntime) {
     let mut text = empty_text();
-    let input = read_text(&mut text);
+    let mut stdin = rt.stdin();
+    let input = read_text(&mut stdin, &mut text);
     if input.failed {
-        io::write_all(STDERR_FILENO, b"outline: standard input cannot be read\n");
+        let _ = rt.eprintln("outline: standard input cannot be read");
         return;
     }
     let length = input.length;
-    let printed = print_report(&text[..length]);
+    let printed = print_report(&rt, &text[..length]);
     if printed.failed {
-        io::write_all(
-            STDERR_FILENO,
-            b"outline: standard output cannot be written\n",
-        );
+        let _ = rt.eprintln("outline: standard output cannot be written");
     }
 }
 
@@ -63,12 +61,12 @@ fn empty_text() -> [u8; READ_LIMIT]
 }
 
 // Reads standard input until it ends or the list is full.
-fn read_text(text: &mut [u8]) -> Input
+fn read_text(stdin: &mut impl Read, text: &mut [u8]) -> Input
     ensures { ReadText text.old text.new result }
 {
     let mut filled = 0;
     while filled < text.len() {
-        let read = read_more(text, filled);
+        let read = read_more(stdin, text, filled);
         if read.failed {
             return read;
         }
@@ -85,41 +83,40 @@ fn read_text(text: &mut [u8]) -> Input
 }
 
 // One read into the rest of the list: what was read before it is kept.
-fn read_more(text: &mut [u8], filled: usize) -> Input
+fn read_more(stdin: &mut impl Read, text: &mut [u8], filled: usize) -> Input
     requires { filled ≤ length text.old }
     ensures { ReadMore text.old filled text.new result }
 {
-    let got = libc::read(STDIN_FILENO, &mut text[filled..]);
-    if got < 0 {
-        return Input {
+    let got = stdin.read(&mut text[filled..]);
+    match got {
+        Ok(more) => Input {
+            length: filled + more,
+            ended: more == 0,
+            failed: false,
+        },
+        Err(_) => Input {
             length: filled,
             ended: false,
             failed: true,
-        };
-    }
-    let more = io::count(got, &text[filled..]);
-    Input {
-        length: filled + more,
-        ended: more == 0,
-        failed: false,
+        },
     }
 }
 
 // Prints the report on a text.
-fn print_report(text: &[u8]) -> Printed
+fn print_report(rt: &impl Print, text: &[u8]) -> Printed
     ensures { PrintsReport text.now result }
 {
     let mut answers = no_answers();
     let decided = decide(text, &mut answers);
-    print_lines(&answers, decided)
+    print_lines(rt, &answers, decided)
 }
 
 // Prints what was decided piece by piece, each of whole lines.
-fn print_lines(answers: &[u32], decided: Summary) -> Printed
+fn print_lines(rt: &impl Print, answers: &[u32], decided: Summary) -> Printed
     requires { Fits decided }
     ensures { PrintsLines answers.now decided result }
 {
-    let mut buffer = io::large_buffer();
+    let mut buffer = empty_buffer();
     let mut from = 0;
     loop {
         let piece = write_lines(answers, decided, from, &mut buffer);
@@ -130,7 +127,7 @@ fn print_lines(answers: &[u32], decided: Summary) -> Printed
                 failed: false,
             };
         }
-        if !io::write_all(STDOUT_FILENO, &buffer[..length]) {
+        if rt.write_all(&buffer[..length]).is_err() {
             return Printed {
                 next: from,
                 failed: true,
@@ -138,4 +135,11 @@ fn print_lines(answers: &[u32], decided: Summary) -> Printed
         }
         from = piece.next;
     }
+}
+
+// Long enough that a report of some length takes few writes.
+fn empty_buffer() -> [u8; 65536]
+    ensures { 65536 ≡ length result }
+{
+    [0u8; 65536]
 }

@@ -203,7 +203,7 @@ fn areas(rt: &impl Print, map: Map) -> io::Result<()> {
     calls::area(rt, map, 3)?;
     calls::area(rt, map, 4)?;
     calls::area(rt, engine::empty_map(), 9)?;
-    calls::area(rt, whole_range(rt), 3)
+    calls::area(rt, whole_range(rt)?, 3)
 }
 
 // The corners of the range.

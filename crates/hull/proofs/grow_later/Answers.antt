@@ -5,74 +5,69 @@ use Rattle.model.specs.declared.Point.{Point}
 use Rattle.model.specs.declared.Map.{Map}
 use Rattle.model.specs.declared.Arrival.{Arrival}
 use Rattle.model.specs.declared.Offered.{Offered}
-use Rattle.model.specs.Maps.{own, edge_link, map_of}
-use Rattle.model.specs.Arrival.{inside_kind, arrived, alone, spliced}
+use Rattle.model.specs.Maps.{own, edge_link}
+use Rattle.model.specs.Arrival.{arrived, alone, spliced}
 use Rattle.model.specs.Shape.{Fitting}
-use Rattle.maps.proofs.Points.{freeing_none_fits, freeing_fits}
-use Rattle.sight.specs.declared.Seen.{Seen}
+use Rattle.maps.proofs.Points.{freeing_fits}
 use Rattle.linking.specs.Requires.{Spliceable}
+use Rattle.sight.specs.declared.Seen.{Seen}
+use Rattle.sight.specs.Requires.{Accepted}
 use Rattle.sight.specs.Sight.{seen}
 use Rattle.sight.proofs.Indices.{spliceable}
 use Rattle.sight.proofs.Seeing.{seen_by_arrays}
 use Rattle.hull.proofs.Cases.{inside, outside, grown}
-use borrow.Author.Rules.{rules}
 use Rattle.hull.proofs.grow_later.Goals as goal
-use Rattle.hull.proofs.grow_later.Goals.{After-put_point, After-seen_from-seen, Start}
+use Rattle.hull.proofs.grow_later.Goals.{After-put_point, After-seen_from-seen}
 
 -- the map whose arrays are lent
-abbrev lent : Start → Map
-lent s =
-    map_of s.args.xs.now s.args.ys.now s.args.helpers.now s.args.edge.now s.args.arrivals.now s.args.lefts.now
-    s.args.rights.now s.args.count s.args.reference
+abbrev lent : {m : Map} {p : Point} → Accepted m p → Map
+lent {m} a = m
 
 pub seen_from-seen-requires : goal.seen_from-seen-requires
-seen_from-seen-requires c = record { rest = lent (goal.at.seen_from-seen-requires c).Start; outline = record { accepted = c.requires.accepted; two = c.requires.le_count } }
+seen_from-seen-requires c =
+    let a = c.requires.accepted in
+    record { rest = lent a; outline = record { accepted = a; two = c.requires.le_count } }
 
 -- what is seen of the map
-seen_is : (c : After-seen_from-seen) →
-    let m = lent c.before.before.before.before.before.before.before in
-    let p = c.args.p in
-    c.seen_from-seen.result ≡ seen m p
-seen_is c = c.seen_from-seen.ensures ∙ sym (seen_by_arrays (lent c.before.before.before.before.before.before.before) c.args.p)
+seen_is : (c : After-seen_from-seen) → c.seen_from-seen.result ≡ seen (lent c.requires.accepted) c.args.p
+seen_is c = c.seen_from-seen.ensures ∙ sym (seen_by_arrays (lent c.requires.accepted) c.args.p)
 
 pub returns-then-visible-eq0 : goal.returns-then-visible-eq0
 unfolding alone
-returns-then-visible-eq0 c = let m = lent (goal.at.returns-then-visible-eq0 c).Start in
+returns-then-visible-eq0 c =
+    let m = lent c.requires.accepted in
     let p = c.args.p in
+    let d = (goal.at.returns-then-visible-eq0 c).After-seen_from-seen in
+    let none : c.seen_from-seen.result.visible ≡ 0 = omega arith in
     ap (arrived Arrival.Inside)
-    (grown m p m.reference c.put_point.ensures c.freeing_none.ensures c.put_note.ensures
-    (refl, refl))
-    ∙ inside m p (sym (ap (λ (t : Seen). t.visible) (seen_is (goal.at.returns-then-visible-eq0 c).After-seen_from-seen)) ∙ c.if-visible-eq0.true)
+    (grown m p m.reference c.put_point.ensures c.freeing_none.ensures c.put_note.ensures (refl, refl))
+    ∙ inside m p (sym (ap (λ (t : Seen). t.visible) (seen_is d)) ∙ none)
 
 -- where the point is put between two corners
 between : (c : After-put_point) →
-    let t = c.seen_from-seen.result in
-    Spliceable c.args.edge.now c.args.count t.left t.right
+    let t = c.seen_from-seen.result in Spliceable c.args.edge.now c.args.count t.left t.right
 between c =
-    subst (λ (t : Seen). Spliceable c.args.edge.now c.args.count t.left t.right) (sym (seen_is c.before.before.before))
-    (spliceable c.requires.accepted c.requires.le_count)
+    subst (λ (t : Seen). Spliceable c.args.edge.now c.args.count t.left t.right)
+    (sym (seen_is c.before.before.before)) (spliceable c.requires.accepted c.requires.le_count)
 
 pub freeing-requires : goal.freeing-requires
-freeing-requires c = let b = between (goal.at.freeing-requires c).After-put_point in
+freeing-requires c =
+    let b = between (goal.at.freeing-requires c).After-put_point in
     (b.left_below, b.right_below)
 
 pub splice-requires : goal.splice-requires
 splice-requires c = between (goal.at.splice-requires c).After-put_point
 
 -- what is noted fits
-pub put_note-requires : goal.put_note-requires
-put_note-requires c = (
-      c.requires.accepted.room,
-      subst Fitting (sym c.freeing_none.ensures) (freeing_none_fits inside_kind (omega arith)),
-    )
-
 pub put_note-requires-2 : goal.put_note-requires-2
 unfolding edge_link
-put_note-requires-2 c = let b = between (goal.at.put_note-requires-2 c).After-put_point in
+put_note-requires-2 c =
+    let a = c.requires.accepted in
+    let b = between (goal.at.put_note-requires-2 c).After-put_point in
     let t = c.seen_from-seen.result in (
-      c.requires.accepted.room,
+      a.room,
       subst Fitting (sym c.freeing.ensures)
-          (freeing_fits c.requires.accepted.is_sound t.left t.right b.left_below b.right_below),
+          (freeing_fits a.is_sound t.left t.right b.left_below b.right_below),
     )
 
 -- an outside arrival, from what is seen
@@ -81,16 +76,12 @@ outcome m p t = arrived (Arrival.Outside t.left t.right t.visible) (spliced m p 
 
 pub returns : goal.returns
 unfolding spliced edge_link
-returns c = let m = lent (goal.at.returns c).Start in
+returns c =
+    let m = lent c.requires.accepted in
     let p = c.args.p in
     let t = c.seen_from-seen.result in
+    let d = (goal.at.returns c).After-seen_from-seen in
     ap (arrived (Arrival.Outside t.left t.right t.visible))
-    (grown m p (own m.count) c.put_point.ensures c.freeing.ensures c.put_note-2.ensures
-    c.splice.ensures)
-    ∙ ap (outcome m p) (seen_is (goal.at.returns c).After-seen_from-seen)
-    ∙ outside m p (λ z. c.if-visible-eq0.false (ap (λ (u : Seen). u.visible) (seen_is (goal.at.returns c).After-seen_from-seen) ∙ z))
-
--- the new reference
-pub overflow_mul-own : goal.overflow_mul-own
-overflow_mul-own c = let room = c.requires.accepted.room in
-    search rules
+    (grown m p (own m.count) c.put_point.ensures c.freeing.ensures c.put_note-2.ensures c.splice.ensures)
+    ∙ ap (outcome m p) (seen_is d)
+    ∙ outside m p (λ z. absurd (omega (arith, ap (λ (u : Seen). u.visible) (seen_is d), z)))

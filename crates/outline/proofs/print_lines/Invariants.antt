@@ -6,7 +6,7 @@ use Rattle.outline.proofs.Printing.{Printing}
 use Rattle.outline.proofs.print_lines.Given as goal
 
 abbrev pub invariant-loop-decided : goal.invariant-loop-decided
-invariant-loop-decided l = Printing l.answers l.decided l.buffer l.from
+invariant-loop-decided g l = Printing l.answers l.decided l.buffer l.from
 
 abbrev pub decreases-loop-decided : goal.decreases-loop-decided
-decreases-loop-decided l = line_count l.decided.ends - l.from
+decreases-loop-decided g l = line_count l.decided.ends - l.from

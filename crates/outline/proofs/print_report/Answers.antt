@@ -3,4 +3,4 @@ use Rattle.outline.proofs.Printing.{report_printed}
 use Rattle.outline.proofs.print_report.Goals as goal
 
 pub returns : goal.returns
-returns c = report_printed c.decide-decided.ensures c.print_lines.ensures
+returns g c = report_printed c.decide-decided.ensures c.print_lines.ensures

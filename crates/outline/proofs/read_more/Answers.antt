@@ -3,10 +3,10 @@ use native.Mathlib.Omega.{arith}
 use Rattle.outline.proofs.Reading.{read_failed, read_some}
 use Rattle.outline.proofs.read_more.Goals as goal
 
-pub returns-then-got-lt0 : goal.returns-then-got-lt0
-returns-then-got-lt0 c = read_failed c.read-got.new.buf c.requires (omega arith)
+pub returns-in-Ok : goal.returns-in-Ok
+returns-in-Ok g c =
+    read_some c.read-got.new.buf c.requires (omega arith) c.in-Ok.more
+    (omega (arith, c.in-Ok.ensures.bound.0))
 
-pub returns : goal.returns
-returns c =
-    read_some c.read-got.new.buf c.requires (omega arith) c.count-more.result
-    (omega (arith, c.count-more.ensures.in_bounds))
+pub returns-in-Err : goal.returns-in-Err
+returns-in-Err g c = read_failed c.read-got.new.buf c.requires (omega arith)

@@ -7,23 +7,23 @@ use Rattle.outline.proofs.Reading.{none_read, one_read, read_ends, all_read}
 use Rattle.outline.proofs.read_text.Goals as goal
 
 pub loop-filled-init : goal.loop-filled-init
-loop-filled-init c = none_read _
+loop-filled-init g c = none_read _
 
 pub read_more-read-requires : goal.read_more-read-requires
-read_more-read-requires c = omega (arith, c.loop-filled-test.true)
+read_more-read-requires g c = omega (arith, c.loop-filled-test.true)
 
 pub returns-then-read : goal.returns-then-read
-returns-then-read c =
+returns-then-read g c =
     read_ends c.loop-filled.invariant c.read_more-read.ensures
     (λ e h. let z : ◌≡◌ {A = ℕ} 0 1 = cc c.if-read.true in omega arith)
 
 pub returns-then-read-2 : goal.returns-then-read-2
-returns-then-read-2 c =
+returns-then-read-2 g c =
     read_ends c.loop-filled.invariant c.read_more-read.ensures
     (λ e h. let z : ◌≡◌ {A = ℕ} 0 1 = cc c.if-read-2.true in omega arith)
 
 pub loop-filled-smaller : goal.loop-filled-smaller
-loop-filled-smaller c =
+loop-filled-smaller g c =
     let r = c.read_more-read.ensures in
     omega (
       arith,
@@ -32,7 +32,7 @@ loop-filled-smaller c =
     )
 
 pub loop-filled-preserved : goal.loop-filled-preserved
-loop-filled-preserved c = one_read c.loop-filled.invariant c.read_more-read.ensures
+loop-filled-preserved g c = one_read c.loop-filled.invariant c.read_more-read.ensures
 
 pub returns : goal.returns
-returns c = all_read c.loop-filled.invariant c.loop-filled-test.false
+returns g c = all_read c.loop-filled.invariant c.loop-filled-test.false

@@ -19,6 +19,6 @@ unfolding counted_answer
 returns-in-Served c = let o = loads c.load-loaded.ensures in
     let e = c.in-Served.is in
     opened_served counts_reply o e
-    (ap (λ (n : Counts). c.darts ∷ c.vertices ∷ c.edges ∷ c.faces ∷ c.parts ∷ [])
+    (ap (λ (n : Counts). n.darts ∷ n.vertices ∷ n.edges ∷ n.faces ∷ n.parts ∷ [])
     c.counts_of-n.ensures)
     c.write_values.ensures

@@ -21,11 +21,12 @@ returns-then-out-length c = short_list _ _ (omega
 pub write_map-requires : goal.write_map-requires
 unfolding empty_map
 write_map-requires c = let e = c.empty_map.ensures in
-    (
-      subst Shaped (sym e) empty_sound,
-      subst (λ (m : Map). saved_length version m.count ≤ length c.args.out.now) (sym e)
-          (omega (arith, c.saved_length-length.ensures, c.if-out-length.false)),
-    )
+    record {
+      shaped = subst Shaped (sym e) empty_sound;
+      count_in_bounds =
+          subst (λ (m : Map). saved_length version m.count ≤ length c.args.out.now) (sym e)
+          (omega (arith, c.saved_length-length.ensures, c.if-out-length.false));
+    }
 
 pub returns : goal.returns
 unfolding empty_map

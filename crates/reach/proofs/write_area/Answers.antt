@@ -1,9 +1,10 @@
 -- `reach::write_area` meets its contract: the answer of the call, as a number and a value.
-use mathlib.Core.Path.{refl, sym, ap, ◌∙◌}
+use mathlib.Core.Path.{◌≡◌, refl, sym, ap, ◌∙◌}
 use mathlib.Core.List.{[], ◌∷◌}
 use lib.IntN.{ℤ}
 use mir.Syntax.{w64}
-use mir.ValLaws.{to_z-of_z}
+use mir.Val.{to_z, of_z}
+use borrow.Author.Rules.{rules}
 use Rattle.model.specs.declared.Doubled.{Doubled}
 use Rattle.model.specs.declared.Outcome.{Outcome}
 use Rattle.model.specs.Answers.{doubled_answer}
@@ -24,12 +25,13 @@ returns-in-Refused c = let s = c.args in
 
 pub returns-in-Value : goal.returns-in-Value
 unfolding doubled_answer
-returns-in-Value c = let z = c.in-Value.z in
+returns-in-Value c =
+    let bits : to_z w64 (of_z w64 c.in-Value.z) ≡ c.in-Value.z = search rules in
     let s = c.args in
     let is = c.in-Value.is in
     answer_written values_of (sound_area_call s.map s.place) doubled_outcome (λ r. refl) refl _
     c.area_of-doubled.ensures (ap doubled_outcome is)
     (served_as
-    (ap (λ (i : ℤ). i ∷ []) (to_z-of_z w64 z (record { sfits = c.known_told-in-Value-1.given.0.1 }))
+    (ap (λ (i : ℤ). i ∷ []) bits
     ∙ sym (ap (λ (o : Doubled). (doubled_answer o).values) is))
     c.write_number.ensures)

@@ -1,6 +1,6 @@
--- `soundness::agree` meets its contract: each test that fails is one of the definition's, and with all others passed
--- the last decides.
-use mathlib.Core.Path.{◌≡◌, sym, subst, ◌∙◌}
+-- `soundness::agree` meets its contract: each test that fails is one of the definition's, and with all others
+-- passed the last decides.
+use mathlib.Core.Path.{◌≡◌, sym, ap, subst, ◌∙◌}
 use mathlib.Core.Bool.{Bool, true, false, not}
 use lib.Dec.{T, eqb→eq}
 use Rattle.finite.specs.Tests.{of_true, is_false, equal_by, same_test}
@@ -8,8 +8,6 @@ use Rattle.finite.specs.Loops.{passes, fails}
 use Rattle.model.specs.declared.Map.{Map}
 use Rattle.model.specs.Sound.{agree}
 use Rattle.model.proofs.Sound.{Agrees, agrees, agrees_by}
-use mathlib.Core.Path.{ap}
-use mathlib.Core.Bool.{not}
 use Rattle.soundness.proofs.agree.Goals as goal
 
 -- the code found r for a test that agreeing maps pass
@@ -23,25 +21,32 @@ pub returns-then-m-n-2 : goal.returns-then-m-n-2
 returns-then-m-n-2 c = sym (is_false _ (λ t. c.if-m-n-2.true (eqb→eq _ _ (agrees _ _ t).references)))
 
 pub returns-then-not-same_coordinates : goal.returns-then-not-same_coordinates
-returns-then-not-same_coordinates c = refuted _ _ c.same_coordinates.ensures (ap not c.if-not-same_coordinates.true) (λ a. a.xs)
+returns-then-not-same_coordinates c =
+    refuted _ _ c.same_coordinates.ensures (ap not c.if-not-same_coordinates.true) (λ a. a.xs)
 
 pub returns-then-not-same_coordinates-2 : goal.returns-then-not-same_coordinates-2
-returns-then-not-same_coordinates-2 c = refuted _ _ c.same_coordinates-2.ensures (ap not c.if-not-same_coordinates-2.true) (λ a. a.ys)
+returns-then-not-same_coordinates-2 c =
+    refuted _ _ c.same_coordinates-2.ensures (ap not c.if-not-same_coordinates-2.true) (λ a. a.ys)
 
 pub returns-then-not-same_tests : goal.returns-then-not-same_tests
-returns-then-not-same_tests c = refuted _ _ c.same_tests.ensures (ap not c.if-not-same_tests.true) (λ a. a.helpers)
+returns-then-not-same_tests c =
+    refuted _ _ c.same_tests.ensures (ap not c.if-not-same_tests.true) (λ a. a.helpers)
 
 pub returns-then-not-same_numbers : goal.returns-then-not-same_numbers
-returns-then-not-same_numbers c = refuted _ _ c.same_numbers.ensures (ap not c.if-not-same_numbers.true) (λ a. a.edges)
+returns-then-not-same_numbers c =
+    refuted _ _ c.same_numbers.ensures (ap not c.if-not-same_numbers.true) (λ a. a.edges)
 
 pub returns-then-not-same_bytes : goal.returns-then-not-same_bytes
-returns-then-not-same_bytes c = refuted _ _ c.same_bytes.ensures (ap not c.if-not-same_bytes.true) (λ a. a.arrivals)
+returns-then-not-same_bytes c =
+    refuted _ _ c.same_bytes.ensures (ap not c.if-not-same_bytes.true) (λ a. a.arrivals)
 
 pub returns-then-not-same_words : goal.returns-then-not-same_words
-returns-then-not-same_words c = refuted _ _ c.same_words.ensures (ap not c.if-not-same_words.true) (λ a. a.lefts)
+returns-then-not-same_words c =
+    refuted _ _ c.same_words.ensures (ap not c.if-not-same_words.true) (λ a. a.lefts)
 
 pub returns : goal.returns
-returns c = c.same_words-2.ensures
+returns c =
+    c.same_words-2.ensures
     ∙ same_test _ _
     (λ t.
     agrees_by _ _

@@ -1,5 +1,5 @@
--- `admission::hashes::admission_hashed` meets its contract: a point in range whose hash is not set is refused by
--- no rule but the first.
+-- `admission::hashes::admission_hashed` meets its contract: a point in range whose hash is not set is refused
+-- by no rule but the first.
 use mathlib.Core.Path.{sym, ap, ◌∙◌}
 use mathlib.Core.Bool.{not}
 use borrow.Author.Tests.{le-leb, lt-leb, not-true}

@@ -1,25 +1,24 @@
-use Prim.Native.Nat.{◌-◌}
+-- `corners::listing::lowest_corner` meets its contract: an iteration compares one corner of the
+-- outline with the lowest so far.
 use native.Mathlib.Nat.{sub-zero}
 use native.Mathlib.Omega.{arith}
-use Rattle.corners.proofs.CornerLoops.{Seeking, seeking_first, seeking_last, seeking_more, seeking_end}
+use Rattle.corners.proofs.CornerLoops.{seeking_first, seeking_last, seeking_more, seeking_end}
 use Rattle.corners.proofs.listing.lowest_corner.Goals as goal
-use Rattle.corners.proofs.listing.lowest_corner.Goals.{After-next_corner-a}
 
 pub loop-init : goal.loop-init
 loop-init c = seeking_first _ _ _ _ _ (sub-zero _)
 
-pub loop-smaller : goal.loop-smaller
-loop-smaller c = omega (arith, c.loop-test.true)
-
 pub loop-preserved : goal.loop-preserved
-loop-preserved c = seeking_more _ _ _ _ _ c.loop.invariant (omega (arith, c.loop-test.true)) c.lower_of-lowest.ensures
+loop-preserved c =
+    seeking_more _ _ _ _ _ c.loop.invariant (omega (arith, c.loop-test.true)) c.lower_of-lowest.ensures
     c.next_corner-a.ensures (omega arith) c.if-a-start.false
 
 pub returns-after-loop : goal.returns-after-loop
 returns-after-loop c = seeking_end _ _ _ _ _ c.loop.invariant (omega (arith, c.loop-test.false))
 
 pub returns-then-a-start : goal.returns-then-a-start
-returns-then-a-start c = seeking_end _ _ _ _ _
+returns-then-a-start c =
+    seeking_end _ _ _ _ _
     (seeking_last _ _ _ _ _ c.loop.invariant (omega (arith, c.loop-test.true)) c.lower_of-lowest.ensures
     c.next_corner-a.ensures c.if-a-start.true)
     (omega arith)

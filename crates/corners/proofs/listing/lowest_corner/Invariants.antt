@@ -1,9 +1,6 @@
--- `corners::listing::lowest_corner` meets its contract: an iteration compares one corner of the
--- outline with the lowest so far.
+-- The loop of `corners::listing::lowest_corner`: the lowest corner so far is compared with those ahead.
 use Prim.Native.Nat.{◌-◌}
-use native.Mathlib.Nat.{sub-zero}
-use native.Mathlib.Omega.{arith}
-use Rattle.corners.proofs.CornerLoops.{Seeking, seeking_first, seeking_last, seeking_more, seeking_end}
+use Rattle.corners.proofs.CornerLoops.{Seeking}
 use Rattle.corners.proofs.listing.lowest_corner.Given as goal
 
 abbrev pub invariant-loop : goal.invariant-loop

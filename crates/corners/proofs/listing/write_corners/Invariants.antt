@@ -1,8 +1,6 @@
--- `corners::listing::write_corners` meets its contract: a step writes one corner.
-use mathlib.Core.Path.{◌≡◌, ◌∙◌}
-use Prim.Native.Nat.{◌-◌, ◌≤◌}
-use native.Mathlib.Omega.{arith}
-use Rattle.finite.specs.Overwriting.{over_front, Copied, none_copied, one_copied, so_many_copied}
+-- The loop of `corners::listing::write_corners`: so many corners are written.
+use Prim.Native.Nat.{◌≤◌}
+use Rattle.finite.specs.Overwriting.{Copied}
 use Rattle.corners.proofs.listing.write_corners.Given as goal
 
 abbrev pub invariant-loop-i : goal.invariant-loop-i

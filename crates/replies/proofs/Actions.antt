@@ -8,7 +8,6 @@ use mathlib.Core.Logic.{◌≢◌}
 use mathlib.Core.Bool.{Bool, not, ◌||◌}
 use mathlib.Core.List.{List, [], ◌∷◌, ◌++◌, map, map-append}
 use Prim.Native.Nat.{ℕ, zero, suc, ◌-◌}
-use native.Mathlib.Omega.{arith}
 use lib.Dec.{T}
 use lib.ListN.{length, length-map, drop, take}
 use lib.Seq.{take-append_seam}
@@ -18,7 +17,7 @@ use Rattle.model.specs.declared.Point.{Point}
 use Rattle.model.specs.declared.Map.{Map}
 use Rattle.model.specs.declared.Offered.{Offered}
 use Rattle.model.specs.declared.Removed.{Removed}
-use Rattle.model.specs.Refusals.{number, Rule, ◌when◌, unless, NoneApplies, nor}
+use Rattle.model.specs.Refusals.{Rule, ◌when◌, unless, NoneApplies, nor}
 use Rattle.model.specs.Sound.{sound}
 use Rattle.model.specs.Arrival.{arrive, refusing}
 use Rattle.model.specs.Offers.{offer_rules, offer_call, offer}
@@ -27,8 +26,8 @@ use Rattle.model.specs.History.{Run, extended, Action, offering, taking_back, ta
 use Rattle.model.specs.Lent.{and_short, is_short, lent_after}
 use Rattle.model.specs.Saved.{map_in, saved, file_in_form, loaded}
 use Rattle.model.proofs.Sound.{sound_is}
-use Rattle.model.proofs.Answers.{RulesDecide, refuses, serves, unless_decides, unless_none}
-use Rattle.model.proofs.Answers.{unless_refuses, none_both, refuses_some, rule_passes, unless_made}
+use Rattle.model.proofs.Answers.{unless_none}
+use Rattle.model.proofs.Answers.{none_both, refuses_some, rule_passes, unless_made}
 use Rattle.hull.proofs.Sound.{sound_shaped}
 use Rattle.hull.proofs.History.{offer_either}
 use Rattle.hull.proofs.Actions.{taken_either, performed_more, performed_sound}

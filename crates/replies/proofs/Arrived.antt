@@ -2,7 +2,6 @@
 -- that the code tests; an arrival is served; the outcome is that of the rules.
 use mathlib.Core.Path.{◌≡◌, refl}
 use mathlib.Core.Bool.{Bool, true, false, cond}
-use mathlib.Core.List.{[], ◌∷◌}
 use Rattle.model.specs.declared.Refusal.{Refusal}
 use lib.Dec.{eqb}
 use Rattle.model.specs.declared.Point.{Point}

@@ -4,7 +4,6 @@ use Rattle.model.specs.declared.Counted.{Counted}
 use Rattle.model.specs.Answers.{counted_answer}
 use Rattle.model.proofs.Answers.{answered, rule_applies, rule_passes, no_rule}
 use Rattle.engine.proofs.Rules.{tested, found_sound}
-use mathlib.Core.Path.{ap}
 use mathlib.Core.Bool.{not}
 use Rattle.engine.proofs.counts.Goals as goal
 

@@ -7,7 +7,6 @@ use native.Mathlib.Omega.{arith}
 use Rattle.finite.specs.Overwriting.{over}
 use Rattle.engine.proofs.Rules.{tested, found_sound}
 use Rattle.engine.proofs.Entries.{rule_refused, short_refused, result_written}
-use mathlib.Core.Path.{ap}
 use mathlib.Core.Bool.{not}
 use Rattle.engine.proofs.list_corners.Goals as goal
 

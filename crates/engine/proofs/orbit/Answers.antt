@@ -1,5 +1,5 @@
 -- `engine::orbit` meets its contract: the map and the dart are checked, and then its orbit is read.
-use mathlib.Core.Path.{refl, sym, ap, ◌∙◌}
+use mathlib.Core.Path.{refl, ap}
 use Rattle.orbits.specs.declared.DartSet.{DartSet}
 use Rattle.model.specs.declared.Orbit.{Orbit}
 use Rattle.model.specs.declared.Outcome.{Outcome}

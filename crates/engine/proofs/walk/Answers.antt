@@ -1,5 +1,5 @@
 -- `engine::walk` meets its contract: the map and the dart are checked, and then walked from.
-use mathlib.Core.Path.{refl, sym, ap, ◌∙◌}
+use mathlib.Core.Path.{refl, ap}
 use Rattle.model.specs.declared.Walked.{Walked}
 use Rattle.model.specs.Answers.{walked_answer}
 use Rattle.engine.proofs.Rules.{checked_sound}

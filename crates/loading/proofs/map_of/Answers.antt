@@ -18,9 +18,9 @@ number_at-count-requires c = let f = (in_form_is c.args.file.now c.requires).1 i
 
 pub read-anew-requires : goal.read-anew-requires
 read-anew-requires c = record {
-      t = (c.requires, c.number_at-count.ensures.0);
-      no_dart_value = empty_arrays c.fixed_links-edge.ensures;
-    }
+  t = (c.requires, c.number_at-count.ensures.0);
+  no_dart_value = empty_arrays c.fixed_links-edge.ensures;
+}
 
 -- the refusal beside a map
 abbrev beside : Map → Loaded

@@ -17,7 +17,8 @@ use Rattle.model.specs.Maps.{point_at, empty_map, map_of}
 use Rattle.model.specs.Shape.{Shaped}
 use Rattle.model.specs.Building.{building_rules}
 use Rattle.model.specs.Sound.{sound}
-use Rattle.model.specs.Saved.{Bytes, count_in_file, coordinates_in_file, points_in_file, built_in_file, saved_in, saved_length, map_in}
+use Rattle.model.specs.Saved.{Bytes, count_in_file, coordinates_in_file, points_in_file, built_in_file}
+use Rattle.model.specs.Saved.{saved_in, saved_length, map_in}
 use Rattle.layout.proofs.Form.{Form, version_in_file, in_form_is}
 use Rattle.soundness.specs.Rebuilding.{Rebuilds}
 use Rattle.loading.proofs.Saving.{points_free, map_built, anew_shaped, writes_decides}
@@ -30,14 +31,22 @@ form s = (in_form_is s.args.file.now s.requires.t.0).1
 pub put_coordinates-requires : goal.put_coordinates-requires
 put_coordinates-requires c = let f = form (goal.at.put_coordinates-requires c).Start in
     record {
-      count_le_point_limit = (omega (arith, c.requires.t.1, f.few), omega (arith, c.requires.t.1, f.whole), omega arith);
+      count_le_point_limit = (
+        omega (arith, c.requires.t.1, f.few),
+        omega (arith, c.requires.t.1, f.whole),
+        omega arith,
+      );
       coordinates_value = refl;
     }
 
 pub put_coordinates-requires-2 : goal.put_coordinates-requires-2
 put_coordinates-requires-2 c = let f = form (goal.at.put_coordinates-requires-2 c).Start in
     record {
-      count_le_point_limit = (omega (arith, c.requires.t.1, f.few), omega (arith, c.requires.t.1, f.whole), omega arith);
+      count_le_point_limit = (
+        omega (arith, c.requires.t.1, f.few),
+        omega (arith, c.requires.t.1, f.whole),
+        omega arith,
+      );
       coordinates_value = refl;
     }
 
@@ -49,7 +58,6 @@ slice_bounds-rebuild-end-2 c = sym (ap length c.put_coordinates-2.ensures ∙ le
 
 -- the points of the file were offered anew
 module _ (c : After-rebuild-anew) where
-
   abbrev file : List ℕ
   file = c.args.file.now
 
@@ -91,12 +99,15 @@ returns-then-not-anew c =
     record {
       decided =
           stopped
-          ∙ sym (is_false (sound (map_in (file d))) (λ t. (anew d).some_refused stopped (points_free (file d) t)));
+          ∙ sym (is_false (sound (map_in (file d)))
+          (λ t. (anew d).some_refused stopped (points_free (file d) t)));
       map_is = λ e. absurd (let z : ◌≡◌ {A = ℕ} 0 1 = cc in omega arith);
     }
 
 pub number_at-version-requires : goal.number_at-version-requires
-number_at-version-requires c = let f = form (goal.at.number_at-version-requires c).Start in (omega (arith, f.whole), omega arith)
+number_at-version-requires c =
+    let f = form (goal.at.number_at-version-requires c).Start in
+    (omega (arith, f.whole), omega arith)
 
 pub writes-complete-requires : goal.writes-complete-requires
 writes-complete-requires c =

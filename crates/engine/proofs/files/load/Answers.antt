@@ -9,7 +9,6 @@ use Rattle.model.specs.Answers.{outcome_answer}
 use Rattle.model.specs.Saved.{load_call, file_in_form}
 use Rattle.model.proofs.Answers.{answered, rule_applies, rule_passes}
 use Rattle.engine.proofs.Rules.{tested}
-use mathlib.Core.Path.{ap}
 use mathlib.Core.Bool.{not}
 use Rattle.engine.proofs.files.load.Goals as goal
 
@@ -19,18 +18,19 @@ with_map outcome map = record { outcome = outcome; map = map }
 
 pub returns-then-not-is_in_form : goal.returns-then-not-is_in_form
 unfolding outcome_answer
-returns-then-not-is_in_form c = let s = c.args in
+returns-then-not-is_in_form c =
     answered _ (λ r. refl)
     (ap (with_map _) c.empty_map.ensures
     ∙ rule_applies _ _ _ _ (tested c.is_in_form.ensures (ap not c.if-not-is_in_form.true)))
 
 pub map_of-requires : goal.map_of-requires
-map_of-requires c = let s = c.args in
-    of_true (file_in_form s.file.now)
+map_of-requires c =
+    of_true (file_in_form c.args.file.now)
     (sym c.is_in_form.ensures ∙ not-false _ (ap not c.if-not-is_in_form.false))
 
 pub returns : goal.returns
 unfolding outcome_answer
 returns c = let call = load_call c.args.file.now in
     answered call (λ r. refl)
-    (rule_passes call.refuse _ _ call.value (tested c.is_in_form.ensures (ap not c.if-not-is_in_form.false)) c.map_of.ensures)
+    (rule_passes call.refuse _ _ call.value
+    (tested c.is_in_form.ensures (ap not c.if-not-is_in_form.false)) c.map_of.ensures)

@@ -25,9 +25,9 @@ returns-then-lent-length c = short_refused (tested c.is_sound.ensures (ap not c.
 
 pub write_map-requires : goal.write_map-requires
 write_map-requires c = record {
-      shaped = found_sound c.is_sound.ensures (ap not c.if-not-is_sound.false);
-      count_in_bounds = omega (arith, c.saved_length-length.ensures, c.if-lent-length.false);
-    }
+  shaped = found_sound c.is_sound.ensures (ap not c.if-not-is_sound.false);
+  count_in_bounds = omega (arith, c.saved_length-length.ensures, c.if-lent-length.false);
+}
 
 pub returns : goal.returns
 returns c = let size = length_saved c.args.map in

@@ -25,11 +25,14 @@ found_length : (c : After-length_of-length) →
 found_length c = c.length_of-length.ensures ∙ ap length c.decide-decided.ensures.is_report
 
 pub returns-then-lent-length : goal.returns-then-lent-length
-returns-then-lent-length c = short_refused (read (goal.at.returns-then-lent-length c).After-length_of-length) (omega (arith, found_length (goal.at.returns-then-lent-length c).After-length_of-length, c.if-lent-length.true))
+returns-then-lent-length c =
+    let d = (goal.at.returns-then-lent-length c).After-length_of-length in
+    short_refused (read d) (omega (arith, found_length d, c.if-lent-length.true))
 
 pub returns : goal.returns
-returns c = result_written (read (goal.at.returns c).After-length_of-length) (found_length (goal.at.returns c).After-length_of-length)
-    (omega (arith, found_length (goal.at.returns c).After-length_of-length, c.if-lent-length.false))
+returns c =
+    let d = (goal.at.returns c).After-length_of-length in
+    result_written (read d) (found_length d)
+    (omega (arith, found_length d, c.if-lent-length.false))
     (c.write_report.ensures
-    ∙ ap (λ (l : List ℕ). over l c.args.lent.now)
-    c.decide-decided.ensures.is_report)
+    ∙ ap (λ (l : List ℕ). over l c.args.lent.now) c.decide-decided.ensures.is_report)

@@ -2,7 +2,6 @@
 -- at.
 use mathlib.Core.Path.{sym, ap, ◌∙◌}
 use mathlib.Core.Bool.{not}
-use Rattle.model.specs.Plane.{in_range}
 use Rattle.replies.proofs.OpenedFiles.{loads, refused_already, served_further, refused_further}
 use Rattle.replies.proofs.opening.load_near.Goals as goal
 

@@ -9,9 +9,8 @@ use Rattle.model.specs.Arrival.{admission_rules, arrive, refusing, admitted}
 use Rattle.model.specs.Saved.{saved}
 use Rattle.model.proofs.Answers.{outcome_serves}
 use Rattle.replies.specs.Replies.{arrival_told}
-use Rattle.replies.proofs.Arrived.{arrival_outcome, accepted}
+use Rattle.replies.proofs.Arrived.{arrival_outcome, accepted, admitted_outcome}
 use Rattle.hull.proofs.Arrivals.{admitted_sound}
-use Rattle.replies.proofs.Arrived.{admitted_outcome}
 use Rattle.replies.proofs.Serving.{both_refused_before, both_served_after, both_at}
 use Rattle.replies.proofs.writing.write_admitted.Goals as goal
 use Rattle.replies.proofs.writing.write_admitted.Goals.{After-admitted-offered}
@@ -30,15 +29,19 @@ outcome_found c =
     ∙ admitted_outcome s.map s.p
 
 pub returns-in-Refused : goal.returns-in-Refused
-returns-in-Refused c = let s = c.args in
-    both_refused_before (admission_rules s.map s.p) [] _ _ _ _ _
-    (sym (ap arrival_outcome c.in-Refused.is) ∙ outcome_found (goal.at.returns-in-Refused c).After-admitted-offered)
+returns-in-Refused c =
+    let d = (goal.at.returns-in-Refused c).After-admitted-offered in
+    both_refused_before (admission_rules c.args.map c.args.p) [] _ _ _ _ _
+    (sym (ap arrival_outcome c.in-Refused.is) ∙ outcome_found d)
     c.code.ensures
 
 pub returns : goal.returns
 unfolding admitted
-returns c = let s = c.args in
-    let served = sym (accepted c.admitted-offered.result.arrival c.in_default.not-Refused) ∙ outcome_found (goal.at.returns c).After-admitted-offered in
+returns c =
+    let s = c.args in
+    let d = (goal.at.returns c).After-admitted-offered in
+    let served =
+    sym (accepted c.admitted-offered.result.arrival c.in_default.not-Refused) ∙ outcome_found d in
     both_served_after (admission_rules s.map s.p) [] _ _ _ _ served
     (both_at (λ o. []) (λ (o : Offered). saved o.map)
     (λ (o : Offered). arrival_told (arrival_answer o.arrival))

@@ -11,12 +11,12 @@ use Rattle.replies.proofs.writing.write_darts.Goals as goal
 
 pub returns-then-out-lt17 : goal.returns-then-out-lt17
 returns-then-out-lt17 c = short_list _ _ (omega (
-      arith,
-      c.requires,
-      length-append c.args.orbit.words
-          (c.args.orbit.size ∷ []),
-      c.if-out-lt17.true,
-    ))
+  arith,
+  c.requires,
+  length-append c.args.orbit.words
+      (c.args.orbit.size ∷ []),
+  c.if-out-lt17.true,
+))
 
 pub returns : goal.returns
 returns c = let words = c.args.orbit.words in

@@ -1,4 +1,5 @@
--- `replies::writing::write_saved` meets its contract: the room of both lists is checked, and then both are written.
+-- `replies::writing::write_saved` meets its contract: the room of both lists is checked, and then both are
+-- written.
 use mathlib.Core.Path.{refl, sym, ap, ◌∙◌}
 use mathlib.Core.List.{[], ◌∷◌}
 use Prim.Native.Nat.{ℕ}
@@ -26,16 +27,16 @@ returns-then-length-lt1 c = let s = c.args in
 
 pub write_map-requires : goal.write_map-requires
 write_map-requires c = record {
-      shaped = c.requires;
-      count_in_bounds = omega (arith, c.saved_length-bytes.ensures, c.if-out-bytes.false);
-    }
+  shaped = c.requires;
+  count_in_bounds = omega (arith, c.saved_length-bytes.ensures, c.if-out-bytes.false);
+}
 
 pub returns : goal.returns
 unfolding written_answer
 returns c = let s = c.args in
     let bytes = length (saved s.map) in
     both_room (saved s.map) (bytes ∷ []) _ s.length.now refl
-    (omega (arith, length_saved s.map, c.saved_length-bytes.ensures, c.if-out-bytes.false)) c.if-length-lt1.false
-    c.write_map.ensures
+    (omega (arith, length_saved s.map, c.saved_length-bytes.ensures, c.if-out-bytes.false))
+    c.if-length-lt1.false c.write_map.ensures
     (ap (λ (n : ℕ). set s.length.now 0 n) (c.saved_length-bytes.ensures ∙ sym (length_saved s.map))
     ∙ (room_serves c.if-length-lt1.false (stored (bytes ∷ []) s.length.now c.if-length-lt1.false)).1)

@@ -1,11 +1,8 @@
--- `replies::writing::write_values` meets its contract: the room is checked, and then a step writes
--- one value.
-use mathlib.Core.Path.{◌∙◌}
-use Prim.Native.Nat.{◌-◌, ◌≤◌}
-use native.Mathlib.Omega.{arith}
+-- The loop of `replies::writing::write_values`: the values before the place are copied, and the list has room
+-- for all of them.
+use Prim.Native.Nat.{◌≤◌}
 use lib.ListN.{length}
-use Rattle.finite.specs.Overwriting.{over_front, Copied, none_copied, one_copied, all_copied}
-use Rattle.replies.proofs.Serving.{short_list, with_room}
+use Rattle.finite.specs.Overwriting.{Copied}
 use Rattle.replies.proofs.writing.write_values.Given as goal
 
 abbrev pub invariant-loop-i : goal.invariant-loop-i

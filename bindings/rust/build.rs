@@ -35,7 +35,7 @@ fn link() -> Result<(), String> {
     println!("cargo::rerun-if-changed={}", archive.display());
     if !archive.is_file() {
         return Err(format!(
-            "there is no {}: write it by `rt staticlib reach` in the repository, or set \
+            "there is no {}: write it by `tools/build` in the repository, or set \
              REACH_ARCHIVE_DIR to the folder where it lies",
             archive.display()
         ));

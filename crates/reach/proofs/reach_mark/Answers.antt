@@ -30,8 +30,8 @@ not_refused : (ps : List Point) (claim : List ℕ) → marked_outcome (mark_call
 not_refused ps claim = either (is_rotation claim (corners (built empty_map ps)))
 
 -- a mark that was found, and written as the place of its word
-written : (ps : List Point) (claim : List ℕ) {found : Marked} → found ≡ answer_of (mark_call ps claim) → {o : Marked} →
-    found ≡ o → marked_outcome o ≡ Outcome.Served → {before after : List ℕ} {k : ℕ} →
+written : (ps : List Point) (claim : List ℕ) {found : Marked} → found ≡ answer_of (mark_call ps claim) →
+    {o : Marked} → found ≡ o → marked_outcome o ≡ Outcome.Served → {before after : List ℕ} {k : ℕ} →
     Served (only (mark_told (marked_answer o))) before after k → Served (mark_reply ps claim) before after k
 written ps claim equal is served w =
     answer_written mark_told (mark_call ps claim) marked_outcome (λ r. refl) (not_refused ps claim) _ equal
@@ -46,8 +46,10 @@ returns-in-Refused c = let s = c.args in
 
 pub returns-in-Wrong : goal.returns-in-Wrong
 unfolding marked_answer told place_of
-returns-in-Wrong c = written _ _ c.mark-marked.ensures.equal c.in-Wrong.is refl c.write_values.ensures
+returns-in-Wrong c =
+    written _ _ c.mark-marked.ensures.equal c.in-Wrong.is refl c.write_values.ensures
 
 pub returns-in-Right : goal.returns-in-Right
 unfolding marked_answer told place_of
-returns-in-Right c = written _ _ c.mark-marked.ensures.equal c.in-Right.is refl c.write_values-in-Right.ensures
+returns-in-Right c =
+    written _ _ c.mark-marked.ensures.equal c.in-Right.is refl c.write_values-in-Right.ensures

@@ -26,7 +26,6 @@ no_place n =
     (lt_or_ge n 1)
 
 module _ (c : After-read_outline-written) where
-
   abbrev rules : List Rule
   rules = outline_rules c.args.text.now
 
@@ -40,16 +39,26 @@ module _ (c : After-read_outline-written) where
   count = c.args.count.now
 
   -- what the code asks for is the room of both lists
-  same : (is_short result out || is_short (length result ∷ []) count) ≡ (is_short result out || not (leb 1 (length count)))
+  same : (is_short result out || is_short (length result ∷ []) count)
+      ≡ (is_short result out || not (leb 1 (length count)))
   same = ap (λ (b : Bool). is_short result out || b) (no_place (length count))
 
 pub bounds-count-0 : goal.bounds-count-0
-bounds-count-0 c = length_room (rules (goal.at.bounds-count-0 c).After-read_outline-written) (result (goal.at.bounds-count-0 c).After-read_outline-written) (out (goal.at.bounds-count-0 c).After-read_outline-written) (count (goal.at.bounds-count-0 c).After-read_outline-written) (same (goal.at.bounds-count-0 c).After-read_outline-written) c.read_outline-written.ensures c.in-Length.is
+bounds-count-0 c =
+    let d = (goal.at.bounds-count-0 c).After-read_outline-written in
+    length_room (rules d) (result d) (out d) (count d) (same d)
+    c.read_outline-written.ensures c.in-Length.is
 
 pub returns-in-Refused : goal.returns-in-Refused
 unfolding written_answer
-returns-in-Refused c = by_refused (rules (goal.at.returns-in-Refused c).After-read_outline-written) (result (goal.at.returns-in-Refused c).After-read_outline-written) (out (goal.at.returns-in-Refused c).After-read_outline-written) (count (goal.at.returns-in-Refused c).After-read_outline-written) (same (goal.at.returns-in-Refused c).After-read_outline-written) c.read_outline-written.ensures c.in-Refused.is c.code.ensures
+returns-in-Refused c =
+    let d = (goal.at.returns-in-Refused c).After-read_outline-written in
+    by_refused (rules d) (result d) (out d) (count d) (same d)
+    c.read_outline-written.ensures c.in-Refused.is c.code.ensures
 
 pub returns-in-Length : goal.returns-in-Length
 unfolding written_answer
-returns-in-Length c = by_written (rules (goal.at.returns-in-Length c).After-read_outline-written) (result (goal.at.returns-in-Length c).After-read_outline-written) (out (goal.at.returns-in-Length c).After-read_outline-written) (count (goal.at.returns-in-Length c).After-read_outline-written) (same (goal.at.returns-in-Length c).After-read_outline-written) c.read_outline-written.ensures c.in-Length.is
+returns-in-Length c =
+    let d = (goal.at.returns-in-Length c).After-read_outline-written in
+    by_written (rules d) (result d) (out d) (count d) (same d)
+    c.read_outline-written.ensures c.in-Length.is

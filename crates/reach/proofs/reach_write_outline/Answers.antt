@@ -8,8 +8,12 @@ pub write_outline_text-requires : goal.write_outline_text-requires
 write_outline_text-requires c = opened_sound (loads c.load-loaded.ensures) c.in-Served.is
 
 pub returns-in-Refused : goal.returns-in-Refused
-returns-in-Refused c = not_told (λ m. outline_text (corner_points m)) (loads c.load-loaded.ensures) c.in-Refused.is c.code.ensures
+returns-in-Refused c =
+    not_told (λ m. outline_text (corner_points m)) (loads c.load-loaded.ensures) c.in-Refused.is
+    c.code.ensures
 
 pub returns-in-Served : goal.returns-in-Served
 unfolding written_answer
-returns-in-Served c = told (λ m. outline_text (corner_points m)) (loads c.load-loaded.ensures) c.in-Served.is c.write_outline_text.ensures
+returns-in-Served c =
+    told (λ m. outline_text (corner_points m)) (loads c.load-loaded.ensures) c.in-Served.is
+    c.write_outline_text.ensures

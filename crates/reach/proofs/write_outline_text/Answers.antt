@@ -14,8 +14,6 @@ use Rattle.reach.proofs.write_outline_text.Goals.{After-text_length-written}
 
 -- the length was asked for
 module _ (c : After-text_length-written) where
-
-
   abbrev text : List ℕ
   text = outline_text (corner_points c.args.map)
 
@@ -23,15 +21,23 @@ module _ (c : After-text_length-written) where
   size = c.text_length-written.ensures ∙ ap length (listed_text c.corners_of-list.ensures)
 
 pub returns-then-out-written : goal.returns-then-out-written
-returns-then-out-written c = first_short (text (goal.at.returns-then-out-written c).After-text_length-written) (length (text (goal.at.returns-then-out-written c).After-text_length-written) ∷ []) _ _ (omega (arith, size (goal.at.returns-then-out-written c).After-text_length-written, c.if-out-written.true))
+returns-then-out-written c =
+    let d = (goal.at.returns-then-out-written c).After-text_length-written in
+    first_short (text d) (length (text d) ∷ []) _ _ (omega (arith, size d, c.if-out-written.true))
 
 pub returns-then-count-lt1 : goal.returns-then-count-lt1
-returns-then-count-lt1 c = second_short (text (goal.at.returns-then-count-lt1 c).After-text_length-written) (length (text (goal.at.returns-then-count-lt1 c).After-text_length-written) ∷ []) _ _ c.if-count-lt1.true
+returns-then-count-lt1 c =
+    let d = (goal.at.returns-then-count-lt1 c).After-text_length-written in
+    second_short (text d) (length (text d) ∷ []) _ _ c.if-count-lt1.true
 
 pub returns : goal.returns
-returns c = both_room (text (goal.at.returns c).After-text_length-written) (length (text (goal.at.returns c).After-text_length-written) ∷ []) _ c.args.count.now refl
-    (omega (arith, size (goal.at.returns c).After-text_length-written, c.if-out-written.false)) c.if-count-lt1.false
+returns c =
+    let d = (goal.at.returns c).After-text_length-written in
+    let count = c.args.count.now in
+    let room = c.if-count-lt1.false in
+    both_room (text d) (length (text d) ∷ []) _ count refl
+    (omega (arith, size d, c.if-out-written.false)) room
     (c.write_text.ensures
     ∙ ap (λ (t : List ℕ). over t c.args.out.now) (listed_text c.corners_of-list.ensures))
-    (ap (λ (n : ℕ). set c.args.count.now 0 n) (size (goal.at.returns c).After-text_length-written)
-    ∙ (room_serves c.if-count-lt1.false (stored (length (text (goal.at.returns c).After-text_length-written) ∷ []) c.args.count.now c.if-count-lt1.false)).1)
+    (ap (λ (n : ℕ). set count 0 n) (size d)
+    ∙ (room_serves room (stored (length (text d) ∷ []) count room)).1)

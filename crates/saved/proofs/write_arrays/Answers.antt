@@ -27,8 +27,13 @@ module _ (c : After-notes_place-start) where
   -- the notes fit behind all else
   long : notes_place map.count + 5 * noted ≤ length c.args.lent.now
   long =
-      omega (arith, c.requires.count_in_bounds, c.noted_in-noted.ensures, noted_length c.args.version
-      map.count)
+      omega (
+        arith,
+        c.requires.count_in_bounds,
+        c.noted_in-noted.ensures,
+        noted_length c.args.version
+            map.count,
+      )
 
   few : noted ≤ map.count
   few = omega (arith, c.noted_in-noted.ensures, noted_most c.args.version map.count)

@@ -33,18 +33,31 @@ overflow_mul-result c = omega (arith, arrival_held (goal.at.overflow_mul-result 
 
 pub overflow_add-result : goal.overflow_add-result
 overflow_add-result c =
-    omega (arith, arrival_held (goal.at.overflow_add-result c).Start, left_most
-    (goal.at.overflow_add-result c).Start)
+    omega (
+      arith,
+      arrival_held (goal.at.overflow_add-result c).Start,
+      left_most
+          (goal.at.overflow_add-result c).Start,
+    )
 
 pub overflow_mul-result-2 : goal.overflow_mul-result-2
 overflow_mul-result-2 c =
-    omega (arith, arrival_held (goal.at.overflow_mul-result-2 c).Start, left_most
-    (goal.at.overflow_mul-result-2 c).Start)
+    omega (
+      arith,
+      arrival_held (goal.at.overflow_mul-result-2 c).Start,
+      left_most
+          (goal.at.overflow_mul-result-2 c).Start,
+    )
 
 pub overflow_add-result-2 : goal.overflow_add-result-2
 overflow_add-result-2 c =
-    omega (arith, arrival_held (goal.at.overflow_add-result-2 c).Start, left_most
-    (goal.at.overflow_add-result-2 c).Start, right_most (goal.at.overflow_add-result-2 c).Start)
+    omega (
+      arith,
+      arrival_held (goal.at.overflow_add-result-2 c).Start,
+      left_most
+          (goal.at.overflow_add-result-2 c).Start,
+      right_most (goal.at.overflow_add-result-2 c).Start,
+    )
 
 pub returns : goal.returns
 returns c = omega (arith, left_held (goal.at.returns c).Start, right_held (goal.at.returns c).Start)

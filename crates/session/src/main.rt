@@ -1,6 +1,7 @@
-// The session of document 01 taken through every entry of `engine` and of `office`, for whoever writes the next
-// crate that uses them. Each call prints a line: its name, what it was given (maps and lists are left out, but for
-// a claim), a colon, and the answer, by its word and its values. The values stand in the order of the declared types:
+// The session of document 01 taken through every entry of `engine` and of `office`, but for `remove_last`, for
+// whoever writes the next crate that uses them. Each call prints a line: its name, what it was given (maps and
+// lists are left out, but for a claim), a colon, and the answer, by its word and its values. The values stand in
+// the order of the declared types:
 //     offer          left corner, right corner, visible edges
 //     orbit          the darts of the set
 //     counts         darts, vertices, edges, faces, parts
@@ -10,7 +11,7 @@
 //     read_outline   x and y of each corner
 //     area           twice the area
 // A refused call prints `refused` and the number of document 01's table; every number that is in use is
-// seen.
+// seen, but for 13.
 #![tactic(auto)]
 
 mod calls;
@@ -21,8 +22,9 @@ ghost use Rattle.std.specs.Prelude.{◌≡◌, length};
 use model::{Kind, Link, Map, NO_DART, POINT_LIMIT, Point};
 use std::io;
 
-fn main(rt: HostRuntime) -> io::Result<()> {
-    session(&rt)
+// A write that fails ends the session.
+fn main(rt: HostRuntime) {
+    let _ = session(&rt);
 }
 
 fn session(rt: &impl Print) -> io::Result<()> {

@@ -8,9 +8,10 @@ use mathlib.Core.List.{List, [], ◌∷◌, ◌++◌}
 use Prim.Native.Nat.{ℕ, ◌≤◌}
 use native.Mathlib.Omega.{arith}
 use lib.Dec.{T}
+use Rattle.std.specs.declared.result.Result.{Result}
+use Rattle.std.specs.declared.result.Result.TheVariants.{Ok, Err}
 use Rattle.finite.specs.Tests.{of_true, is_true, is_false}
 use Rattle.model.specs.declared.Refusal.{Refusal}
-use Rattle.model.specs.declared.Outcome.{Outcome}
 use Rattle.model.specs.Refusals.{number, Rule, unless, Refuses, at_once, later, NoneApplies, none, nor}
 use Rattle.model.specs.Answers.{refused, Call, answer_of, outcome_by, Answered}
 
@@ -116,34 +117,34 @@ refuses_later (nor n rest) first = later n (refuses_later rest first)
 -- ---- rules that are checked first, by a function that answers an outcome
 
 module _ {A : Type 0} (f : Refusal → A) (a : A) where
-  pub outcome_refuses : (rules : List Rule) (r : Refusal) → Outcome.Refused r ≡ outcome_by rules → f r ≡ unless f rules a
+  pub outcome_refuses : (rules : List Rule) (r : Refusal) → Err r ≡ outcome_by rules → f r ≡ unless f rules a
   unfolding unless
   outcome_refuses [] r e = absurd (let z : ◌≡◌ {A = ℕ} 0 1 = cc in omega arith)
   outcome_refuses (rule ∷ rules) r e = go rule.applies e (outcome_refuses rules r)
     where
-      go : (t : Bool) → Outcome.Refused r ≡ cond t (Outcome.Refused rule.refusal) (outcome_by rules) →
-          (Outcome.Refused r ≡ outcome_by rules → f r ≡ unless f rules a) →
+      go : (t : Bool) → Err r ≡ cond t (Err rule.refusal) (outcome_by rules) →
+          (Err r ≡ outcome_by rules → f r ≡ unless f rules a) →
           f r ≡ cond t (f rule.refusal) (unless f rules a)
       go true e rest = cc
       go false e rest = rest e
 
-  pub outcome_serves : (rules : List Rule) → Outcome.Served ≡ outcome_by rules → a ≡ unless f rules a
+  pub outcome_serves : (rules : List Rule) → Ok tt ≡ outcome_by rules → a ≡ unless f rules a
   unfolding unless
   outcome_serves [] e = refl
   outcome_serves (rule ∷ rules) e = go rule.applies e (outcome_serves rules)
     where
-      go : (t : Bool) → Outcome.Served ≡ cond t (Outcome.Refused rule.refusal) (outcome_by rules) →
-          (Outcome.Served ≡ outcome_by rules → a ≡ unless f rules a) → a ≡ cond t (f rule.refusal) (unless f rules a)
+      go : (t : Bool) → Ok tt ≡ cond t (Err rule.refusal) (outcome_by rules) →
+          (Ok tt ≡ outcome_by rules → a ≡ unless f rules a) → a ≡ cond t (f rule.refusal) (unless f rules a)
       go true e rest = absurd (let z : ◌≡◌ {A = ℕ} 0 1 = cc in omega arith)
       go false e rest = rest e
 
-pub served_none : (rules : List Rule) → Outcome.Served ≡ outcome_by rules → NoneApplies rules
+pub served_none : (rules : List Rule) → Ok tt ≡ outcome_by rules → NoneApplies rules
 unfolding unless
 served_none [] e = none
 served_none (rule ∷ rules) e = go rule.applies refl e (served_none rules)
   where
-    go : (t : Bool) → rule.applies ≡ t → Outcome.Served ≡ cond t (Outcome.Refused rule.refusal) (outcome_by rules) →
-        (Outcome.Served ≡ outcome_by rules → NoneApplies rules) → NoneApplies (rule ∷ rules)
+    go : (t : Bool) → rule.applies ≡ t → Ok tt ≡ cond t (Err rule.refusal) (outcome_by rules) →
+        (Ok tt ≡ outcome_by rules → NoneApplies rules) → NoneApplies (rule ∷ rules)
     go true is e rest = absurd (let z : ◌≡◌ {A = ℕ} 0 1 = cc in omega arith)
     go false is e rest = nor (λ t. subst T is t) (rest e)
 
@@ -162,10 +163,10 @@ unless_made f refuse refuse' same (rule ∷ rules) a =
     choice_made f rule.applies (refuse rule.refusal) (unless refuse rules a)
     ∙ (λ i. cond rule.applies (same rule.refusal i) (unless_made f refuse refuse' same rules a i))
 
-pub answered : {A : Type 0} (c : Call A) {r : A} → ((x : Refusal) → c.meaning (c.refuse x) ≡ refused x) →
+pub answered : {A : Type 0} (c : Call A) {r : Result A Refusal} → ((x : Refusal) → c.meaning (Err x) ≡ refused x) →
     r ≡ answer_of c → Answered c r
 answered c same e =
     record {
       equal = e;
-      means = ap c.meaning e ∙ unless_made c.meaning c.refuse refused same c.rules c.value;
+      means = ap c.meaning e ∙ unless_made c.meaning Err refused same c.rules (Ok c.value);
     }

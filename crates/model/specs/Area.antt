@@ -6,7 +6,6 @@ use Rattle.std.specs.Prelude.{not, cond, ◌&&◌, List, [], ◌∷◌, ◌++◌
 use Rattle.model.specs.declared.Refusal.{Refusal}
 use Rattle.model.specs.declared.Point.{Point}
 use Rattle.model.specs.declared.Map.{Map}
-use Rattle.model.specs.declared.Doubled.{Doubled}
 use Rattle.model.specs.Refusals.{Rule, ◌when◌}
 use Rattle.model.specs.Answers.{Call, doubled_answer}
 use Rattle.model.specs.Plane.{coordinate_limit, origin, orientation}
@@ -42,13 +41,12 @@ doubled_area m place = cond (ltb m.count 3) (pos 0) (area_from m place)
 abbrev pub no_place : Map → ℕ → Rule
 no_place m place = Refusal.NoDart when (leb 3 m.count && not (ltb place (length (corners m))))
 
-abbrev pub area_call : Map → ℕ → Call Doubled
+abbrev pub area_call : Map → ℕ → Call ℤ
 area_call m place =
     record {
       meaning = doubled_answer;
-      refuse = Doubled.Refused;
       rules = unsound m ∷ no_place m place ∷ [];
-      value = Doubled.Value (doubled_area m place);
+      value = doubled_area m place;
     }
 
 -- it is at most twice the area of the whole range, 8 × 10^18

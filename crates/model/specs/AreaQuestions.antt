@@ -21,7 +21,7 @@ use Rattle.model.specs.Sound.{agree, sound}
 use Rattle.model.specs.Arrival.{cut, join, turning_left, turning_right, is_farther, is_beyond, farther, left_corner, right_corner}
 use Rattle.model.specs.Arrival.{with_point, alone, pair, spliced, later_point, arrive, is_repeated}
 use Rattle.model.specs.Offers.{offer}
-use Rattle.model.specs.History.{is_accepted, extended, run_from, run}
+use Rattle.model.specs.History.{extended_by, extended, run_from, run}
 use Rattle.model.specs.Report.{spaced}
 use Rattle.model.specs.Outlines.{corner_points}
 use Rattle.model.specs.Area.{path_sum, fan, area_from, doubled_area, area_call, area_limit, sum_of, triangle_added, area_added, history_area}
@@ -82,7 +82,7 @@ unfolding table_onto all any sum count one_if table elem all_in all_places any_i
     other_dart point has_helper is_present edge_link point_link empty_map next_corner
     previous_corner corners_from outline sees visible_edges lowest_corner corners note agree building_rules built sound cut join
     turning_left turning_right is_farther is_beyond farther left_corner right_corner with_point
-    alone pair spliced later_point arrive is_repeated offer is_accepted extended run_from run
+    alone pair spliced later_point arrive is_repeated offer extended_by extended run_from run
     spaced corner_points path_sum fan area_from doubled_area sum_of triangle_added area_added
     history_area session after told_at says refuses on_rail at_ends unlinked area_questions
     same_by

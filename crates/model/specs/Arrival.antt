@@ -3,6 +3,8 @@
 -- is noted of an arrival; the map after each arrival; the refusals of a sound map. Offers to any map are
 -- specs/Offers. Document 01, "Orientation and arrival", and document 02, requests 106 and 107.
 use Rattle.std.specs.Prelude.{Bool, true, not, cond, ◌&&◌, List, [], ◌∷◌, ℕ, suc, leb, eqb, length, get_or, set}
+use Rattle.std.specs.declared.result.Result.{Result}
+use Rattle.std.specs.declared.result.Result.TheVariants.{Ok, Err}
 use Rattle.finite.specs.Bounded.{any}
 use Rattle.finite.specs.Lists.{any_in, first_in}
 use Rattle.model.specs.declared.Refusal.{Refusal}
@@ -155,10 +157,6 @@ admission_rules m p =
     ∷ (Refusal.Repeated when is_repeated m p)
     ∷ []
 
--- the map as it was, and the refusal
-abbrev pub refusing : Map → Refusal → Offered
-refusing m r = arrived (Arrival.Refused r) m
-
--- a point offered to a sound map: the map after it and its arrival, or the map as it was and the refusal
-unfoldable pub admitted : Map → Point → Offered
-admitted m p = unless (refusing m) (admission_rules m p) (arrive m p)
+-- a point offered to a sound map: the map after it and its arrival, or the refusal
+unfoldable pub admitted : Map → Point → Result Offered Refusal
+admitted m p = unless Err (admission_rules m p) (Ok (arrive m p))

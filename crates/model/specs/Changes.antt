@@ -1,9 +1,11 @@
 -- What an offered point changes, place by place, in the order of this page: a link with two darts
 -- joined, and one with darts parted; a map that has one point more, with every field named at every
 -- place; the changes of each arrival and of a refusal. Document 01, "Orientation and arrival":
--- that "Nothing else changes" is `Changes m p (offer m p).arrival (offer m p).map` for every map m and
--- point p.
+-- that "Nothing else changes" is `Changes m p (arrival_of (offer m p)) (map_after m (offer m p))` for every
+-- map m and point p.
 use Rattle.std.specs.Prelude.{◌≡◌, ◌≢◌, Bool, false, cond, ◌||◌, ℕ, suc, ◌≤◌, T, ltb, eqb}
+use Rattle.std.specs.declared.result.Result.{Result}
+use Rattle.std.specs.declared.result.Result.TheVariants.{Ok, Err}
 use Rattle.model.specs.declared.Refusal.{Refusal}
 use Rattle.model.specs.declared.Point.{Point}
 use Rattle.model.specs.declared.Note.{Note}
@@ -72,12 +74,12 @@ OutsideGrown m p left right =
     (own k)
 
 -- what each answer of an offer means for the map
-pub data Changes (m : Map) (p : Point) : Arrival → Map → Type 0 where
-  first : {m' : Map} → m.count ≡ 0 → FirstGrown m p m' → Changes m p Arrival.First m'
-  second : {m' : Map} → m.count ≡ 1 → SecondGrown m p m' → Changes m p Arrival.Second m'
+pub data Changes (m : Map) (p : Point) : Result Arrival Refusal → Map → Type 0 where
+  first : {m' : Map} → m.count ≡ 0 → FirstGrown m p m' → Changes m p (Ok Arrival.First) m'
+  second : {m' : Map} → m.count ≡ 1 → SecondGrown m p m' → Changes m p (Ok Arrival.Second) m'
   inside : {m' : Map} → 2 ≤ m.count → visible_edges m p ≡ 0 →
-      InsideGrown m p m' → Lone m' m.count → Changes m p Arrival.Inside m'
+      InsideGrown m p m' → Lone m' m.count → Changes m p (Ok Arrival.Inside) m'
   outside : {m' : Map} → 2 ≤ m.count → visible_edges m p ≢ 0 →
       OutsideGrown m p (left_corner m p) (right_corner m p) m' →
-      Changes m p (Arrival.Outside (left_corner m p) (right_corner m p) (visible_edges m p)) m'
-  refused : (r : Refusal) → Changes m p (Arrival.Refused r) m
+      Changes m p (Ok (Arrival.Outside (left_corner m p) (right_corner m p) (visible_edges m p))) m'
+  refused : (r : Refusal) → Changes m p (Err r) m

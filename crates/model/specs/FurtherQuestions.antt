@@ -3,14 +3,16 @@
 -- in the order of this page: every case of every answer; every limit; what is unsound; the
 -- session's two sums, its orbits and walkers; where a point lies; marks along a rail; lent lists; files;
 -- lines of text.
-use Rattle.std.specs.Prelude.{Bool, true, ℕ, ◌+◌, ◌*◌, T, ℤ, pos, neg_ℤ, length, take, drop, set, replicate}
+use Rattle.std.specs.Prelude.{⊤, Bool, true, false, ℕ, ◌+◌, ◌*◌, T, ℤ, pos, neg_ℤ, length, take, drop, set, replicate}
 use mathlib.Core.List.{List, [], ◌∷◌, ◌++◌, map, flat_map, flatten}
 use Prim.Native.String.{String}
 use Rattle.finite.specs.Bounded.{all, any, sum, count, one_if, table_onto, table}
 use Rattle.finite.specs.Lists.{elem, same_by, same_list, all_in, all_places, any_in, count_in, first_in, before, beyond}
 use Rattle.finite.specs.Lists.{total, ring, insert, union}
+use Rattle.std.specs.declared.result.Result.TheVariants.{Ok, Err}
 use Rattle.orbits.specs.declared.Ending.{Ending}
 use Rattle.orbits.specs.declared.Walk.{Walk}
+use Rattle.orbits.specs.declared.DartSet.{DartSet}
 use Rattle.orbits.specs.Reach.{spread, reached, reaches}
 use Rattle.orbits.specs.Classes.{is_least, classes, is_fixed, is_closed, closed_walks}
 use Rattle.orbits.specs.Walks.{walker_at}
@@ -18,24 +20,14 @@ use Rattle.orbits.specs.Sets.{dart_limit, bits, set_of}
 use Rattle.model.specs.declared.Refusal.{Refusal}
 use Rattle.model.specs.declared.Point.{Point}
 use Rattle.model.specs.declared.Map.{Map}
-use Rattle.model.specs.declared.Oriented.{Oriented}
 use Rattle.model.specs.declared.Arrival.{Arrival}
-use Rattle.model.specs.declared.Outcome.{Outcome}
 use Rattle.model.specs.declared.Kind.{Kind}
 use Rattle.model.specs.declared.Link.{Link}
-use Rattle.model.specs.declared.Orbit.{Orbit}
 use Rattle.model.specs.declared.Counts.{Counts}
-use Rattle.model.specs.declared.Counted.{Counted}
-use Rattle.model.specs.declared.Walked.{Walked}
-use Rattle.model.specs.declared.Moved.{Moved}
 use Rattle.model.specs.declared.Placed.{Placed}
-use Rattle.model.specs.declared.Doubled.{Doubled}
-use Rattle.model.specs.declared.Marked.{Marked}
-use Rattle.model.specs.declared.Written.{Written}
-use Rattle.model.specs.declared.Line.{Line}
 use Rattle.model.specs.Spelling.{bytes, space, decimal, spelt}
 use Rattle.model.specs.Refusals.{number, Rule, unless}
-use Rattle.model.specs.Answers.{Answer, answer_of, oriented_answer, arrival_answer, outcome_answer}
+use Rattle.model.specs.Answers.{Answer, answer_of, oriented_answer, arrival_answer, arrival_of, offer_answer, outcome_answer}
 use Rattle.model.specs.Answers.{orbit_answer, counted_answer, walked_answer, moved_answer}
 use Rattle.model.specs.Answers.{placed_answer, doubled_answer, marked_answer, written_answer, line_answer}
 use Rattle.model.specs.Plane.{coordinate_limit, coordinate_in_range, in_range, at, origin}
@@ -52,8 +44,8 @@ use Rattle.model.specs.Reading.{links_of, number_of, darts, counts, orbit_set, w
 use Rattle.model.specs.Arrival.{cut, join, turning_left, turning_right, is_farther, is_beyond}
 use Rattle.model.specs.Arrival.{farther, left_corner, right_corner, with_point, alone, pair}
 use Rattle.model.specs.Arrival.{spliced, later_point, arrive, is_repeated, admission_rules}
-use Rattle.model.specs.Offers.{offer}
-use Rattle.model.specs.History.{Entry, Run, is_accepted, extended, run_from, run, reported}
+use Rattle.model.specs.Offers.{offer, map_after}
+use Rattle.model.specs.History.{Entry, Run, extended_by, extended, run_from, run, reported}
 use Rattle.model.specs.History.{reported_edges, is_outside, outside_arrivals, edges_seen}
 use Rattle.model.specs.Placing.{strictly_visible, place_among, place_call}
 use Rattle.model.specs.Lent.{writing, lent_after}
@@ -94,8 +86,8 @@ refusals =
     ∷ []
 
 -- answers with values that all differ
-orbit_with : Outcome → Orbit
-orbit_with o = record { outcome = o; darts = record { words = 7 ∷ 8 ∷ []; size = 9 } }
+three_words : DartSet
+three_words = record { words = 7 ∷ 8 ∷ []; size = 9 }
 
 five_counts : Counts
 five_counts = record { darts = 1; vertices = 2; edges = 3; faces = 4; parts = 5 }
@@ -107,39 +99,39 @@ answers : List Question
 answers =
     -- 5 is withdrawn
     (map number refusals is 1 ∷ 2 ∷ 3 ∷ 4 ∷ 6 ∷ 7 ∷ 8 ∷ 9 ∷ 10 ∷ 11 ∷ 12 ∷ [])
-    ∷ (told (oriented_answer (Oriented.Value (neg_ℤ (pos 12)))) is says "orientation -12\n")
-    ∷ (told (oriented_answer (Oriented.Refused Refusal.ShortList)) is short)
-    ∷ (told (arrival_answer Arrival.First) is says "first\n")
-    ∷ (told (arrival_answer Arrival.Second) is says "second\n")
-    ∷ (told (arrival_answer Arrival.Inside) is says "inside\n")
-    ∷ (told (arrival_answer (Arrival.Outside 1 2 3)) is says "outside 1 2 3\n")
-    ∷ (told (arrival_answer (Arrival.Refused Refusal.ShortList)) is short)
-    ∷ (told (outcome_answer Outcome.Served) is says "served\n")
-    ∷ (told (outcome_answer (Outcome.Refused Refusal.ShortList)) is short)
-    ∷ (told (orbit_answer (orbit_with Outcome.Served)) is says "orbit 7 8 9\n")
-    ∷ (told (orbit_answer (orbit_with (Outcome.Refused Refusal.ShortList))) is short)
-    ∷ (told (counted_answer (Counted.Numbers five_counts)) is says "counts 1 2 3 4 5\n")
-    ∷ (told (counted_answer (Counted.Refused Refusal.ShortList)) is short)
-    ∷ (told (walked_answer (Walked.Ended (walk_to Ending.Home))) is says "home 1 2\n")
-    ∷ (told (walked_answer (Walked.Ended (walk_to Ending.Loose))) is says "loose 1 2\n")
-    ∷ (told (walked_answer (Walked.Refused Refusal.ShortList)) is short)
-    ∷ (told (moved_answer (Moved.At (walker_at 5))) is says "dart 5\n")
-    ∷ (told (moved_answer (Moved.Refused Refusal.ShortList)) is short)
-    ∷ (told (placed_answer Placed.NoOutline) is says "none\n")
-    ∷ (told (placed_answer (Placed.Corner 1)) is says "corner 1\n")
-    ∷ (told (placed_answer (Placed.Edge 1 2)) is says "edge 1 2\n")
-    ∷ (told (placed_answer Placed.Inside) is says "inside\n")
-    ∷ (told (placed_answer (Placed.Outside 1)) is says "outside 1\n")
-    ∷ (told (placed_answer (Placed.Refused Refusal.ShortList)) is short)
-    ∷ (told (doubled_answer (Doubled.Value (pos 39))) is says "area 39\n")
-    ∷ (told (doubled_answer (Doubled.Refused Refusal.ShortList)) is short)
-    ∷ (told (marked_answer Marked.Right) is says "right\n")
-    ∷ (told (marked_answer Marked.Wrong) is says "wrong\n")
-    ∷ (told (marked_answer (Marked.Refused Refusal.ShortList)) is short)
-    ∷ (told (written_answer (Written.Length 1)) is says "length 1\n")
-    ∷ (told (written_answer (Written.Refused Refusal.ShortList)) is short)
-    ∷ (told (line_answer (Line.Named (at (pos 1) (neg_ℤ (pos 2))))) is says "point 1 -2\n")
-    ∷ (told (line_answer (Line.Refused Refusal.ShortList)) is short)
+    ∷ (told (oriented_answer (Ok (neg_ℤ (pos 12)))) is says "orientation -12\n")
+    ∷ (told (oriented_answer (Err Refusal.ShortList)) is short)
+    ∷ (told (arrival_answer (Ok Arrival.First)) is says "first\n")
+    ∷ (told (arrival_answer (Ok Arrival.Second)) is says "second\n")
+    ∷ (told (arrival_answer (Ok Arrival.Inside)) is says "inside\n")
+    ∷ (told (arrival_answer (Ok (Arrival.Outside 1 2 3))) is says "outside 1 2 3\n")
+    ∷ (told (arrival_answer (Err Refusal.ShortList)) is short)
+    ∷ (told (outcome_answer {A = ⊤} (Ok tt)) is says "served\n")
+    ∷ (told (outcome_answer {A = ⊤} (Err Refusal.ShortList)) is short)
+    ∷ (told (orbit_answer (Ok three_words)) is says "orbit 7 8 9\n")
+    ∷ (told (orbit_answer (Err Refusal.ShortList)) is short)
+    ∷ (told (counted_answer (Ok five_counts)) is says "counts 1 2 3 4 5\n")
+    ∷ (told (counted_answer (Err Refusal.ShortList)) is short)
+    ∷ (told (walked_answer (Ok (walk_to Ending.Home))) is says "home 1 2\n")
+    ∷ (told (walked_answer (Ok (walk_to Ending.Loose))) is says "loose 1 2\n")
+    ∷ (told (walked_answer (Err Refusal.ShortList)) is short)
+    ∷ (told (moved_answer (Ok (walker_at 5))) is says "dart 5\n")
+    ∷ (told (moved_answer (Err Refusal.ShortList)) is short)
+    ∷ (told (placed_answer (Ok Placed.NoOutline)) is says "none\n")
+    ∷ (told (placed_answer (Ok (Placed.Corner 1))) is says "corner 1\n")
+    ∷ (told (placed_answer (Ok (Placed.Edge 1 2))) is says "edge 1 2\n")
+    ∷ (told (placed_answer (Ok Placed.Inside)) is says "inside\n")
+    ∷ (told (placed_answer (Ok (Placed.Outside 1))) is says "outside 1\n")
+    ∷ (told (placed_answer (Err Refusal.ShortList)) is short)
+    ∷ (told (doubled_answer (Ok (pos 39))) is says "area 39\n")
+    ∷ (told (doubled_answer (Err Refusal.ShortList)) is short)
+    ∷ (told (marked_answer (Ok true)) is says "right\n")
+    ∷ (told (marked_answer (Ok false)) is says "wrong\n")
+    ∷ (told (marked_answer (Err Refusal.ShortList)) is short)
+    ∷ (told (written_answer (Ok 1)) is says "length 1\n")
+    ∷ (told (written_answer (Err Refusal.ShortList)) is short)
+    ∷ (told (line_answer (Ok (at (pos 1) (neg_ℤ (pos 2))))) is says "point 1 -2\n")
+    ∷ (told (line_answer (Err Refusal.ShortList)) is short)
     ∷ []
 
 -- ---- limits
@@ -279,12 +271,12 @@ orbit_sizes m d =
 
 moves : Map → ℕ → List (List ℕ)
 moves m d =
-    map (λ link. told (moved_answer (walker_call m link d).value))
+    map (λ link. told (moved_answer (Ok (walker_call m link d).value)))
     (Link.None ∷ Link.Edge ∷ Link.Point ∷ [])
 
 -- where points lie
 placings : Map → List Point → List (List ℕ)
-placings m ps = map (λ p. told (placed_answer (place_call m p).value)) ps
+placings m ps = map (λ p. told (placed_answer (Ok (place_call m p).value))) ps
 
 -- both sides of the two sums
 sums : Run → List ℕ
@@ -376,8 +368,8 @@ rails =
     is bytes
     "OUTLINE 1\n0 first\n1 second\n2 outside 1 0 1\n3 outside 2 0 1\n4 outside 0 2 2\ncorners 0 4 2 3\ncounts 10 5 6 3 2\n")
     -- "A point on an edge arrives as inside": of the session's first triangle, and (2,2) after four points
-    ∷ (printed (arrival_answer (offer (after 3) (at (pos 2) (pos 0))).arrival) is bytes "inside\n")
-    ∷ (printed (arrival_answer (offer (after 4) (at (pos 2) (pos 2))).arrival) is bytes "inside\n")
+    ∷ (printed (offer_answer (offer (after 3) (at (pos 2) (pos 0)))) is bytes "inside\n")
+    ∷ (printed (offer_answer (offer (after 4) (at (pos 2) (pos 2)))) is bytes "inside\n")
     -- "strictly between whose ends it lies": a point between them, both ends, and a point beyond
     ∷ (map (λ x. one_if (strictly_between (at (pos 0) (pos 0)) (at (pos 4) (pos 0)) (at (pos x) (pos 0))))
     (1 ∷ 0 ∷ 4 ∷ 5 ∷ [])
@@ -531,12 +523,12 @@ unfolding table_onto all any sum count one_if table elem all_in all_places any_i
     is_present edge_link point_link face_link empty_map next_corner previous_corner corners_from
     outline sees visible_edges lowest_corner corners note agree building_rules built sound links_of number_of darts counts
     cut join turning_left turning_right is_farther is_beyond farther left_corner right_corner
-    with_point alone pair spliced later_point arrive is_repeated offer is_accepted extended run_from
+    with_point alone pair spliced later_point arrive is_repeated offer extended_by extended run_from
     run reported reported_edges is_outside outside_arrivals edges_seen strictly_visible place_among
     big_endian number_at complement signed block coordinate header notes_length packed_note notes_in saved_in file_in_form_of file_in_form map_in is_digit has_minus
     digits value_after magnitude is_number number_value line_read in_first_line lines one_line spaced printed
     offer_line closing arrivals report session after far same_by told says short refusals
-    orbit_with five_counts walk_to answers number_of_rules crowded beyond_far limits five with_xs
+    arrival_of map_after three_words five_counts walk_to answers number_of_rules crowded beyond_far limits five with_xs
     with_links with_reference with_notes chained unsound_maps other_maps other_notes soundness noted_of orbit_sizes moves placings
     sums of_session of_few rail of_rail rails one_point_old one_point with_y file_numbers files number_of_line lent_line texts further_questions
 further_answers_are_right = tt

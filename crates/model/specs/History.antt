@@ -4,6 +4,8 @@
 -- → Balanced (performed acts)` is demand 3, of which `(ps : List Point) → Balanced (run ps)` is the part
 -- without removals.
 use Rattle.std.specs.Prelude.{◌≡◌, ◌↔◌, ◌≢◌, Bool, true, false, cond, List, [], ◌∷◌, ◌++◌, map, ℕ, ◌+◌, ◌*◌, ◌-◌, ◌≤◌, ◌<◌, T, length, take}
+use Rattle.std.specs.declared.result.Result.{Result}
+use Rattle.std.specs.declared.result.Result.TheVariants.{Ok, Err}
 use Rattle.finite.specs.Bounded.{table}
 use Rattle.finite.specs.Lists.{elem, distinct, count_in, total}
 use Rattle.orbits.specs.Classes.{is_closed, closed_walks}
@@ -12,7 +14,8 @@ use Rattle.model.specs.declared.Kind.{Kind}
 use Rattle.model.specs.declared.Point.{Point}
 use Rattle.model.specs.declared.Map.{Map}
 use Rattle.model.specs.declared.Arrival.{Arrival}
-use Rattle.model.specs.declared.Outcome.{Outcome}
+use Rattle.model.specs.declared.Offered.{Offered}
+use Rattle.model.specs.declared.Refusal.{Refusal}
 use Rattle.model.specs.Plane.{left_of, beside}
 use Rattle.model.specs.Maps.{own, helper, is_own, point, is_present, edge_link, point_link, dart_bound, empty_map}
 use Rattle.model.specs.Outline.{next_corner, outline, visible_edges}
@@ -31,22 +34,16 @@ pub record Run : Type 0 where
   pub map : Map
   pub history : List Entry
 
-unfoldable pub is_accepted : Arrival → Bool
-is_accepted Arrival.First = true
-is_accepted Arrival.Second = true
-is_accepted Arrival.Inside = true
-is_accepted (Arrival.Outside l r v) = true
-is_accepted (Arrival.Refused r) = false
-
--- "A refused offer adds nothing to it." The map goes on as `offer` gives it.
-unfoldable pub extended : Run → Point → Run
-extended r p =
-    let o = offer r.map p in
+-- "A refused offer adds nothing to it", and the map stays; an accepted one adds its entry, and the map goes
+-- on as `offer` gives it.
+unfoldable pub extended_by : Run → Point → Result Offered Refusal → Run
+extended_by r p (Ok o) =
     let entry : Entry = record { before = r.map; offered = p; arrival = o.arrival } in
-    record {
-      map = o.map;
-      history = cond (is_accepted o.arrival) (r.history ++ entry ∷ []) r.history;
-    }
+    record { map = o.map; history = r.history ++ entry ∷ [] }
+extended_by r p (Err x) = r
+
+unfoldable pub extended : Run → Point → Run
+extended r p = extended_by r p (offer r.map p)
 
 unfoldable pub run_from : Run → List Point → Run
 run_from r [] = r
@@ -61,18 +58,13 @@ pub data Action : Type 0 where
   offering : Point → Action
   taking_back : Action
 
-unfoldable pub is_served : Outcome → Bool
-is_served Outcome.Served = true
-is_served (Outcome.Refused r) = false
+-- "its histories .. leave out arrivals taken back". The map goes on as `remove` gives it, or stays.
+unfoldable pub taken_back_by : Run → Result Map Refusal → Run
+taken_back_by r (Ok m) = record { map = m; history = take (length r.history - 1) r.history }
+taken_back_by r (Err x) = r
 
--- "its histories .. leave out arrivals taken back". The map goes on as `remove` gives it.
 unfoldable pub taken_back : Run → Run
-taken_back r =
-    let o = remove r.map in
-    record {
-      map = o.map;
-      history = cond (is_served o.outcome) (take (length r.history - 1) r.history) r.history;
-    }
+taken_back r = taken_back_by r (remove r.map)
 
 unfoldable pub acted : Run → Action → Run
 acted r (offering p) = extended r p
@@ -96,7 +88,6 @@ reported Arrival.First = 0
 reported Arrival.Second = 0
 reported Arrival.Inside = 0
 reported (Arrival.Outside l r v) = v
-reported (Arrival.Refused r) = 0
 
 unfoldable pub reported_edges : Entry → ℕ
 reported_edges e = reported e.arrival
@@ -109,7 +100,6 @@ is_outside Arrival.First = false
 is_outside Arrival.Second = false
 is_outside Arrival.Inside = false
 is_outside (Arrival.Outside l r v) = true
-is_outside (Arrival.Refused r) = false
 
 unfoldable pub outside_arrivals : List Entry → ℕ
 outside_arrivals = count_in (λ e. is_outside e.arrival)

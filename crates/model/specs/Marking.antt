@@ -3,11 +3,10 @@
 -- Document 02, request 103: "From a point list and a claimed list of point numbers, say right or wrong without
 -- building the map. Right means: the claim is the corner listing, begun at any corner." The map is built here, in
 -- the definition; the code builds none.
-use Rattle.std.specs.Prelude.{Bool, cond, List, [], ◌∷◌, ◌++◌, ℕ, suc, ℤ, length, take, drop}
+use Rattle.std.specs.Prelude.{Bool, List, [], ◌∷◌, ◌++◌, ℕ, suc, ℤ, length, take, drop}
 use Rattle.finite.specs.Bounded.{any}
 use Rattle.finite.specs.Lists.{same_list}
 use Rattle.model.specs.declared.Point.{Point}
-use Rattle.model.specs.declared.Marked.{Marked}
 use Rattle.model.specs.Answers.{Call, marked_answer}
 use Rattle.model.specs.Plane.{at}
 use Rattle.model.specs.Maps.{empty_map}
@@ -30,11 +29,10 @@ is_rotation claim s = any (suc (length s)) (λ i. same_list claim (begun_at i s)
 
 -- "A point list whose offers from empty are not all accepted returns the first refusal met." A claim with a
 -- number beyond the points is no listing.
-abbrev pub mark_call : List Point → List ℕ → Call Marked
+abbrev pub mark_call : List Point → List ℕ → Call Bool
 mark_call ps claim =
     record {
       meaning = marked_answer;
-      refuse = Marked.Refused;
       rules = building_rules empty_map ps;
-      value = cond (is_rotation claim (corners (built empty_map ps))) Marked.Right Marked.Wrong;
+      value = is_rotation claim (corners (built empty_map ps));
     }

@@ -20,7 +20,7 @@ use Rattle.model.specs.Sound.{agree, sound}
 use Rattle.model.specs.Arrival.{cut, join, turning_left, turning_right, is_farther, is_beyond, farther, left_corner, right_corner}
 use Rattle.model.specs.Arrival.{with_point, alone, pair, spliced, later_point, arrive, is_repeated}
 use Rattle.model.specs.Offers.{offer}
-use Rattle.model.specs.History.{is_accepted, extended, run_from, run}
+use Rattle.model.specs.History.{extended_by, extended, run_from, run}
 use Rattle.model.specs.Text.{is_digit, has_minus, digits, value_after, magnitude, is_number, number_value, leading_digits, front}
 use Rattle.model.specs.Report.{spaced}
 use Rattle.model.specs.Outlines.{point_text, joined, outline_text, corner_points, starts_with, is_word, second, is_position, position, after_position, with_first, positions, positions_in, exactly, ring_of, corners_in, is_some, or_none, is_outline, corners_spelt, lowest_is_first, all_support, listable, outline_rules, coordinates}
@@ -130,7 +130,7 @@ unfolding table_onto all any sum count one_if table elem all_in all_places any_i
     point has_helper is_present edge_link point_link empty_map next_corner previous_corner
     corners_from outline sees visible_edges lowest_corner corners note agree building_rules built sound cut join
     turning_left turning_right is_farther is_beyond farther left_corner right_corner with_point
-    alone pair spliced later_point arrive is_repeated offer is_accepted extended run_from run
+    alone pair spliced later_point arrive is_repeated offer extended_by extended run_from run
     is_digit has_minus digits value_after magnitude is_number number_value leading_digits front
     spaced point_text joined outline_text corner_points starts_with is_word second is_position
     position after_position with_first positions positions_in exactly ring_of corners_in is_some

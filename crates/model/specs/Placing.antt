@@ -47,7 +47,6 @@ abbrev pub place_call : Map → Point → Call Placed
 place_call m p =
     record {
       meaning = placed_answer;
-      refuse = Placed.Refused;
       rules = unsound m ∷ (Refusal.OutOfRange when not (in_range p)) ∷ [];
       value = cond (ltb m.count 2) Placed.NoOutline (place_among m p);
     }

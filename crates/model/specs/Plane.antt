@@ -4,11 +4,11 @@
 -- Document 01, "Orientation and arrival" and the coordinates of "What the engine holds"; document 02,
 -- requests 105 and 106. The numbers are whole numbers without a bound: a `Point` of antt holds two of ℤ.
 use Rattle.std.specs.Prelude.{Bool, not, ◌&&◌, ◌||◌, [], ◌∷◌, ℕ, ◌*◌, ℤ, pos, neg_ℤ, ◌+ℤ◌, ◌-ℤ◌, ◌*ℤ◌}
+use Rattle.std.specs.declared.result.Result.{Result}
 use Rattle.std.specs.Int.Signed.{lt_z, le_z}
 use Rattle.integers.specs.Order.{eq_z}
 use Rattle.model.specs.declared.Refusal.{Refusal}
 use Rattle.model.specs.declared.Point.{Point}
-use Rattle.model.specs.declared.Oriented.{Oriented}
 use Rattle.model.specs.Refusals.{◌when◌}
 use Rattle.model.specs.Answers.{Call, answer_of, oriented_answer}
 
@@ -69,16 +69,15 @@ unfoldable pub sees_edge : Point → Point → Point → Bool
 sees_edge a b c = not (beside a b c)
 
 -- the orientation of three points, or number 3
-abbrev pub orientation_call : Point → Point → Point → Call Oriented
+abbrev pub orientation_call : Point → Point → Point → Call ℤ
 orientation_call a b c =
     record {
       meaning = oriented_answer;
-      refuse = Oriented.Refused;
       rules = (Refusal.OutOfRange when not (in_range a && in_range b && in_range c)) ∷ [];
-      value = Oriented.Value (orientation a b c);
+      value = orientation a b c;
     }
 
-unfoldable pub oriented : Point → Point → Point → Oriented
+unfoldable pub oriented : Point → Point → Point → Result ℤ Refusal
 oriented a b c = answer_of (orientation_call a b c)
 
 -- p comes before q in "the smallest y, then the smallest x"

@@ -3,12 +3,16 @@
 -- number 5 and its case, (2,2) after four points: what that offer gets now is one of our questions.
 use mathlib.Core.List.{List, [], ◌∷◌, map, flat_map, flatten}
 use Rattle.std.specs.Prelude.{ℕ, ◌+◌, ◌^◌, T, ℤ, pos, neg_ℤ, take, replicate}
+use Rattle.std.specs.declared.result.Result.{Result}
+use Rattle.std.specs.declared.result.Result.TheVariants.{Ok, Err}
 use Rattle.finite.specs.Bounded.{all, any, sum, count, one_if, table_onto, table}
 use Rattle.finite.specs.Lists.{elem, same_by, same_list, all_in, all_places, any_in, count_in, first_in, before, beyond, ring, insert, union}
+use Rattle.orbits.specs.declared.DartSet.{DartSet}
 use Rattle.orbits.specs.Reach.{spread, reached, reaches}
 use Rattle.orbits.specs.Classes.{is_least, classes, is_fixed, is_closed, closed_walks}
 use Rattle.orbits.specs.Walks.{edge_step, point_step, walk}
 use Rattle.orbits.specs.Sets.{bits, set_of}
+use Rattle.model.specs.declared.Refusal.{Refusal}
 use Rattle.model.specs.declared.Point.{Point}
 use Rattle.model.specs.declared.Map.{Map}
 use Rattle.model.specs.declared.Kind.{Kind}
@@ -20,11 +24,11 @@ use Rattle.model.specs.Outline.{next_corner, previous_corner, corners_from, outl
 use Rattle.model.specs.Building.{building_rules, built}
 use Rattle.model.specs.Sound.{agree, sound}
 use Rattle.model.specs.Reading.{links_of, number_of, darts, counts, counted, orbit_of, walked}
-use Rattle.model.specs.Answers.{oriented_answer, arrival_answer, counted_answer, walked_answer}
+use Rattle.model.specs.Answers.{oriented_answer, arrival_answer, arrival_of, offer_answer, counted_answer, walked_answer}
 use Rattle.model.specs.Arrival.{cut, join, turning_left, turning_right, is_farther, is_beyond, farther, left_corner, right_corner}
 use Rattle.model.specs.Arrival.{with_point, alone, pair, spliced, later_point, arrive, is_repeated}
-use Rattle.model.specs.Offers.{offer}
-use Rattle.model.specs.History.{is_accepted, extended, run_from, run}
+use Rattle.model.specs.Offers.{offer, map_after}
+use Rattle.model.specs.History.{extended_by, extended, run_from, run}
 use Rattle.model.specs.Saved.{big_endian, complement, block, coordinate, header, notes_length, packed_note, notes_in, saved_in, saved}
 use Rattle.model.specs.Text.{is_digit, has_minus, digits, value_after, magnitude, is_number, number_value, line_read, in_first_line, lines}
 use Rattle.model.specs.Report.{spaced, printed, offer_line, closing, arrivals, report}
@@ -49,7 +53,15 @@ unfoldable pub after : ℕ → Map
 after n = (run (take n session)).map
 
 offered : Map → ℤ → ℤ → List ℕ
-offered m x y = printed (arrival_answer (offer m (at x y)).arrival)
+offered m x y = printed (offer_answer (offer m (at x y)))
+
+words_of : Result DartSet Refusal → List ℕ
+words_of (Ok s) = s.words
+words_of (Err r) = []
+
+size_of : Result DartSet Refusal → List ℕ
+size_of (Ok s) = s.size ∷ []
+size_of (Err r) = []
 
 orientation_of : Point → Point → Point → List ℕ
 orientation_of a b c = printed (oriented_answer (oriented a b c))
@@ -71,8 +83,8 @@ questions =
     -- with edge links 2-11, 10-5, 6 and 7 fixed
     ∷ (map (edge_link (after 6)) (2 ∷ 11 ∷ 10 ∷ 5 ∷ 6 ∷ 7 ∷ []) is 11 ∷ 2 ∷ 5 ∷ 10 ∷ 6 ∷ 7 ∷ [])
     -- the inner face, and both walks
-    ∷ ((orbit_of (after 6) Kind.Face 0).darts.words is (2 ^ 0 + 2 ^ 2 + 2 ^ 4 + 2 ^ 10) ∷ replicate 15 0)
-    ∷ ((orbit_of (after 6) Kind.Face 0).darts.size ∷ [] is 4 ∷ [])
+    ∷ (words_of (orbit_of (after 6) Kind.Face 0) is (2 ^ 0 + 2 ^ 2 + 2 ^ 4 + 2 ^ 10) ∷ replicate 15 0)
+    ∷ (size_of (orbit_of (after 6) Kind.Face 0) is 4 ∷ [])
     ∷ (printed (walked_answer (walked (after 6) 0)) is bytes "home 0 8\n")
     ∷ (printed (walked_answer (walked (after 6) 6)) is bytes "loose 6 0\n")
     -- counts of none, one and two points
@@ -101,9 +113,9 @@ unfolding table_onto all any sum count one_if table elem all_in all_places any_i
     in_line beside sees_edge strictly_between lower other_dart point has_helper is_present
     edge_link point_link face_link empty_map next_corner previous_corner corners_from outline sees visible_edges
     lowest_corner corners note agree building_rules built sound links_of number_of darts counts counted
-    orbit_of walked oriented_answer arrival_answer counted_answer walked_answer oriented cut join
+    orbit_of words_of size_of walked oriented_answer arrival_answer arrival_of map_after counted_answer walked_answer oriented cut join
     turning_left turning_right is_farther is_beyond farther left_corner right_corner with_point
-    alone pair spliced later_point arrive is_repeated offer is_accepted extended run_from run
+    alone pair spliced later_point arrive is_repeated offer extended_by extended run_from run
     big_endian complement block coordinate header notes_length packed_note notes_in saved_in is_digit has_minus digits value_after magnitude is_number number_value line_read in_first_line lines
     spaced printed offer_line closing arrivals report session after offered orientation_of counts_of million
     questions same_by

@@ -3,21 +3,19 @@
 -- Document 01, "Reading a map". Parts are the field's connected components.
 use Rattle.std.specs.Prelude.{not, List, [], ◌∷◌, ℕ}
 use Rattle.finite.specs.Bounded.{count}
+use Rattle.std.specs.declared.result.Result.{Result}
 use Rattle.orbits.specs.declared.DartSet.{DartSet}
+use Rattle.orbits.specs.declared.Walk.{Walk}
+use Rattle.orbits.specs.declared.Walker.{Walker}
 use Rattle.orbits.specs.Reach.{by_one, by_two, reaches}
 use Rattle.orbits.specs.Classes.{classes}
 use Rattle.orbits.specs.Walks.{walk, walker_at}
-use Rattle.orbits.specs.Sets.{set_of, no_darts}
+use Rattle.orbits.specs.Sets.{set_of}
 use Rattle.model.specs.declared.Refusal.{Refusal}
 use Rattle.model.specs.declared.Map.{Map}
 use Rattle.model.specs.declared.Kind.{Kind}
-use Rattle.model.specs.declared.Orbit.{Orbit}
-use Rattle.model.specs.declared.Outcome.{Outcome}
 use Rattle.model.specs.declared.Counts.{Counts}
-use Rattle.model.specs.declared.Counted.{Counted}
-use Rattle.model.specs.declared.Walked.{Walked}
 use Rattle.model.specs.declared.Link.{Link}
-use Rattle.model.specs.declared.Moved.{Moved}
 use Rattle.model.specs.Refusals.{Rule, ◌when◌}
 use Rattle.model.specs.Answers.{Call, answer_of, orbit_answer, counted_answer, walked_answer, moved_answer}
 use Rattle.model.specs.Maps.{is_present, edge_link, point_link, face_link, dart_bound}
@@ -60,48 +58,41 @@ absent m d = Refusal.NoDart when not (is_present m d)
 abbrev pub dart_rules : Map → ℕ → List Rule
 dart_rules m d = unsound m ∷ absent m d ∷ []
 
-abbrev pub counts_call : Map → Call Counted
+abbrev pub counts_call : Map → Call Counts
 counts_call m =
     record {
       meaning = counted_answer;
-      refuse = Counted.Refused;
       rules = unsound m ∷ [];
-      value = Counted.Numbers (counts m);
+      value = counts m;
     }
 
-unfoldable pub counted : Map → Counted
+unfoldable pub counted : Map → Result Counts Refusal
 counted m = answer_of (counts_call m)
 
 -- the darts of an orbit as a set
 abbrev pub orbit_set : Map → Kind → ℕ → DartSet
 orbit_set m kind d = set_of (reaches (links_of m kind) (dart_bound m) d)
 
--- a refused call has the empty set beside its refusal
-abbrev pub no_orbit : Refusal → Orbit
-no_orbit r = record { outcome = Outcome.Refused r; darts = no_darts }
-
-abbrev pub orbit_call : Map → Kind → ℕ → Call Orbit
+abbrev pub orbit_call : Map → Kind → ℕ → Call DartSet
 orbit_call m kind d =
     record {
       meaning = orbit_answer;
-      refuse = no_orbit;
       rules = dart_rules m d;
-      value = record { outcome = Outcome.Served; darts = orbit_set m kind d };
+      value = orbit_set m kind d;
     }
 
-unfoldable pub orbit_of : Map → Kind → ℕ → Orbit
+unfoldable pub orbit_of : Map → Kind → ℕ → Result DartSet Refusal
 orbit_of m kind d = answer_of (orbit_call m kind d)
 
-abbrev pub walk_call : Map → ℕ → Call Walked
+abbrev pub walk_call : Map → ℕ → Call Walk
 walk_call m d =
     record {
       meaning = walked_answer;
-      refuse = Walked.Refused;
       rules = dart_rules m d;
-      value = Walked.Ended (walk (edge_link m) (point_link m) (darts m) d);
+      value = walk (edge_link m) (point_link m) (darts m) d;
     }
 
-unfoldable pub walked : Map → ℕ → Walked
+unfoldable pub walked : Map → ℕ → Result Walk Refusal
 walked m d = answer_of (walk_call m d)
 
 -- where a walker comes that is moved by a link, or by none
@@ -112,11 +103,10 @@ along Link.Point m d = point_link m d
 
 -- "A walker can be moved by one link and shows the dart it has reached." Moved by none, it is only
 -- started; one that stands at an absent dart is refused.
-abbrev pub walker_call : Map → Link → ℕ → Call Moved
+abbrev pub walker_call : Map → Link → ℕ → Call Walker
 walker_call m link d =
     record {
       meaning = moved_answer;
-      refuse = Moved.Refused;
       rules = dart_rules m d;
-      value = Moved.At (walker_at (along link m d));
+      value = walker_at (along link m d);
     }

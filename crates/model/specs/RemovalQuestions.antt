@@ -15,9 +15,9 @@ use Rattle.model.specs.Building.{building_rules, built}
 use Rattle.model.specs.Sound.{agree, sound}
 use Rattle.model.specs.Arrival.{cut, join, turning_left, turning_right, is_farther, is_beyond, farther, left_corner, right_corner}
 use Rattle.model.specs.Arrival.{with_point, alone, pair, spliced, later_point, arrive, is_repeated}
-use Rattle.model.specs.Offers.{offer}
-use Rattle.model.specs.Removal.{before_last, remove}
-use Rattle.model.specs.History.{Run, is_accepted, extended, run_from, run, Action, offering, taking_back, is_served, taken_back, acted, performed_from, performed, reported, reported_edges, is_outside, outside_arrivals}
+use Rattle.model.specs.Offers.{offer, map_after}
+use Rattle.model.specs.Removal.{before_last, remove, map_left}
+use Rattle.model.specs.History.{Run, extended_by, extended, run_from, run, Action, offering, taking_back, taken_back_by, taken_back, acted, performed_from, performed, reported, reported_edges, is_outside, outside_arrivals}
 use Rattle.model.specs.Questions.{Question, ◌is◌, session, after}
 use Rattle.model.specs.OutlineQuestions.{on_rail}
 
@@ -25,7 +25,8 @@ use Rattle.model.specs.OutlineQuestions.{on_rail}
 taken : Map → List ℕ
 taken m =
     let o = remove m in
-    (outcome_answer o.outcome).number ∷ o.map.count ∷ o.map.reference ∷ table 12 (edge_link o.map)
+    let n = map_left m o in
+    (outcome_answer o).number ∷ n.count ∷ n.reference ∷ table 12 (edge_link n)
 
 -- the map with this reference
 with_reference : ℕ → Map → Map
@@ -60,7 +61,7 @@ removal_questions =
     -- a rail: the farther corner's two darts, 0 and 1, are joined with 3 and 2 again
     ∷ (taken (run on_rail).map is 0 ∷ 2 ∷ 2 ∷ 3 ∷ 2 ∷ 1 ∷ 0 ∷ 4 ∷ 5 ∷ 6 ∷ 7 ∷ 8 ∷ 9 ∷ 10 ∷ 11 ∷ [])
     -- "Offering the point again brings back the same map."
-    ∷ (one_if (agree (offer (remove (after 6)).map (at (pos 6) (pos 7))).map (after 6)) ∷ [] is 1 ∷ [])
+    ∷ (one_if (agree (map_after empty_map (offer (map_left empty_map (remove (after 6))) (at (pos 6) (pos 7)))) (after 6)) ∷ [] is 1 ∷ [])
     -- "leave out arrivals taken back": 1 + 1 + 4 = 2 × 2 + 2
     ∷ (tallied (performed acts) is 5 ∷ 2 ∷ 2 ∷ 4 ∷ 1 ∷ [])
     ∷ []
@@ -72,7 +73,7 @@ unfolding table_onto all any sum count one_if table elem all_in all_places any_i
     visible_from in_line beside sees_edge strictly_between lower other_dart point has_helper is_present edge_link point_link
     empty_map next_corner previous_corner corners_from outline sees visible_edges note agree building_rules built sound cut
     join turning_left turning_right is_farther is_beyond farther left_corner right_corner with_point alone pair spliced
-    later_point arrive is_repeated offer before_last remove is_accepted extended run_from run is_served taken_back acted
+    later_point arrive is_repeated offer map_after before_last remove map_left extended_by extended run_from run taken_back_by taken_back acted
     performed_from performed reported reported_edges is_outside outside_arrivals session after on_rail taken with_reference
     acts tallied removal_questions same_by
 removal_answers_are_right = tt

@@ -4,20 +4,19 @@
 -- and right corner, visible edges. A refused line prints `N refused R`. Counts are darts, vertices,
 -- edges, faces, parts. Each printed line ends in a line feed."
 use Rattle.std.specs.Prelude.{cond, List, [], ◌∷◌, ◌++◌, map, ℕ, suc, ltb, ℤ, pos, length}
+use Rattle.std.specs.declared.result.Result.{Result}
+use Rattle.std.specs.declared.result.Result.TheVariants.{Ok, Err}
 use Rattle.model.specs.declared.Refusal.{Refusal}
 use Rattle.model.specs.declared.Map.{Map}
-use Rattle.model.specs.declared.Line.{Line}
-use Rattle.model.specs.declared.Arrival.{Arrival}
+use Rattle.model.specs.declared.Point.{Point}
 use Rattle.model.specs.declared.Offered.{Offered}
-use Rattle.model.specs.declared.Counted.{Counted}
 use Rattle.model.specs.Spelling.{bytes, line_feed, space, spelt}
 use Rattle.model.specs.Refusals.{Rule, ◌when◌}
-use Rattle.model.specs.Answers.{Answer, served, refused, arrival_answer, counted_answer}
+use Rattle.model.specs.Answers.{Answer, served, refused, offer_answer, counted_answer}
 use Rattle.model.specs.Maps.{empty_map}
 use Rattle.model.specs.Outline.{corners}
 use Rattle.model.specs.Reading.{counts}
-use Rattle.model.specs.Arrival.{arrived}
-use Rattle.model.specs.Offers.{offer}
+use Rattle.model.specs.Offers.{offer, map_after}
 use Rattle.model.specs.Text.{line_read, lines}
 
 -- "text above 65,536 bytes"
@@ -34,22 +33,22 @@ unfoldable pub printed : Answer → List ℕ
 printed answer = bytes answer.word ++ spaced answer.values ++ line_feed ∷ []
 
 -- a line that is not in form is refused and leaves the map
-unfoldable pub offer_line : Map → Line → Offered
-offer_line m (Line.Named p) = offer m p
-offer_line m (Line.Refused r) = arrived (Arrival.Refused r) m
+unfoldable pub offer_line : Map → Result Point Refusal → Result Offered Refusal
+offer_line m (Ok p) = offer m p
+offer_line m (Err r) = Err r
 
 -- the corners and the counts
 unfoldable pub closing : Map → List ℕ
 closing m =
     printed (served "corners" (map pos (corners m)))
-    ++ printed (counted_answer (Counted.Numbers (counts m)))
+    ++ printed (counted_answer (Ok (counts m)))
 
 -- the lines from number n on, offered to a map
 unfoldable pub arrivals : Map → ℕ → List (List ℕ) → List ℕ
 arrivals m n [] = closing m
 arrivals m n (l ∷ ls) =
     let o = offer_line m (line_read l) in
-    spelt (pos n) ++ space ∷ printed (arrival_answer o.arrival) ++ arrivals o.map (suc n) ls
+    spelt (pos n) ++ space ∷ printed (offer_answer o) ++ arrivals (map_after m o) (suc n) ls
 
 -- the report: "Number 9 prints the first line and `refused 9`, no more."
 unfoldable pub report : List ℕ → List ℕ

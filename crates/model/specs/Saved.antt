@@ -7,14 +7,13 @@
 -- Document 02, request 107: "Version 2 writes these after the edge links, n groups of 1, 2 and 2 bytes .. A
 -- version 2 file is 9 + 18 × n bytes. Version 1 files are still read, their records rebuilt".
 use Rattle.std.specs.Prelude.{Bool, false, not, cond, ◌&&◌, ◌||◌, ℕ, zero, suc, ◌+◌, ◌-◌, ◌*◌, ◌/◌, ◌%◌, ◌^◌, ◌<◌, ltb, leb, eqb, ℤ, pos, negsuc, length, get_or}
+use Rattle.std.specs.declared.result.Result.{Result}
 use mathlib.Core.List.{List, [], ◌∷◌, ◌++◌, flatten}
 use Rattle.finite.specs.Bounded.{one_if, all, table}
 use Rattle.orbits.specs.Sets.{dart_limit}
 use Rattle.model.specs.declared.Refusal.{Refusal}
 use Rattle.model.specs.declared.Point.{Point}
 use Rattle.model.specs.declared.Map.{Map}
-use Rattle.model.specs.declared.Outcome.{Outcome}
-use Rattle.model.specs.declared.Loaded.{Loaded}
 use Rattle.model.specs.Refusals.{◌when◌}
 use Rattle.model.specs.Answers.{Call, answer_of, outcome_answer}
 use Rattle.model.specs.Maps.{point_limit, no_dart, own, point_at, point, has_helper, edge_link, note, empty_map}
@@ -223,15 +222,14 @@ map_in s =
     }
 
 -- "loading looks at 7 before 1"
-abbrev pub load_call : List ℕ → Call Loaded
+abbrev pub load_call : List ℕ → Call Map
 load_call s =
     record {
-      meaning = λ l. outcome_answer l.outcome;
-      refuse = λ r. record { outcome = Outcome.Refused r; map = empty_map };
+      meaning = outcome_answer;
       rules = (Refusal.BadFile when not (file_in_form s)) ∷ unsound (map_in s) ∷ [];
-      value = record { outcome = Outcome.Served; map = map_in s };
+      value = map_in s;
     }
 
-unfoldable pub loaded : List ℕ → Loaded
+unfoldable pub loaded : List ℕ → Result Map Refusal
 loaded s =
     answer_of (load_call s)

@@ -3,9 +3,10 @@
 -- Document 01, "The text program": "A line is two numbers with one space between and a line feed;
 -- the last feed may be missing, and nothing follows it."; document 02, request 105.
 use Rattle.std.specs.Prelude.{Bool, not, cond, ◌&&◌, ◌||◌, List, [], ◌∷◌, ℕ, ◌+◌, ◌-◌, ◌*◌, leb, eqb, ℤ, pos, neg_ℤ, length, get_or}
+use Rattle.std.specs.declared.result.Result.{Result}
 use Rattle.finite.specs.Lists.{all_in, before, beyond}
 use Rattle.model.specs.declared.Refusal.{Refusal}
-use Rattle.model.specs.declared.Line.{Line}
+use Rattle.model.specs.declared.Point.{Point}
 use Rattle.model.specs.Refusals.{◌when◌}
 use Rattle.model.specs.Answers.{Call, answer_of, line_answer}
 use Rattle.model.specs.Spelling.{line_feed, space, minus, digit_zero}
@@ -53,18 +54,17 @@ front [] = []
 front (b ∷ s) = cond (eqb b minus) (b ∷ leading_digits s) (leading_digits (b ∷ s))
 
 -- "two numbers with one space between": the point that they name, or number 8
-abbrev pub bytes_call : List ℕ → Call Line
+abbrev pub bytes_call : List ℕ → Call Point
 bytes_call s =
     let first = before space s in
     let second = beyond space s in
     record {
       meaning = line_answer;
-      refuse = Line.Refused;
       rules = (Refusal.BadLine when not (is_number first && is_number second)) ∷ [];
-      value = Line.Named (record { x = number_value first; y = number_value second });
+      value = record { x = number_value first; y = number_value second };
     }
 
-unfoldable pub line_read : List ℕ → Line
+unfoldable pub line_read : List ℕ → Result Point Refusal
 line_read s = answer_of (bytes_call s)
 
 -- the lines with b before the first of them
@@ -84,5 +84,5 @@ one_line (l ∷ []) = l
 one_line (l ∷ k ∷ ls) = []
 
 -- a line that is lent by itself is a text of one line, so one feed may end it
-abbrev pub line_call : List ℕ → Call Line
+abbrev pub line_call : List ℕ → Call Point
 line_call s = bytes_call (one_line (lines s))

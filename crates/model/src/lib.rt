@@ -1,11 +1,12 @@
-// The declared types of the engine: what goes in and what comes out. Their meaning is in specs/. The
-// one function is the number of a refusal.
+// The declared types of the engine: what goes in and what comes out. Their meaning is in specs/. A call
+// that can be refused answers a `Result` whose error is a `Refusal`. The one function is the number of a
+// refusal.
 #![tactic(auto)]
 
 ghost use Rattle.std.specs.Prelude.{◌≡◌};
 ghost use Rattle.model.specs.Refusals.{number};
 
-use orbits::{DART_LIMIT, DartSet, Walk, Walker};
+use orbits::DART_LIMIT;
 
 // The most points that a map has.
 pub const POINT_LIMIT: usize = 512;
@@ -17,7 +18,7 @@ pub const NO_DART: usize = DART_LIMIT;
 pub const NONE_FREED: u16 = 1024;
 
 // A mark: whole numbers of thousandths of a millimetre.
-#[derive(Clone, Copy)]
+#[derive(Clone, Copy, PartialEq, Eq)]
 pub struct Point {
     pub x: i64,
     pub y: i64,
@@ -67,34 +68,29 @@ pub enum Refusal {
 }
 
 // The number of a refusal.
-#[tactic(auto, unfolding(crate::specs::Refusals::number))]
-pub fn refusal_number(r: Refusal) -> usize
-    ensures { result ≡ number r }
-{
-    match r {
-        Refusal::NotSound => 1,
-        Refusal::Full => 2,
-        Refusal::OutOfRange => 3,
-        Refusal::Repeated => 4,
-        Refusal::NoDart => 6,
-        Refusal::BadFile => 7,
-        Refusal::BadLine => 8,
-        Refusal::LongText => 9,
-        Refusal::ShortList => 10,
-        Refusal::BadOutline => 11,
-        Refusal::NoSurvey => 12,
-        Refusal::NoPoint => 13,
+impl From<Refusal> for usize {
+    ghost from_gives = { λ refusal n. n ≡ number refusal };
+
+    #[tactic(auto, unfolding(crate::specs::Refusals::number))]
+    fn from(refusal: Refusal) -> usize {
+        match refusal {
+            Refusal::NotSound => 1,
+            Refusal::Full => 2,
+            Refusal::OutOfRange => 3,
+            Refusal::Repeated => 4,
+            Refusal::NoDart => 6,
+            Refusal::BadFile => 7,
+            Refusal::BadLine => 8,
+            Refusal::LongText => 9,
+            Refusal::ShortList => 10,
+            Refusal::BadOutline => 11,
+            Refusal::NoSurvey => 12,
+            Refusal::NoPoint => 13,
+        }
     }
 }
 
-// The orientation of three points.
-#[derive(Clone, Copy)]
-pub enum Oriented {
-    Value(i64),
-    Refused(Refusal),
-}
-
-// What became of an offered point. Corners are named by their point numbers.
+// How an accepted point arrived. Corners are named by their point numbers.
 #[derive(Clone, Copy)]
 pub enum Arrival {
     First,
@@ -105,10 +101,9 @@ pub enum Arrival {
         right: usize,
         visible: usize,
     },
-    Refused(Refusal),
 }
 
-// The map after an offer, and what became of the point.
+// The map after an accepted offer, and how the point arrived.
 #[derive(Clone, Copy)]
 pub struct Offered {
     pub map: Map,
@@ -124,20 +119,6 @@ pub enum Kind {
     Part,
 }
 
-// Whether a call whose value is an array was served; the value stands beside it.
-#[derive(Clone, Copy)]
-pub enum Outcome {
-    Served,
-    Refused(Refusal),
-}
-
-// The orbit of a dart; the empty set where the call is refused.
-#[derive(Clone, Copy)]
-pub struct Orbit {
-    pub outcome: Outcome,
-    pub darts: DartSet,
-}
-
 // The numbers of darts, and of their vertices, edges, faces and connected parts.
 #[derive(Clone, Copy)]
 pub struct Counts {
@@ -148,31 +129,12 @@ pub struct Counts {
     pub parts: usize,
 }
 
-#[derive(Clone, Copy)]
-pub enum Counted {
-    Numbers(Counts),
-    Refused(Refusal),
-}
-
-#[derive(Clone, Copy)]
-pub enum Walked {
-    Ended(Walk),
-    Refused(Refusal),
-}
-
 // By which link a walker is moved.
 #[derive(Clone, Copy)]
 pub enum Link {
     None,
     Edge,
     Point,
-}
-
-// The walker that was moved.
-#[derive(Clone, Copy)]
-pub enum Moved {
-    At(Walker),
-    Refused(Refusal),
 }
 
 // Where a query point lies. Corners, and the ends of an edge, are named by their point numbers.
@@ -183,48 +145,4 @@ pub enum Placed {
     Edge { from: usize, to: usize },
     Inside,
     Outside(usize),
-    Refused(Refusal),
-}
-
-// Twice the area of an outline.
-#[derive(Clone, Copy)]
-pub enum Doubled {
-    Value(i64),
-    Refused(Refusal),
-}
-
-// Whether a claimed outline is the one that a list of points has.
-#[derive(Clone, Copy)]
-pub enum Marked {
-    Right,
-    Wrong,
-    Refused(Refusal),
-}
-
-// How many places of a lent list were written.
-#[derive(Clone, Copy)]
-pub enum Written {
-    Length(usize),
-    Refused(Refusal),
-}
-
-// The map of a file; the empty map where the file is refused.
-#[derive(Clone, Copy)]
-pub struct Loaded {
-    pub outcome: Outcome,
-    pub map: Map,
-}
-
-// The map before its last point; the map as it was where the call is refused.
-#[derive(Clone, Copy)]
-pub struct Removed {
-    pub outcome: Outcome,
-    pub map: Map,
-}
-
-// The point that a line of text names.
-#[derive(Clone, Copy)]
-pub enum Line {
-    Named(Point),
-    Refused(Refusal),
 }

@@ -1,40 +1,49 @@
 -- Sound maps: two maps agree just where they are the same; a map is sound just where none of its points is
 -- refused and they build it (`sound_is`, `sound_by`).
 use mathlib.Core.Path.{◌≡◌, refl, sym, subst}
-use mathlib.Core.Bool.{Bool, false, beq}
-use mathlib.Core.List.{List}
+use mathlib.Core.Bool.{Bool, false, beq, ◌&&◌}
 use lib.Dec.{T, eqb, eqb→eq, eqb_refl}
-use lib.IntN.{ℤ}
-use Rattle.integers.specs.Order.{eq_z, eq_z_true, eq_eq_z}
-use Rattle.finite.specs.Tests.{beq_eq, beq_refl, and_left, and_right, and_both, is_true, of_true}
+use Rattle.finite.specs.Tests.{beq_eq, beq_refl, and_left, and_right, and_both}
 use Rattle.finite.specs.Lists.{same_by, same_list}
 use Rattle.finite.specs.ListLaws.{same_by_eq, same_by_refl, same_list_eq, same_list_refl}
+use Rattle.model.specs.declared.Note.{Note}
 use Rattle.model.specs.declared.Map.{Map}
 use Rattle.model.specs.Refusals.{NoneApplies}
+use Rattle.model.specs.Plane.{same_point}
+use Rattle.model.proofs.Shape.{same_point_eq, same_point_by}
 use Rattle.model.specs.Maps.{empty_map, map_points}
 use Rattle.model.specs.Building.{building_rules, built}
-use Rattle.model.specs.Sound.{agree, sound}
+use Rattle.model.specs.Sound.{same_note, agree, sound}
 use Rattle.model.proofs.Answers.{RulesDecide, refuses, serves, unless_decides, unless_none}
 
 -- ---- maps that agree
 
-same_coordinates : (s t : List ℤ) → T (same_by eq_z s t) → s ≡ t
-same_coordinates = same_by_eq eq_z (λ x y t. eq_z_true x y (is_true (eq_z x y) t))
+pub same_note_eq : (n o : Note) → T (same_note n o) → n ≡ o
+unfolding same_note
+same_note_eq n o t =
+    let arrivals = eqb n.arrival o.arrival in
+    let lefts = eqb n.left o.left in
+    let rights = eqb n.right o.right in
+    let front = and_left (arrivals && lefts) rights t in
+    let ea = eqb→eq n.arrival o.arrival (and_left arrivals lefts front) in
+    let el = eqb→eq n.left o.left (and_right arrivals lefts front) in
+    let er = eqb→eq n.right o.right (and_right (arrivals && lefts) rights t) in
+    λ i. record { arrival = ea i; left = el i; right = er i }
 
-own_coordinates : (s : List ℤ) → T (same_by eq_z s s)
-own_coordinates = same_by_refl eq_z (λ x. of_true (eq_z x x) (eq_eq_z {a = x} refl))
+pub same_note_refl : (n : Note) → T (same_note n n)
+unfolding same_note
+same_note_refl n =
+    and_both (eqb n.arrival n.arrival && eqb n.left n.left) (eqb n.right n.right)
+    (and_both (eqb n.arrival n.arrival) (eqb n.left n.left) (eqb_refl n.arrival) (eqb_refl n.left)) (eqb_refl n.right)
 
 -- field by field
 pub record Agrees (m n : Map) : Type 0 where
   pub counts : T (eqb m.count n.count)
   pub references : T (eqb m.reference n.reference)
-  pub xs : T (same_by eq_z m.xs n.xs)
-  pub ys : T (same_by eq_z m.ys n.ys)
+  pub points : T (same_by same_point m.points n.points)
   pub helpers : T (same_by beq m.helpers n.helpers)
   pub edges : T (same_list m.edge n.edge)
-  pub arrivals : T (same_list m.arrivals n.arrivals)
-  pub lefts : T (same_list m.lefts n.lefts)
-  pub rights : T (same_list m.rights n.rights)
+  pub notes : T (same_by same_note m.notes n.notes)
 
 pub agrees : (m n : Map) → T (agree m n) → Agrees m n
 unfolding agree
@@ -49,13 +58,10 @@ agree_same m n t =
     let a = agrees m n t in
     λ i.
     record {
-      xs = same_coordinates _ _ a.xs i;
-      ys = same_coordinates _ _ a.ys i;
+      points = same_by_eq same_point same_point_eq _ _ a.points i;
       helpers = same_by_eq beq beq_eq _ _ a.helpers i;
       edge = same_list_eq _ _ a.edges i;
-      arrivals = same_list_eq _ _ a.arrivals i;
-      lefts = same_list_eq _ _ a.lefts i;
-      rights = same_list_eq _ _ a.rights i;
+      notes = same_by_eq same_note same_note_eq _ _ a.notes i;
       count = eqb→eq m.count n.count a.counts i;
       reference = eqb→eq m.reference n.reference a.references i;
     }
@@ -66,13 +72,10 @@ agree_self m =
     (record {
       counts = eqb_refl m.count;
       references = eqb_refl m.reference;
-      xs = own_coordinates m.xs;
-      ys = own_coordinates m.ys;
+      points = same_by_refl same_point (λ p. same_point_by p p refl) m.points;
       helpers = same_by_refl beq beq_refl m.helpers;
       edges = same_list_refl m.edge;
-      arrivals = same_list_refl m.arrivals;
-      lefts = same_list_refl m.lefts;
-      rights = same_list_refl m.rights;
+      notes = same_by_refl same_note same_note_refl m.notes;
     })
 
 -- ---- sound maps

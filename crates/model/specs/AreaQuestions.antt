@@ -14,10 +14,10 @@ use Rattle.model.specs.Spelling.{bytes, decimal, spelt}
 use Rattle.model.specs.Refusals.{number, unless}
 use Rattle.model.specs.Answers.{answer_of, doubled_answer}
 use Rattle.model.specs.Plane.{at, coordinate_limit, coordinate_in_range, in_range, same_point, orientation, left_of, visible_from, in_line, beside, sees_edge, strictly_between, lower}
-use Rattle.model.specs.Maps.{with_outline, note, no_dart, other_dart, point, has_helper, is_present, edge_link, point_link, empty_map}
+use Rattle.model.specs.Maps.{note, no_dart, other_dart, point, has_helper, is_present, edge_link, point_link, empty_map}
 use Rattle.model.specs.Outline.{next_corner, previous_corner, corners_from, outline, sees, visible_edges, lowest_corner, corners}
 use Rattle.model.specs.Building.{building_rules, built}
-use Rattle.model.specs.Sound.{agree, sound}
+use Rattle.model.specs.Sound.{same_note, agree, sound}
 use Rattle.model.specs.Arrival.{cut, join, turning_left, turning_right, is_farther, is_beyond, farther, left_corner, right_corner}
 use Rattle.model.specs.Arrival.{with_point, alone, pair, spliced, later_point, arrive, is_repeated}
 use Rattle.model.specs.Offers.{offer}
@@ -48,7 +48,16 @@ at_ends =
 
 -- the outline has no reference
 unlinked : Map
-unlinked = let m = after 6 in with_outline m m.xs m.ys m.edge m.count no_dart
+unlinked =
+    let m = after 6 in
+    record {
+      points = m.points;
+      helpers = m.helpers;
+      edge = m.edge;
+      notes = m.notes;
+      count = m.count;
+      reference = no_dart;
+    }
 
 pub area_questions : List Question
 area_questions =
@@ -80,7 +89,7 @@ unfolding table_onto all any sum count one_if table elem all_in all_places any_i
     closed_walks bytes decimal spelt number unless doubled_answer coordinate_in_range in_range
     same_point orientation left_of visible_from in_line beside sees_edge strictly_between lower
     other_dart point has_helper is_present edge_link point_link empty_map next_corner
-    previous_corner corners_from outline sees visible_edges lowest_corner corners note agree building_rules built sound cut join
+    previous_corner corners_from outline sees visible_edges lowest_corner corners note same_note agree building_rules built sound cut join
     turning_left turning_right is_farther is_beyond farther left_corner right_corner with_point
     alone pair spliced later_point arrive is_repeated offer extended_by extended run_from run
     spaced corner_points path_sum fan area_from doubled_area sum_of triangle_added area_added

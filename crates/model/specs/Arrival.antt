@@ -91,13 +91,10 @@ freeing m = freeing_by (edge_link m)
 unfoldable pub with_point : Map → Point → Note → List Bool → List ℕ → ℕ → Map
 with_point m p noted helpers edge reference =
     record {
-      xs = set m.xs m.count p.x;
-      ys = set m.ys m.count p.y;
+      points = set m.points m.count p;
       helpers = helpers;
       edge = edge;
-      arrivals = set m.arrivals m.count noted.arrival;
-      lefts = set m.lefts m.count noted.left;
-      rights = set m.rights m.count noted.right;
+      notes = set m.notes m.count noted;
       count = suc m.count;
       reference = reference;
     }

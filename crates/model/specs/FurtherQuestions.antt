@@ -19,6 +19,7 @@ use Rattle.orbits.specs.Walks.{walker_at}
 use Rattle.orbits.specs.Sets.{dart_limit, bits, set_of}
 use Rattle.model.specs.declared.Refusal.{Refusal}
 use Rattle.model.specs.declared.Point.{Point}
+use Rattle.model.specs.declared.Note.{Note}
 use Rattle.model.specs.declared.Map.{Map}
 use Rattle.model.specs.declared.Arrival.{Arrival}
 use Rattle.model.specs.declared.Kind.{Kind}
@@ -35,11 +36,11 @@ use Rattle.model.specs.Plane.{same_point, orientation, orientation_limit, left_o
 use Rattle.model.specs.Plane.{visible_from, in_line, beside, sees_edge, strictly_between}
 use Rattle.model.specs.Plane.{lower}
 use Rattle.model.specs.Maps.{note, point_limit, no_dart, other_dart, point, has_helper, is_present}
-use Rattle.model.specs.Maps.{edge_link, point_link, face_link, empty_map, map_of, with_coordinates, with_outline}
+use Rattle.model.specs.Maps.{edge_link, point_link, face_link, empty_map}
 use Rattle.model.specs.Outline.{next_corner, previous_corner, corners_from, outline, sees}
 use Rattle.model.specs.Outline.{visible_edges, lowest_corner, corners}
 use Rattle.model.specs.Building.{building_rules, built}
-use Rattle.model.specs.Sound.{agree, sound}
+use Rattle.model.specs.Sound.{same_note, agree, sound}
 use Rattle.model.specs.Reading.{links_of, number_of, darts, counts, orbit_set, walker_call}
 use Rattle.model.specs.Arrival.{cut, join, turning_left, turning_right, is_farther, is_beyond}
 use Rattle.model.specs.Arrival.{farther, left_corner, right_corner, with_point, alone, pair}
@@ -142,7 +143,7 @@ number_of_rules rules = unless number rules 0
 
 -- a map of so many points, all at the origin, as the rules of an offer see it
 crowded : ℕ → Map
-crowded n = map_of [] [] [] [] [] [] [] n no_dart
+crowded n = record { points = []; helpers = []; edge = []; notes = []; count = n; reference = no_dart }
 
 -- the end of the range, and one beyond it
 far : ℤ
@@ -191,19 +192,61 @@ five =
     ).map
 
 -- a map with some of its fields changed
-with_xs : List ℤ → Map → Map
-with_xs xs m = with_coordinates m xs m.ys m.count
+with_points : List Point → Map → Map
+with_points points m =
+    record {
+      points = points;
+      helpers = m.helpers;
+      edge = m.edge;
+      notes = m.notes;
+      count = m.count;
+      reference = m.reference;
+    }
+
+-- point k with another x
+with_x : ℕ → ℤ → Map → Map
+with_x k x m = with_points (set m.points k (at x (point m k).y)) m
 
 with_links : List Bool → List ℕ → Map → Map
 with_links helpers edge m =
-    map_of m.xs m.ys helpers edge m.arrivals m.lefts m.rights m.count m.reference
+    record {
+      points = m.points;
+      helpers = helpers;
+      edge = edge;
+      notes = m.notes;
+      count = m.count;
+      reference = m.reference;
+    }
 
 with_reference : ℕ → Map → Map
-with_reference d m = with_outline m m.xs m.ys m.edge m.count d
+with_reference d m =
+    record {
+      points = m.points;
+      helpers = m.helpers;
+      edge = m.edge;
+      notes = m.notes;
+      count = m.count;
+      reference = d;
+    }
 
-with_notes : List ℕ → List ℕ → List ℕ → Map → Map
-with_notes arrivals lefts rights m =
-    map_of m.xs m.ys m.helpers m.edge arrivals lefts rights m.count m.reference
+with_notes : List Note → Map → Map
+with_notes notes m =
+    record {
+      points = m.points;
+      helpers = m.helpers;
+      edge = m.edge;
+      notes = notes;
+      count = m.count;
+      reference = m.reference;
+    }
+
+-- another note of point k
+with_note : ℕ → Note → Map → Map
+with_note k n m = with_notes (set m.notes k n) m
+
+-- the freed darts of a note exchanged
+exchanged : Note → Note
+exchanged n = record { arrival = n.arrival; left = n.right; right = n.left }
 
 -- the points 3 and 4 with helpers, and with these edge links of darts 6 to 9
 chained : ℕ → ℕ → ℕ → ℕ → Map → Map
@@ -215,11 +258,11 @@ chained a b c d m =
 unsound_maps : Map → Map → Map → List Map
 unsound_maps one two m =
     -- an array too long
-    with_xs (m.xs ++ pos 0 ∷ []) m
+    with_points (m.points ++ origin ∷ []) m
     -- a point out of range, two points that are equal, and a place without a point that holds 1, 0
-    ∷ with_xs (set two.xs 1 beyond_far) two
-    ∷ with_xs (set two.xs 1 (pos 0)) two
-    ∷ with_xs (set m.xs 5 (pos 1)) m
+    ∷ with_x 1 beyond_far two
+    ∷ with_x 1 (pos 0) two
+    ∷ with_x 5 (pos 1) m
     -- a helper, and a link, of a place without a point
     ∷ with_links (set m.helpers 5 true) m.edge m
     ∷ with_links m.helpers (set m.edge 10 11) m
@@ -230,7 +273,7 @@ unsound_maps one two m =
     -- a second closed walk, a reference that is a helper, and a point outside
     ∷ chained 9 8 7 6 m
     ∷ with_reference 5 m
-    ∷ with_xs (set m.xs 3 (pos 9)) m
+    ∷ with_x 3 (pos 9) m
     -- one point with a helper, and with a reference
     ∷ with_links (set one.helpers 0 true) one.edge one
     ∷ with_reference 0 one
@@ -245,10 +288,10 @@ other_maps m = chained 6 7 8 9 m ∷ chained 9 7 8 6 m ∷ with_reference 0 m �
 -- another arrival, another freed dart, the freed darts exchanged, and a note at a place without a point
 other_notes : Map → List Map
 other_notes m =
-    with_notes (set m.arrivals 4 3) m.lefts m.rights m
-    ∷ with_notes m.arrivals (set m.lefts 5 1025) m.rights m
-    ∷ with_notes m.arrivals m.rights m.lefts m
-    ∷ with_notes m.arrivals m.lefts (set m.rights 6 0) m
+    with_note 4 (record { arrival = 3; left = (note m 4).left; right = (note m 4).right }) m
+    ∷ with_note 5 (record { arrival = (note m 5).arrival; left = 1025; right = (note m 5).right }) m
+    ∷ with_notes (map exchanged m.notes) m
+    ∷ with_note 6 (record { arrival = (note m 6).arrival; left = (note m 6).left; right = 0 }) m
     ∷ []
 
 soundness : Map → Map → Map → Map → List Question
@@ -350,7 +393,7 @@ of_rail r =
     (at (pos 6) (pos 0) ∷ at (neg_ℤ (pos 1)) (pos 0) ∷ at (pos 2) (pos 0) ∷ at (pos 1) (pos 1) ∷ []))
     is flatten (says "outside 0\n" ∷ says "outside 0\n" ∷ says "edge 0 2\n" ∷ says "outside 1\n" ∷ []))
     -- "or zero and lie between the edge's ends": sound, and with the point between moved beyond an end not
-    ∷ (map (λ x. one_if (sound (with_xs (set r.map.xs 1 x) r.map))) (pos 3 ∷ pos 5 ∷ []) is 1 ∷ 0 ∷ [])
+    ∷ (map (λ x. one_if (sound (with_x 1 x r.map))) (pos 3 ∷ pos 5 ∷ []) is 1 ∷ 0 ∷ [])
     -- the farther corner's edges are those that the new point frees
     ∷ (noted_of r.map 2 is 3 ∷ 3 ∷ 2 ∷ [])
     ∷ []
@@ -521,14 +564,14 @@ unfolding table_onto all any sum count one_if table elem all_in all_places any_i
     placed_answer doubled_answer marked_answer written_answer line_answer coordinate_in_range in_range same_point orientation
     left_of visible_from in_line beside sees_edge strictly_between lower other_dart point has_helper
     is_present edge_link point_link face_link empty_map next_corner previous_corner corners_from
-    outline sees visible_edges lowest_corner corners note agree building_rules built sound links_of number_of darts counts
+    outline sees visible_edges lowest_corner corners note same_note agree building_rules built sound links_of number_of darts counts
     cut join turning_left turning_right is_farther is_beyond farther left_corner right_corner
     with_point alone pair spliced later_point arrive is_repeated offer extended_by extended run_from
     run reported reported_edges is_outside outside_arrivals edges_seen strictly_visible place_among
     big_endian number_at complement signed block coordinate header notes_length packed_note notes_in saved_in file_in_form_of file_in_form map_in is_digit has_minus
     digits value_after magnitude is_number number_value line_read in_first_line lines one_line spaced printed
     offer_line closing arrivals report session after far same_by told says short refusals
-    arrival_of map_after three_words five_counts walk_to answers number_of_rules crowded beyond_far limits five with_xs
-    with_links with_reference with_notes chained unsound_maps other_maps other_notes soundness noted_of orbit_sizes moves placings
+    arrival_of map_after three_words five_counts walk_to answers number_of_rules crowded beyond_far limits five with_points with_x
+    with_links with_reference with_notes with_note exchanged chained unsound_maps other_maps other_notes soundness noted_of orbit_sizes moves placings
     sums of_session of_few rail of_rail rails one_point_old one_point with_y file_numbers files number_of_line lent_line texts further_questions
 further_answers_are_right = tt

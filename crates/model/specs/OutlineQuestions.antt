@@ -16,7 +16,7 @@ use Rattle.model.specs.Plane.{at, coordinate_in_range, in_range, same_point, ori
 use Rattle.model.specs.Maps.{note, other_dart, point, has_helper, is_present, edge_link, point_link, empty_map}
 use Rattle.model.specs.Outline.{next_corner, previous_corner, corners_from, outline, sees, visible_edges, lowest_corner, corners}
 use Rattle.model.specs.Building.{building_rules, built}
-use Rattle.model.specs.Sound.{agree, sound}
+use Rattle.model.specs.Sound.{same_note, agree, sound}
 use Rattle.model.specs.Arrival.{cut, join, turning_left, turning_right, is_farther, is_beyond, farther, left_corner, right_corner}
 use Rattle.model.specs.Arrival.{with_point, alone, pair, spliced, later_point, arrive, is_repeated}
 use Rattle.model.specs.Offers.{offer}
@@ -128,7 +128,7 @@ unfolding table_onto all any sum count one_if table elem all_in all_places any_i
     closed_walks bytes decimal spelt number unless coordinate_in_range in_range same_point
     orientation left_of visible_from in_line beside sees_edge strictly_between lower other_dart
     point has_helper is_present edge_link point_link empty_map next_corner previous_corner
-    corners_from outline sees visible_edges lowest_corner corners note agree building_rules built sound cut join
+    corners_from outline sees visible_edges lowest_corner corners note same_note agree building_rules built sound cut join
     turning_left turning_right is_farther is_beyond farther left_corner right_corner with_point
     alone pair spliced later_point arrive is_repeated offer extended_by extended run_from run
     is_digit has_minus digits value_after magnitude is_number number_value leading_digits front

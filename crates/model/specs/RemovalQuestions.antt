@@ -9,10 +9,10 @@ use Rattle.model.specs.declared.Map.{Map}
 use Rattle.model.specs.Refusals.{number, unless}
 use Rattle.model.specs.Answers.{outcome_answer}
 use Rattle.model.specs.Plane.{at, coordinate_in_range, in_range, same_point, orientation, left_of, visible_from, in_line, beside, sees_edge, strictly_between, lower}
-use Rattle.model.specs.Maps.{with_outline, note, other_dart, point, has_helper, is_present, edge_link, point_link, empty_map}
+use Rattle.model.specs.Maps.{note, other_dart, point, has_helper, is_present, edge_link, point_link, empty_map}
 use Rattle.model.specs.Outline.{next_corner, previous_corner, corners_from, outline, sees, visible_edges}
 use Rattle.model.specs.Building.{building_rules, built}
-use Rattle.model.specs.Sound.{agree, sound}
+use Rattle.model.specs.Sound.{same_note, agree, sound}
 use Rattle.model.specs.Arrival.{cut, join, turning_left, turning_right, is_farther, is_beyond, farther, left_corner, right_corner}
 use Rattle.model.specs.Arrival.{with_point, alone, pair, spliced, later_point, arrive, is_repeated}
 use Rattle.model.specs.Offers.{offer, map_after}
@@ -30,7 +30,15 @@ taken m =
 
 -- the map with this reference
 with_reference : ℕ → Map → Map
-with_reference dart m = with_outline m m.xs m.ys m.edge m.count dart
+with_reference dart m =
+    record {
+      points = m.points;
+      helpers = m.helpers;
+      edge = m.edge;
+      notes = m.notes;
+      count = m.count;
+      reference = dart;
+    }
 
 -- a removal that is refused; the session; its last point taken back
 acts : List Action
@@ -71,7 +79,7 @@ pub removal_answers_are_right : T (all_in (λ q. same_list q.said q.right) remov
 unfolding table_onto all any sum count one_if table elem all_in all_places any_in count_in first_in ring insert union total
     spread reached reaches number unless outcome_answer coordinate_in_range in_range same_point orientation left_of
     visible_from in_line beside sees_edge strictly_between lower other_dart point has_helper is_present edge_link point_link
-    empty_map next_corner previous_corner corners_from outline sees visible_edges note agree building_rules built sound cut
+    empty_map next_corner previous_corner corners_from outline sees visible_edges note same_note agree building_rules built sound cut
     join turning_left turning_right is_farther is_beyond farther left_corner right_corner with_point alone pair spliced
     later_point arrive is_repeated offer map_after before_last remove map_left extended_by extended run_from run taken_back_by taken_back acted
     performed_from performed reported reported_edges is_outside outside_arrivals session after on_rail taken with_reference

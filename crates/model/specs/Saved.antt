@@ -13,10 +13,12 @@ use Rattle.finite.specs.Bounded.{one_if, all, table}
 use Rattle.orbits.specs.Sets.{dart_limit}
 use Rattle.model.specs.declared.Refusal.{Refusal}
 use Rattle.model.specs.declared.Point.{Point}
+use Rattle.model.specs.declared.Note.{Note}
 use Rattle.model.specs.declared.Map.{Map}
 use Rattle.model.specs.Refusals.{◌when◌}
 use Rattle.model.specs.Answers.{Call, answer_of, outcome_answer}
-use Rattle.model.specs.Maps.{point_limit, no_dart, own, point_at, point, has_helper, edge_link, note, empty_map}
+use Rattle.model.specs.Plane.{at, origin}
+use Rattle.model.specs.Maps.{point_limit, no_note, own, point_in, point, has_helper, edge_link, note, empty_map}
 use Rattle.model.specs.Building.{built}
 use Rattle.model.specs.Reading.{unsound}
 
@@ -170,12 +172,18 @@ file_in_form s = file_in_form_of old_version s || file_in_form_of version s
 abbrev pub until : {A : Type 0} → ℕ → (ℕ → A) → (ℕ → A) → ℕ → A
 until n f g k = cond (ltb k n) (f k) (g k)
 
--- the arrays of a file of n points: the coordinates in direction d, 0 for x and 1 for y; which
--- points have helpers; the edge links; what is noted. A place without a point holds 0, 0, no helper and
--- 0, 1,024, 1,024, and a dart without a point is left where it is.
-abbrev pub coordinates_in_file : List ℕ → ℕ → ℕ → List ℤ
-coordinates_in_file s n d =
-    table point_limit (until n (λ k. coordinate_in_file s (2 * k + d)) (λ k. pos 0))
+-- point k of a file, and what is noted of it
+abbrev pub point_in_file : List ℕ → ℕ → Point
+point_in_file s k = at (coordinate_in_file s (2 * k)) (coordinate_in_file s (2 * k + 1))
+
+abbrev pub note_in_file : List ℕ → ℕ → ℕ → Note
+note_in_file s n k =
+    record { arrival = arrival_in_file s n k; left = left_in_file s n k; right = right_in_file s n k }
+
+-- the arrays of a file of n points: the points; which of them have helpers; the edge links; what is noted. A
+-- place without a point holds 0, 0, no helper and 0, 1,024, 1,024, and a dart without a point is left where it is.
+abbrev pub places_in_file : List ℕ → ℕ → List Point
+places_in_file s n = table point_limit (until n (point_in_file s) (λ k. origin))
 
 abbrev pub helpers_in_file : List ℕ → ℕ → List Bool
 helpers_in_file s n = table point_limit (until n (λ k. eqb (helper_in_file s n k) 1) (λ k. false))
@@ -183,20 +191,14 @@ helpers_in_file s n = table point_limit (until n (λ k. eqb (helper_in_file s n 
 abbrev pub links_in_file : List ℕ → ℕ → List ℕ
 links_in_file s n = table dart_limit (until (own n) (link_in_file s n) (λ d. d))
 
-abbrev pub arrivals_in_file : List ℕ → ℕ → List ℕ
-arrivals_in_file s n = table point_limit (until n (arrival_in_file s n) (λ k. 0))
-
-abbrev pub lefts_in_file : List ℕ → ℕ → List ℕ
-lefts_in_file s n = table point_limit (until n (left_in_file s n) (λ k. no_dart))
-
-abbrev pub rights_in_file : List ℕ → ℕ → List ℕ
-rights_in_file s n = table point_limit (until n (right_in_file s n) (λ k. no_dart))
+abbrev pub notes_in_file : List ℕ → ℕ → List Note
+notes_in_file s n = table point_limit (until n (note_in_file s n) (λ k. no_note))
 
 -- the points of a file, and the map that they build
 abbrev pub points_in_file : List ℕ → List Point
 points_in_file s =
     let n = count_in_file s in
-    table n (point_at (coordinates_in_file s n 0) (coordinates_in_file s n 1))
+    table n (point_in (places_in_file s n))
 
 abbrev pub built_in_file : List ℕ → Map
 built_in_file s = built empty_map (points_in_file s)
@@ -210,13 +212,10 @@ unfoldable pub map_in : List ℕ → Map
 map_in s =
     let n = count_in_file s in
     record {
-      xs = coordinates_in_file s n 0;
-      ys = coordinates_in_file s n 1;
+      points = places_in_file s n;
       helpers = helpers_in_file s n;
       edge = links_in_file s n;
-      arrivals = by_version s (built_in_file s).arrivals (arrivals_in_file s n);
-      lefts = by_version s (built_in_file s).lefts (lefts_in_file s n);
-      rights = by_version s (built_in_file s).rights (rights_in_file s n);
+      notes = by_version s (built_in_file s).notes (notes_in_file s n);
       count = n;
       reference = number_at s reference_place 2;
     }

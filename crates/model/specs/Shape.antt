@@ -16,8 +16,7 @@ use Rattle.model.specs.Outline.{next_corner, outline}
 
 -- the points
 pub record ShapedPoints (m : Map) : Type 0 where
-  pub xs_whole : length m.xs ≡ point_limit
-  pub ys_whole : length m.ys ≡ point_limit
+  pub points_whole : length m.points ≡ point_limit
   pub ranged : (k : ℕ) → k < m.count → T (in_range (point m k))
   pub distinct : (j k : ℕ) → j < k → k < m.count → point m j ≢ point m k
   pub vacant : (k : ℕ) → m.count ≤ k → point m k ≡ origin
@@ -43,9 +42,7 @@ pub record Fitting (n : Note) : Type 0 where
 
 -- the notes
 pub record ShapedNotes (m : Map) : Type 0 where
-  pub arrivals_whole : length m.arrivals ≡ point_limit
-  pub lefts_whole : length m.lefts ≡ point_limit
-  pub rights_whole : length m.rights ≡ point_limit
+  pub notes_whole : length m.notes ≡ point_limit
   pub fitting : (k : ℕ) → Fitting (note m k)
   pub unnoted : (k : ℕ) → m.count ≤ k → note m k ≡ no_note
 

@@ -4,23 +4,25 @@
 -- hull/proofs/Runs.
 use Rattle.std.specs.Prelude.{Bool, false, ◌&&◌, eqb}
 use Rattle.std.specs.Bool.{beq}
-use Rattle.integers.specs.Order.{eq_z}
 use Rattle.finite.specs.Lists.{same_list, same_by}
+use Rattle.model.specs.declared.Note.{Note}
 use Rattle.model.specs.declared.Map.{Map}
 use Rattle.model.specs.Refusals.{unless}
+use Rattle.model.specs.Plane.{same_point}
 use Rattle.model.specs.Maps.{empty_map, map_points}
 use Rattle.model.specs.Building.{building_rules, built}
+
+-- two notes are the same
+unfoldable pub same_note : Note → Note → Bool
+same_note n o = eqb n.arrival o.arrival && eqb n.left o.left && eqb n.right o.right
 
 -- two maps have the same fields
 unfoldable pub agree : Map → Map → Bool
 agree m n =
-    eqb m.count n.count && eqb m.reference n.reference && same_by eq_z m.xs n.xs
-    && same_by eq_z m.ys n.ys
+    eqb m.count n.count && eqb m.reference n.reference && same_by same_point m.points n.points
     && same_by beq m.helpers n.helpers
     && same_list m.edge n.edge
-    && same_list m.arrivals n.arrivals
-    && same_list m.lefts n.lefts
-    && same_list m.rights n.rights
+    && same_by same_note m.notes n.notes
 
 -- none of its points is refused, and the map is the one that they build
 unfoldable pub sound : Map → Bool

@@ -5,8 +5,10 @@
 
 ghost use Rattle.std.specs.Prelude.{◌≡◌};
 ghost use Rattle.model.specs.Refusals.{number};
+ghost use Rattle.model.specs.Maps.{edge_link, has_helper, is_present, point, point_in};
+ghost use Rattle.model.specs.Outline.{next_corner, previous_corner};
 
-use orbits::DART_LIMIT;
+use orbits::{DART_LIMIT, link_of};
 
 // The most points that a map has.
 pub const POINT_LIMIT: usize = 512;
@@ -24,30 +26,91 @@ pub struct Point {
     pub y: i64,
 }
 
-// A map of darts. Point k stands at place k of `xs` and `ys` and owns dart 2k; it has the helper dart
-// 2k + 1 where `helpers` says so. `edge` holds the edge link of each dart; the point link follows
-// from the helpers. `reference` is a dart of the outline, or 1,024 for none. `arrivals`, `lefts` and
-// `rights` hold for each point what is noted of its arrival; a place without a point holds 0, 1,024, 1,024.
+// What is noted of a point: its arrival (0 first, 1 second, 2 inside, 3 outside), and the darts that it
+// freed, the left corner's old partner and the right corner's, or 1,024 for none. They are numbers, as the
+// definitions (`note`, `packed_note`) and the file have them.
+#[derive(Clone, Copy, PartialEq, Eq)]
+pub struct Note {
+    pub arrival: u8,
+    pub left: u16,
+    pub right: u16,
+}
+
+// A map of darts. Point k stands at place k of `points` and owns dart 2k; it has the helper dart 2k + 1
+// where `helpers` says so. `edge` holds the edge link of each dart; the point link follows from the
+// helpers. What is noted of point k stands at place k of `notes`. A place without a point holds the point
+// 0, 0 and the note 0, 1,024, 1,024. `reference` is a dart of the outline, or 1,024 for none, as document 01
+// has it and the file.
 #[derive(Clone, Copy)]
 pub struct Map {
-    pub xs: [i64; POINT_LIMIT],
-    pub ys: [i64; POINT_LIMIT],
+    pub points: [Point; POINT_LIMIT],
     pub helpers: [bool; POINT_LIMIT],
     pub edge: [usize; DART_LIMIT],
-    pub arrivals: [u8; POINT_LIMIT],
-    pub lefts: [u16; POINT_LIMIT],
-    pub rights: [u16; POINT_LIMIT],
+    pub notes: [Note; POINT_LIMIT],
     pub count: usize,
     pub reference: usize,
 }
 
-// What is noted of a point: its arrival (0 first, 1 second, 2 inside, 3 outside), and the darts that it
-// freed, the left corner's old partner and the right corner's, or 1,024 for none.
-#[derive(Clone, Copy)]
-pub struct Note {
-    pub arrival: usize,
-    pub left: usize,
-    pub right: usize,
+// Point k of a list; a place past it holds 0, 0.
+pub fn point_in(points: &[Point], k: usize) -> Point
+    ensures { result ≡ point_in points.now k }
+{
+    points.get(k).copied().unwrap_or(Point { x: 0, y: 0 })
+}
+
+// What is read from a map. Every method takes every number: one that is no point or no dart of the map lies
+// at 0, 0, has no helper, is absent, and is left where it is.
+#[tactic(auto, unfolding(crate::specs::Maps::point, crate::specs::Maps::has_helper, crate::specs::Maps::is_present, crate::specs::Maps::edge_link, crate::specs::Outline::next_corner, crate::specs::Outline::previous_corner,))]
+impl Map {
+    // Point k.
+    pub fn point(&self, k: usize) -> Point
+        ensures { result ≡ point self.now k }
+    {
+        point_in(&self.points, k)
+    }
+
+    // Whether point k has a helper dart.
+    pub fn has_helper(&self, k: usize) -> bool
+        ensures { result ≡ has_helper self.now k }
+    {
+        self.helpers.get(k).copied().unwrap_or(false)
+    }
+
+    // Whether dart d is present.
+    pub fn is_present(&self, d: usize) -> bool
+        ensures { result ≡ is_present self.now d }
+    {
+        d / 2 < self.count && (d % 2 == 0 || self.has_helper(d / 2))
+    }
+
+    // The edge partner of dart d.
+    pub fn edge_link(&self, d: usize) -> usize
+        ensures { result ≡ edge_link self.now d }
+    {
+        link_of(&self.edge, d)
+    }
+
+    // The corner after corner a.
+    pub fn next_corner(&self, a: usize) -> usize
+        ensures { result ≡ next_corner self.now a }
+    {
+        if a < self.edge.len() {
+            self.edge_link(2 * a) / 2
+        } else {
+            a
+        }
+    }
+
+    // The corner before corner a.
+    pub fn previous_corner(&self, a: usize) -> usize
+        ensures { result ≡ previous_corner self.now a }
+    {
+        if a < self.edge.len() {
+            self.edge_link(2 * a + 1) / 2
+        } else {
+            a
+        }
+    }
 }
 
 // Why a call is refused. specs/Refusals gives each its number.

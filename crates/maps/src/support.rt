@@ -14,8 +14,8 @@ pub fn is_supporting_edge(points: &[Point], a: usize, b: usize) -> bool
 {
     let from = point_in(points, a);
     let to = point_in(points, b);
-    for c in 0..points.len() {
-        if !is_beside(from, to, points[c]) && c != a && c != b {
+    for (c, p) in points.iter().enumerate() {
+        if !is_beside(from, to, *p) && c != a && c != b {
             return false;
         }
     }

@@ -1,15 +1,14 @@
--- Hashes, in the order of this page: what the machine computes of a point; the hashes of no point set, and
--- of one more; a point whose hash is not set is none of the points.
-use mathlib.Core.Path.{◌≡◌, sym, subst, ◌∙◌}
+-- Hashes, in the order of this page: what the machine computes of a point; the hashes of no
+-- point, and of one more; a point whose hash is not set is none of the points.
+use mathlib.Core.Path.{◌≡◌, subst, ◌∙◌}
 use mathlib.Core.Logic.{◌≢◌, ⊎_elim}
-use mathlib.Core.Bool.{Bool, true, false}
-use mathlib.Core.List.{List}
+use mathlib.Core.Bool.{true, false}
+use mathlib.Core.List.{List, []}
 use Prim.Native.Nat.{ℕ, ◌+◌, ◌*◌, ◌<◌}
-use native.Mathlib.Numerals.{add-one}
 use native.Mathlib.Omega.{arith}
 use lib.Dec.{T}
 use lib.IntN.{ℤ, pos, ◌+ℤ◌, ◌*ℤ◌}
-use lib.ListN.{length, get_or, set, length-set}
+use lib.ListN.{length, get_or, set, length-set, length-replicate}
 use lib.Seq.{get_or-set_same, get_or-set_other}
 use lib.Signed.{◌≤ℤ◌}
 use mir.Syntax.{w64}
@@ -18,13 +17,15 @@ use Rattle.integers.specs.Sign.{nonneg_nonneg}
 use Rattle.integers.specs.Range.{Number, bounded_splits, literal, add, mul}
 use Rattle.integers.proofs.Range.{back}
 use Rattle.finite.specs.Tests.{is_false, same_or_not}
-use Rattle.finite.specs.Bounded.{any, any_at, below_suc}
+use Rattle.finite.specs.Bounded.{any_at, below_suc}
 use Rattle.model.specs.declared.Point.{Point}
-use Rattle.model.specs.Plane.{coordinate_limit, same_point}
-use Rattle.model.specs.Maps.{point_at}
+use Rattle.model.specs.Plane.{coordinate_limit}
+use Rattle.model.specs.Maps.{point_in}
 use Rattle.model.proofs.Shape.{same_point_eq}
 use Rattle.plane.proofs.Bounds.{span}
-use Rattle.admission.specs.Hashes.{hash_count, hash_row, numbered, hash, AllHashed}
+use Rattle.admission.specs.declared.hashes.Hashes.{Hashes}
+use Rattle.admission.specs.Admission.{repeated_in}
+use Rattle.admission.specs.Hashes.{hash_count, hash_row, numbered, hash, no_hashes, with_hash, AllHashed}
 
 -- ---- what the machine computes, operation by operation, from coordinates in range
 
@@ -58,38 +59,38 @@ pub hash_below : (p : Point) → hash p < hash_count
 unfolding hash
 hash_below p = omega arith
 
--- ---- the hashes of the first points
+-- ---- the hashes of points
 
-pub none_hashed : (xs ys : List ℤ) {hashes : List Bool} → hash_count ≡ length hashes → AllHashed xs ys 0 hashes
-none_hashed xs ys e = record { whole = sym e; hashed = λ k h. absurd (omega arith) }
+pub none_hashed : AllHashed [] no_hashes
+none_hashed = record { whole = length-replicate hash_count false; hashed = λ k h. absurd (omega arith) }
 
 -- one point more: those before it are where they were
-pub one_hashed : {xs ys xs' ys' : List ℤ} {count : ℕ} {hashes : List Bool} (p : Point) →
-    AllHashed xs ys count hashes → ((k : ℕ) → k < count → point_at xs' ys' k ≡ point_at xs ys k) →
-    point_at xs' ys' count ≡ p → AllHashed xs' ys' (count + 1) (set hashes (hash p) true)
-one_hashed {xs} {ys} {xs'} {ys'} {count} {hashes} p all old new =
+pub one_hashed : {points more : List Point} {hashes : Hashes} (p : Point) → AllHashed points hashes →
+    length more ≡ length points + 1 → ((k : ℕ) → k < length points → point_in more k ≡ point_in points k) →
+    point_in more (length points) ≡ p → AllHashed more (with_hash hashes p)
+one_hashed {points} {more} {hashes} p all longer old new =
     record {
-      whole = length-set hashes (hash p) true ∙ all.whole;
+      whole = length-set hashes.set (hash p) true ∙ all.whole;
       hashed =
           λ k h.
-          ⊎_elim (λ (l : k < count). rw (old k l) (stays (hash (point_at xs ys k)) (all.hashed k l)))
-          (λ (e : k ≡ count). rw (e, new) here) (below_suc count k (rw add-one at h));
+          ⊎_elim (λ (l : k < length points). rw (old k l) (stays (hash (point_in points k)) (all.hashed k l)))
+          (λ (e : k ≡ length points). rw (e, new) here) (below_suc (length points) k (omega arith));
     }
   where
-    here : T (get_or (set hashes (hash p) true) (hash p) false)
-    here = rw (get_or-set_same hashes (hash p) true false (omega (arith, all.whole, hash_below p))) tt
+    here : T (get_or (set hashes.set (hash p) true) (hash p) false)
+    here = rw (get_or-set_same hashes.set (hash p) true false (omega (arith, all.whole, hash_below p))) tt
 
-    stays : (v : ℕ) → T (get_or hashes v false) → T (get_or (set hashes (hash p) true) v false)
+    stays : (v : ℕ) → T (get_or hashes.set v false) → T (get_or (set hashes.set (hash p) true) v false)
     stays v t =
         ⊎_elim (λ (e : v ≡ hash p). rw e here)
-        (λ (n : v ≢ hash p). rw (get_or-set_other hashes (hash p) v true false n) t) (same_or_not v (hash p))
+        (λ (n : v ≢ hash p). rw (get_or-set_other hashes.set (hash p) v true false n) t) (same_or_not v (hash p))
 
 -- a point whose hash is not set
-pub unhashed_new : {xs ys : List ℤ} {count : ℕ} {hashes : List Bool} (p : Point) → AllHashed xs ys count hashes →
-    get_or hashes (hash p) false ≡ false → any count (λ k. same_point (point_at xs ys k) p) ≡ false
-unhashed_new {xs} {ys} {count} {hashes} p all none =
-    is_false (any count (λ k. same_point (point_at xs ys k) p))
+pub unhashed_new : {points : List Point} {hashes : Hashes} (p : Point) → AllHashed points hashes →
+    get_or hashes.set (hash p) false ≡ false → repeated_in points p ≡ false
+unhashed_new {points} {hashes} p all none =
+    is_false (repeated_in points p)
     (λ t.
-    let f = any_at count _ t in
-    let e = same_point_eq (point_at xs ys f.0) p f.2 in
-    subst T none (subst (λ (q : Point). T (get_or hashes (hash q) false)) e (all.hashed f.0 f.1)))
+    let f = any_at (length points) _ t in
+    let e = same_point_eq (point_in points f.0) p f.2 in
+    subst T none (subst (λ (q : Point). T (get_or hashes.set (hash q) false)) e (all.hashed f.0 f.1)))

@@ -1,3 +1,5 @@
 -- What the functions of this crate cite. Nothing is assumed.
---     Hashing    the hashes of the first points of a map; a point whose hash is not set is none of them
+--     Rules      the rules by a map's points are those of the map
+--     Hashing    the hashes of points; a point whose hash is not set is none of them
+pub mod Rules
 pub mod Hashing

@@ -1,19 +1,24 @@
-// The arrays of a map after an arrival: how a point is put and what is noted of it, how links are cut and
-// made, and how the first two points and every later corner are linked.
+// A map after an arrival: how a point is put and what is noted of it, how links are cut and made, and how a point
+// alone, the first two points and every later corner are linked.
 #![tactic(auto)]
 
-ghost use Rattle.std.specs.Prelude.{◌≡◌, true, ◌<◌, set};
+ghost use Rattle.std.specs.Prelude.{◌≡◌, ◌<◌};
 ghost use Rattle.orbits.specs.Sets.{dart_limit};
 ghost use Rattle.orbits.specs.Links.{link_of};
-ghost use Rattle.model.specs.Maps.{helper, own, point_limit};
-ghost use Rattle.model.specs.Shape.{Fitting};
-ghost use Rattle.model.specs.Arrival.{cut, freed_by, freeing_by, freeing_none, join};
-ghost use Rattle.linking.specs.Requires.{Cuttable, Spliceable};
+ghost use Rattle.model.specs.Maps.{point_limit};
+ghost use Rattle.model.specs.Arrival.{alone, cut, freed_by, freeing_by, freeing_none, join, pair, spliced, with_point};
+ghost use Rattle.linking.specs.Requires.{Cuttable, Linked, Spliceable};
 
-use model::{NO_DART, Note, POINT_LIMIT, Point};
+use model::{Map, NONE_FREED, Note, Point};
 use orbits::{DART_LIMIT, link_of};
 
+// How a point arrives that moves the reference, as it is noted.
+const SECOND: u8 = 1;
+
+const OUTSIDE: u8 = 3;
+
 // The partner of dart d is fixed.
+#[tactic(auto, unfolding(model::specs::Arrival::cut))]
 pub fn cut(edge: &mut [usize; DART_LIMIT], d: usize)
     requires { Cuttable edge.old d }
     ensures { edge.new ≡ cut d edge.old }
@@ -23,6 +28,7 @@ pub fn cut(edge: &mut [usize; DART_LIMIT], d: usize)
 }
 
 // Darts a and b are each other's partner.
+#[tactic(auto, unfolding(model::specs::Arrival::join))]
 pub fn join(edge: &mut [usize; DART_LIMIT], a: usize, b: usize)
     requires { (a < dart_limit) × (b < dart_limit) }
     ensures { edge.new ≡ join a b edge.old }
@@ -31,101 +37,93 @@ pub fn join(edge: &mut [usize; DART_LIMIT], a: usize, b: usize)
     edge[b] = a;
 }
 
-// Point k is p.
-pub fn put_point(xs: &mut [i64; POINT_LIMIT], ys: &mut [i64; POINT_LIMIT], k: usize, p: Point)
-    requires { k < point_limit }
-    ensures { (xs.new ≡ set xs.old k p.x)
-        × (ys.new ≡ set ys.old k p.y) }
+// Point p is the next one, and this is noted of it.
+#[tactic(auto, unfolding(model::specs::Arrival::with_point))]
+fn put_point(map: &mut Map, p: Point, note: Note)
+    requires { map.old.count < point_limit }
+    ensures { map.new ≡ with_point map.old p note map.old.helpers map.old.edge map.old.reference }
 {
-    let x = p.x;
-    let y = p.y;
-    xs[k] = x;
-    ys[k] = y;
-}
-
-// This is noted of point k.
-pub fn put_note(
-    arrivals: &mut [u8; POINT_LIMIT],
-    lefts: &mut [u16; POINT_LIMIT],
-    rights: &mut [u16; POINT_LIMIT],
-    k: usize,
-    note: Note,
-)
-    requires { (k < point_limit) × Fitting note }
-    ensures { (arrivals.new ≡ set arrivals.old k note.arrival)
-        × (lefts.new ≡ set lefts.old k note.left)
-        × (rights.new ≡ set rights.old k note.right) }
-{
-    let arrival = note.arrival as u8;
-    let left = note.left as u16;
-    let right = note.right as u16;
-    arrivals[k] = arrival;
-    lefts[k] = left;
-    rights[k] = right;
+    let k = map.count;
+    map.points[k] = p;
+    map.notes[k] = note;
+    map.count = k + 1;
 }
 
 // What is noted of an arrival that frees no dart.
-pub fn freeing_none(kind: usize) -> Note
+pub fn freeing_none(kind: u8) -> Note
     ensures { result ≡ freeing_none kind }
 {
     Note {
         arrival: kind,
-        left: NO_DART,
-        right: NO_DART,
+        left: NONE_FREED,
+        right: NONE_FREED,
     }
 }
 
 // What is noted of a point between the corners `left` and `right`, from the links before it.
-pub fn freeing(edge: &[usize], left: usize, right: usize) -> Note
-    requires { (left < point_limit) × (right < point_limit) }
+fn freeing(edge: &[usize], left: usize, right: usize) -> Note
+    requires { Linked edge.now left right }
     ensures { result ≡ freeing_by (link_of edge.now) left right }
 {
     let own = 2 * left;
     let helper = 2 * right + 1;
     Note {
-        arrival: 3,
+        arrival: OUTSIDE,
         left: freed(edge, own, helper),
         right: freed(edge, helper, own),
     }
 }
 
 // The partner that dart d loses, or none where that is the other dart.
-fn freed(edge: &[usize], d: usize, other: usize) -> usize
+fn freed(edge: &[usize], d: usize, other: usize) -> u16
+    requires { link_of edge.now d < dart_limit }
     ensures { result ≡ freed_by (link_of edge.now) d other }
 {
     let partner = link_of(edge, d);
-    if partner == other { NO_DART } else { partner }
+    if partner == other {
+        NONE_FREED
+    } else {
+        partner as u16
+    }
+}
+
+// A point arrives alone: nothing is linked with it.
+#[tactic(auto, unfolding(model::specs::Arrival::alone))]
+pub fn put_alone(map: &mut Map, kind: u8, p: Point)
+    requires { map.old.count < point_limit }
+    ensures { map.new ≡ alone kind map.old p }
+{
+    put_point(map, p, freeing_none(kind));
 }
 
 // Points 0 and 1 have helpers, and an edge leads each way between them.
-pub fn pair(helpers: &mut [bool; POINT_LIMIT], edge: &mut [usize; DART_LIMIT])
-    ensures { (helpers.new ≡ set (set helpers.old 0 true) 1 true)
-        × (edge.new ≡ join 2 1 (join 0 3 edge.old)) }
+#[tactic(auto, unfolding(model::specs::Arrival::pair, model::specs::Arrival::with_point))]
+pub fn pair(map: &mut Map, p: Point)
+    requires { map.old.count < point_limit }
+    ensures { map.new ≡ pair map.old p }
 {
-    helpers[0] = true;
-    helpers[1] = true;
-    join(edge, 0, 3);
-    join(edge, 2, 1);
+    put_point(map, p, freeing_none(SECOND));
+    map.helpers[0] = true;
+    map.helpers[1] = true;
+    join(&mut map.edge, 0, 3);
+    join(&mut map.edge, 2, 1);
+    map.reference = 2;
 }
 
-// Point k is a corner between the corners `left` and `right`.
-pub fn splice(
-    helpers: &mut [bool; POINT_LIMIT],
-    edge: &mut [usize; DART_LIMIT],
-    k: usize,
-    left: usize,
-    right: usize,
-)
-    requires { Spliceable edge.old k left right }
-    ensures { (helpers.new ≡ set helpers.old k true)
-        × (edge.new ≡ join (own k) (helper right)
-        (join (own left) (helper k) (cut (helper right) (cut (own left) edge.old)))) }
+// The next point is a corner between the corners `left` and `right`.
+pub fn splice(map: &mut Map, p: Point, left: usize, right: usize)
+    requires { Spliceable map.old left right }
+    ensures { map.new ≡ spliced map.old p left right }
 {
+    let k = map.count;
+    let note = freeing(&map.edge, left, right);
     let l = 2 * left;
     let r = 2 * right + 1;
-    helpers[k] = true;
-    cut(edge, l);
-    cut(edge, r);
-    join(edge, l, 2 * k + 1);
-    join(edge, 2 * k, r);
+    map.helpers[k] = true;
+    cut(&mut map.edge, l);
+    cut(&mut map.edge, r);
+    join(&mut map.edge, l, 2 * k + 1);
+    join(&mut map.edge, 2 * k, r);
+    map.reference = 2 * k;
+    put_point(map, p, note);
 }

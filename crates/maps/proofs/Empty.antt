@@ -6,13 +6,12 @@ use mathlib.Core.Bool.{false}
 use Prim.Native.Nat.{ℕ, ◌≤◌, ◌<◌}
 use native.Mathlib.Omega.{arith}
 use lib.Dec.{T}
-use lib.IntN.{pos}
 use lib.ListN.{length-replicate, get_or-eq_default}
 use Rattle.finite.specs.Bounded.{table, lt_or_ge, length_table, get_or_table}
 use Rattle.finite.specs.ListLaws.{replicate_at}
 use Rattle.orbits.specs.Sets.{dart_limit}
 use Rattle.model.specs.Plane.{origin}
-use Rattle.model.specs.Maps.{point_limit, no_dart, point, has_helper, is_present, edge_link, note, no_note, empty_map}
+use Rattle.model.specs.Maps.{point_limit, point, has_helper, is_present, edge_link, note, no_note, empty_map}
 use Rattle.model.specs.Shape.{ShapedPoints, ShapedLinks, ShapedNotes, Shaped}
 use Rattle.maps.proofs.Darts.{present_owner}
 use Rattle.maps.proofs.Soundness.{sound_without_outline}
@@ -23,9 +22,7 @@ empty_count = refl
 
 no_point : (k : ℕ) → point empty_map k ≡ origin
 unfolding empty_map point
-no_point k =
-    let e = replicate_at point_limit (pos 0) k in
-    λ i. record { x = e i; y = e i }
+no_point k = replicate_at point_limit origin k
 
 no_helper : (k : ℕ) → has_helper empty_map k ≡ false
 unfolding empty_map has_helper
@@ -41,10 +38,7 @@ no_edge d =
 
 none_noted : (k : ℕ) → note empty_map k ≡ no_note
 unfolding empty_map note
-none_noted k =
-    let e = replicate_at {A = ℕ} point_limit 0 k in
-    let f = replicate_at point_limit no_dart k in
-    λ i. record { arrival = e i; left = f i; right = f i }
+none_noted k = replicate_at point_limit no_note k
 
 no_dart_present : (d : ℕ) → ¬ T (is_present empty_map d)
 no_dart_present d t = omega (arith, present_owner empty_map d t, empty_count)
@@ -56,8 +50,7 @@ empty_points : ShapedPoints empty_map
 unfolding empty_map
 empty_points =
     record {
-      xs_whole = length-replicate point_limit (pos 0);
-      ys_whole = length-replicate point_limit (pos 0);
+      points_whole = length-replicate point_limit origin;
       ranged = λ k h. absurd (omega arith);
       distinct = λ j k l h. absurd (omega arith);
       vacant = λ k h. no_point k;
@@ -83,9 +76,7 @@ empty_notes : ShapedNotes empty_map
 unfolding empty_map
 empty_notes =
     record {
-      arrivals_whole = length-replicate {A = ℕ} point_limit 0;
-      lefts_whole = length-replicate point_limit no_dart;
-      rights_whole = length-replicate point_limit no_dart;
+      notes_whole = length-replicate point_limit no_note;
       fitting = λ k.
           rw (none_noted k)
           (record { arrival_small = omega arith; left_small = omega arith; right_small = omega arith });

@@ -9,16 +9,15 @@ use Prim.Native.Nat.{ℕ, ◌≤◌, ◌<◌}
 use native.Mathlib.Omega.{arith}
 use borrow.Author.Tests.{eq-eqb, ne_eqb}
 use lib.Dec.{T, T_not}
-use lib.IntN.{pos}
-use lib.ListN.{get_or, set, length-set}
+use lib.ListN.{length-set}
 use lib.Seq.{get_or-set_same, get_or-set_other}
 use Rattle.finite.specs.Tests.{decide, same_or_not}
 use Rattle.finite.specs.Bounded.{below_suc}
 use Rattle.model.specs.declared.Point.{Point}
 use Rattle.model.specs.declared.Note.{Note}
 use Rattle.model.specs.declared.Map.{Map}
-use Rattle.model.specs.Plane.{in_range}
-use Rattle.model.specs.Maps.{point_limit, no_dart, own, helper, point, is_present, edge_link, note}
+use Rattle.model.specs.Plane.{origin, in_range}
+use Rattle.model.specs.Maps.{point_limit, no_dart, own, helper, point, is_present, edge_link, note, no_note}
 use Rattle.model.specs.Arrival.{freeing_none, freed_by, freeing, with_point}
 use Rattle.model.proofs.Shape.{present_below}
 use Rattle.model.specs.Shape.{Shaped, ShapedPoints, Fitting, ShapedNotes}
@@ -27,29 +26,18 @@ module _ {m : Map} (s : Shaped m) (room : m.count < point_limit) (p : Point) (no
     (helpers : List Bool) (edge : List ℕ) (reference : ℕ) where
   pub point_new : point (with_point m p noted helpers edge reference) m.count ≡ p
   unfolding point with_point
-  point_new =
-      let x : get_or (set m.xs m.count p.x) m.count (pos 0) ≡ p.x =
-      get_or-set_same m.xs m.count p.x (pos 0) (rw s.points.xs_whole room) in
-      let y : get_or (set m.ys m.count p.y) m.count (pos 0) ≡ p.y =
-      get_or-set_same m.ys m.count p.y (pos 0) (rw s.points.ys_whole room) in
-      λ i. record { x = x i; y = y i }
+  point_new = get_or-set_same m.points m.count p origin (rw s.points.points_whole room)
 
   pub point_old : (k : ℕ) → k ≢ m.count → point (with_point m p noted helpers edge reference) k ≡ point m k
   unfolding point with_point
-  point_old k other =
-      let x : get_or (set m.xs m.count p.x) k (pos 0) ≡ get_or m.xs k (pos 0) =
-      get_or-set_other m.xs m.count k p.x (pos 0) other in
-      let y : get_or (set m.ys m.count p.y) k (pos 0) ≡ get_or m.ys k (pos 0) =
-      get_or-set_other m.ys m.count k p.y (pos 0) other in
-      λ i. record { x = x i; y = y i }
+  point_old k other = get_or-set_other m.points m.count k p origin other
 
   pub with_point_sound : T (in_range p) → ((k : ℕ) → k < m.count → point m k ≢ p) →
       ShapedPoints (with_point m p noted helpers edge reference)
   unfolding with_point
   with_point_sound ranged differs =
       record {
-        xs_whole = length-set m.xs m.count p.x ∙ s.points.xs_whole;
-        ys_whole = length-set m.ys m.count p.y ∙ s.points.ys_whole;
+        points_whole = length-set m.points m.count p ∙ s.points.points_whole;
         ranged = λ k h.
             ⊎_elim
             (λ (l : k < m.count). rw (point_old k (omega arith)) (s.points.ranged k l))
@@ -66,34 +54,17 @@ module _ {m : Map} (s : Shaped m) (room : m.count < point_limit) (p : Point) (no
 
   pub note_new : note (with_point m p noted helpers edge reference) m.count ≡ noted
   unfolding note with_point
-  note_new =
-      let k = m.count in
-      let a : get_or (set m.arrivals k noted.arrival) k 0 ≡ noted.arrival =
-      get_or-set_same m.arrivals k noted.arrival 0 (rw s.notes.arrivals_whole room) in
-      let l : get_or (set m.lefts k noted.left) k no_dart ≡ noted.left =
-      get_or-set_same m.lefts k noted.left no_dart (rw s.notes.lefts_whole room) in
-      let r : get_or (set m.rights k noted.right) k no_dart ≡ noted.right =
-      get_or-set_same m.rights k noted.right no_dart (rw s.notes.rights_whole room) in
-      λ i. record { arrival = a i; left = l i; right = r i }
+  note_new = get_or-set_same m.notes m.count noted no_note (rw s.notes.notes_whole room)
 
   pub note_old : (k : ℕ) → k ≢ m.count → note (with_point m p noted helpers edge reference) k ≡ note m k
   unfolding note with_point
-  note_old k other =
-      let a : get_or (set m.arrivals m.count noted.arrival) k 0 ≡ get_or m.arrivals k 0 =
-      get_or-set_other m.arrivals m.count k noted.arrival 0 other in
-      let l : get_or (set m.lefts m.count noted.left) k no_dart ≡ get_or m.lefts k no_dart =
-      get_or-set_other m.lefts m.count k noted.left no_dart other in
-      let r : get_or (set m.rights m.count noted.right) k no_dart ≡ get_or m.rights k no_dart =
-      get_or-set_other m.rights m.count k noted.right no_dart other in
-      λ i. record { arrival = a i; left = l i; right = r i }
+  note_old k other = get_or-set_other m.notes m.count k noted no_note other
 
   pub with_point_noted : Fitting noted → ShapedNotes (with_point m p noted helpers edge reference)
   unfolding with_point
   with_point_noted fits =
       record {
-        arrivals_whole = length-set m.arrivals m.count noted.arrival ∙ s.notes.arrivals_whole;
-        lefts_whole = length-set m.lefts m.count noted.left ∙ s.notes.lefts_whole;
-        rights_whole = length-set m.rights m.count noted.right ∙ s.notes.rights_whole;
+        notes_whole = length-set m.notes m.count noted ∙ s.notes.notes_whole;
         fitting = λ k.
             ⊎_elim (λ (e : k ≡ m.count). rw (e, note_new) fits)
             (λ (n : k ≢ m.count). rw (note_old k n) (s.notes.fitting k)) (same_or_not k m.count);

@@ -8,7 +8,7 @@ use Rattle.finite.specs.Lists.{elem}
 use Rattle.finite.specs.ListLaws.{elem_head, elem_cut, elem_swap}
 use Rattle.orbits.proofs.ClosedWalks.{ClosedPart}
 use Rattle.model.specs.declared.Map.{Map}
-use Rattle.model.specs.Maps.{own, owner, point, has_helper, is_present, edge_link, point_link, note, with_outline}
+use Rattle.model.specs.Maps.{own, owner, point, has_helper, is_present, edge_link, point_link, note}
 use Rattle.model.specs.Outline.{next_corner, outline}
 use Rattle.model.specs.Shape.{ShapedPoints, ShapedLinks, ShapedNotes, AllBeside, Shaped}
 use Rattle.maps.proofs.Darts.{owner_own, is_own_own}
@@ -19,7 +19,15 @@ use Rattle.maps.proofs.Soundness.{sound_with_outline}
 
 -- the map with the own dart of point a for its reference
 abbrev pub referring : Map → ℕ → Map
-referring m a = with_outline m m.xs m.ys m.edge m.count (own a)
+referring m a =
+    record {
+      points = m.points;
+      helpers = m.helpers;
+      edge = m.edge;
+      notes = m.notes;
+      count = m.count;
+      reference = own a;
+    }
 
 module _ {m : Map} (s : Shaped m) (a : ℕ) (on : T (elem a (outline m))) where
   two : 2 ≤ m.count
@@ -59,8 +67,7 @@ module _ {m : Map} (s : Shaped m) (a : ℕ) (on : T (elem a (outline m))) where
   points =
       let p = s.points in
       record {
-        xs_whole = p.xs_whole;
-        ys_whole = p.ys_whole;
+        points_whole = p.points_whole;
         ranged = p.ranged;
         distinct = p.distinct;
         vacant = p.vacant;
@@ -88,9 +95,7 @@ module _ {m : Map} (s : Shaped m) (a : ℕ) (on : T (elem a (outline m))) where
   notes =
       let n = s.notes in
       record {
-        arrivals_whole = n.arrivals_whole;
-        lefts_whole = n.lefts_whole;
-        rights_whole = n.rights_whole;
+        notes_whole = n.notes_whole;
         fitting = n.fitting;
         unnoted = n.unnoted;
       }

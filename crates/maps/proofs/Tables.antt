@@ -18,7 +18,7 @@ use Rattle.orbits.specs.Sets.{dart_limit}
 use Rattle.orbits.specs.Links.{Composable, Permutes, Involutes, Permuted, link_of, test_of}
 use Rattle.orbits.proofs.Permutations.{involution_permutes}
 use Rattle.model.specs.declared.Map.{Map}
-use Rattle.model.specs.Maps.{point_limit, own, helper, owner, other_dart, present_by, point_link_by, has_helper, is_present, edge_link, point_link, dart_bound}
+use Rattle.model.specs.Maps.{point_limit, own, helper, owner, other_dart, point_link_by, has_helper, is_present, edge_link, point_link, dart_bound}
 use Rattle.model.specs.Shape.{Shaped}
 use Rattle.maps.proofs.Darts.{owner_own, owner_helper, other_own, other_helper, present_dart}
 use Rattle.maps.proofs.Links.{point_involutes}
@@ -57,9 +57,10 @@ module _ (helped : ℕ → Bool) (k : ℕ) where
 -- ---- a loop that asks which darts are present, up to those of the last point
 
 -- a list of no answers holds what is true from there on
-pub none_present : (helped : ℕ → Bool) (count : ℕ) (d : ℕ) → own count ≤ d →
-    get_or (replicate dart_limit false) d false ≡ present_by helped count d
-none_present helped count d h = replicate_at dart_limit false d ∙ sym (rw (le-ltb (owner d) count (omega arith)))
+pub none_present : (m : Map) (d : ℕ) → dart_bound m ≤ d →
+    get_or (replicate dart_limit false) d false ≡ is_present m d
+unfolding is_present
+none_present m d h = replicate_at dart_limit false d ∙ sym (rw (le-ltb (owner d) m.count (omega arith)))
 
 -- ---- what such lists hold
 
@@ -79,6 +80,9 @@ module _ (m : Map) where
       λ i d.
       get_or_rule dart_limit (point_link m) (λ k. k)
       (λ e l. rw (get_or-eq_default m.helpers false {n = owner e} (omega arith))) d i
+
+  pub links_whole : {points : List ℕ} → points ≡ table dart_limit (point_link m) → length points ≡ dart_limit
+  links_whole e = ap length e ∙ length_table dart_limit (point_link m)
 
   pub present_table : m.count ≤ point_limit → test_of (table dart_limit (is_present m)) ≡ is_present m
   unfolding is_present

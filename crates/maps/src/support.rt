@@ -1,51 +1,23 @@
 // Whether the points of a map lie beside an edge between two of them.
 
-ghost use Rattle.std.specs.Prelude.{◌≡◌, ℕ, ◌+◌, T};
+ghost use Rattle.std.specs.Prelude.{◌≡◌, length};
 ghost use Rattle.finite.specs.Bounded.{all};
-ghost use Rattle.model.specs.Plane.{in_range};
-ghost use Rattle.model.specs.Maps.{point_at};
-ghost use Rattle.maps.specs.Places.{EdgeRead, PlacesFor, aside_at};
+ghost use Rattle.maps.specs.Places.{AllRanged, aside_in};
 
-use super::places::point_held;
-use super::reading::point_at;
-use model::Point;
+use model::{Point, point_in};
 use plane::is_beside;
 
-// Whether the first n points, but for a and b, lie beside the edge from a to b.
-pub fn is_supporting_edge<'a>(xs: &'a [i64], ys: &'a [i64], n: usize, a: usize, b: usize) -> bool
-    requires by_index { (k : ℕ) → T (in_range (point_at xs.now ys.now k)) }
-    requires places_for { PlacesFor xs.now ys.now n }
-    ensures { result ≡ all n (aside_at xs.now ys.now a b) }
+// Whether the points, but for a and b, lie beside the edge from a to b. Most do, so that is asked first.
+pub fn is_supporting_edge(points: &[Point], a: usize, b: usize) -> bool
+    requires { AllRanged points.now }
+    ensures { result ≡ all (length points.now) (aside_in points.now a b) }
 {
-    let from = point_at(xs, ys, a);
-    let to = point_at(xs, ys, b);
-    for c in 0..n {
-        if !is_end_or_beside(xs, ys, a, b, from, to, c) {
+    let from = point_in(points, a);
+    let to = point_in(points, b);
+    for (c, p) in points.iter().enumerate() {
+        if !is_beside(from, to, *p) && c != a && c != b {
             return false;
         }
     }
     true
-}
-
-// Whether point c is an end of the edge from a to b, whose ends were read, or lies beside it. Most points do, so that is
-// asked first.
-fn is_end_or_beside<'a>(
-    xs: &'a [i64],
-    ys: &'a [i64],
-    a: usize,
-    b: usize,
-    from: Point,
-    to: Point,
-    c: usize,
-) -> bool
-    requires { EdgeRead xs.now ys.now a b from to × PlacesFor xs.now ys.now (c + 1) }
-    ensures { result ≡ aside_at xs.now ys.now a b c }
-{
-    if is_beside(from, to, point_held(xs, ys, c)) {
-        return true;
-    }
-    if c == a {
-        return true;
-    }
-    c == b
 }

@@ -11,20 +11,19 @@ use native.Mathlib.Numerals.{add-one}
 use native.Mathlib.Omega.{arith}
 use mir.Val.{bool_byte}
 use lib.Dec.{T, T_not, not_T}
-use lib.ListN.{replicate}
 use Rattle.finite.specs.Tests.{and_left, and_right, and_both, of_true, decide}
 use Rattle.finite.specs.Bounded.{one_if, sum, count, lt_or_ge}
 use Rattle.finite.specs.Counting.{count_small, one_if_passes, one_if_fails}
 use Rattle.orbits.specs.Reach.{Reach, by_one, by_two}
 use Rattle.orbits.specs.Classes.{is_least, classes}
-use Rattle.orbits.specs.Sets.{dart_limit}
 use Rattle.orbits.specs.Links.{Dart, Permutes, link_of, test_of, Permuted}
-use Rattle.orbits.specs.Queue.{Queue, Closed, Ready, Visited}
+use Rattle.orbits.specs.Visits.{Closed, Ready, Visited}
+use Rattle.orbits.specs.declared.visits.Queue.{Queue}
 use Rattle.orbits.proofs.Reach.{Symmetric, double_to_single, single_to_double}
 use Rattle.orbits.proofs.Permutations.{orbit_keeps, part_keeps, part_symmetric}
 use Rattle.orbits.proofs.Classes.{least_iff_first, same_classes}
 use Rattle.orbits.proofs.Queue.{lengthened_seen, lengthened_cases}
-use Rattle.orbits.proofs.Parts.{none_seen, queue_none, closed_none, closed_reach, part_within}
+use Rattle.orbits.proofs.Parts.{none_seen, closed_none, closed_reach, part_within}
 
 -- a is the first dart of its part
 abbrev first : List ℕ → List ℕ → ℕ → (ℕ → Bool) → ℕ → Bool
@@ -32,38 +31,32 @@ first f g n present a = present a && is_least (by_two (link_of f) (link_of g)) n
 
 -- The darts below a have been passed: what they reach is in the queue, and nothing else; their parts
 -- are counted.
-pub record Counting (f g : List ℕ) (n : ℕ) (present : ℕ → Bool) (order : List ℕ) (seen : List Bool)
-    (end parts a : ℕ) : Type 0 where
-  pub queue : Queue order seen end
-  pub links : Closed (link_of f) (link_of g) seen
-  pub from : (e : ℕ) → T (test_of seen e) →
+pub record Counting (f g : List ℕ) (n : ℕ) (present : ℕ → Bool) (q : Queue) (parts a : ℕ) : Type 0 where
+  pub links : Closed (link_of f) (link_of g) q.seen
+  pub from : (e : ℕ) → T (test_of q.seen e) →
       (b : ℕ) × (b < a) × Dart n present b × Reach (by_two (link_of f) (link_of g)) b e
-  pub passed : (b : ℕ) → b < a → Dart n present b → T (test_of seen b)
+  pub passed : (b : ℕ) → b < a → Dart n present b → T (test_of q.seen b)
   pub within : a ≤ n
   pub parts_counted : parts ≡ count a (first f g n present)
 
-pub counting_none : (f g : List ℕ) (n : ℕ) (present : ℕ → Bool) →
-    Counting f g n present (replicate dart_limit 0) (replicate dart_limit false) 0 0 0
+pub counting_none : (f g : List ℕ) (n : ℕ) (present : ℕ → Bool) {q : Queue} → q.end ≡ 0 → Counting f g n present q 0 0
 unfolding count sum
-counting_none f g n present =
+counting_none f g n present {q} none =
     record {
-      queue = queue_none;
-      links = closed_none (link_of f) (link_of g);
-      from = λ e t. absurd (none_seen dart_limit e t);
+      links = closed_none q none (link_of f) (link_of g);
+      from = λ e t. absurd (none_seen q none e t);
       passed = λ b l h. absurd (not-suc-le-zero l);
       within = zero-le;
       parts_counted = refl;
     }
 
--- the same numbers under other names, as where two ways through the code meet
-pub counting_same : {f g : List ℕ} {n : ℕ} {present : ℕ → Bool} {order order₁ : List ℕ} {seen seen₁ : List Bool}
-    {end end₁ parts parts₁ a : ℕ} → order₁ ≡ order → seen₁ ≡ seen → end₁ ≡ end → parts₁ ≡ parts →
-    Counting f g n present order seen end parts a → Counting f g n present order₁ seen₁ end₁ parts₁ a
-counting_same o s e p c = rw (o, s, e, p) c
+-- the same under other names, as where two ways through the code meet
+pub counting_same : {f g : List ℕ} {n : ℕ} {present : ℕ → Bool} {q r : Queue} {parts parts₁ a : ℕ} → r ≡ q →
+    parts₁ ≡ parts → Counting f g n present q parts a → Counting f g n present r parts₁ a
+counting_same s e c = rw (s, e) c
 
-pub counting_ends : {f g : List ℕ} {n : ℕ} {present : ℕ → Bool} {order : List ℕ} {seen : List Bool}
-    {end parts a : ℕ} → Counting f g n present order seen end parts a → n ≤ a →
-    parts ≡ classes (by_two (link_of f) (link_of g)) n present
+pub counting_ends : {f g : List ℕ} {n : ℕ} {present : ℕ → Bool} {q : Queue} {parts a : ℕ} →
+    Counting f g n present q parts a → n ≤ a → parts ≡ classes (by_two (link_of f) (link_of g)) n present
 unfolding classes
 counting_ends {f} {g} {n} {present} {a = a} c l =
     let e : a ≡ n = omega (arith, c.within) in
@@ -83,8 +76,8 @@ one_if_byte true = refl
 one_if_byte false = refl
 
 -- there are no more parts than darts passed
-pub counting_small : {f g : List ℕ} {n : ℕ} {present : ℕ → Bool} {order : List ℕ} {seen : List Bool}
-    {end parts a : ℕ} → Counting f g n present order seen end parts a → parts ≤ a
+pub counting_small : {f g : List ℕ} {n : ℕ} {present : ℕ → Bool} {q : Queue} {parts a : ℕ} →
+    Counting f g n present q parts a → parts ≤ a
 counting_small {f} {g} {n} {present} {a = a} c =
     omega (arith, c.parts_counted, count_small a (first f g n present))
 
@@ -92,10 +85,9 @@ module _ {f g : List ℕ} {n : ℕ} {present : ℕ → Bool} (p : Permuted n pre
   symmetric : Symmetric n present (by_two (link_of f) (link_of g))
   symmetric = part_symmetric p.first.permutes p.second.permutes
 
-  module _ {order : List ℕ} {seen : List Bool} {end parts a : ℕ} (c : Counting f g n present order seen end parts a)
-      (l : a < n) where
+  module _ {q : Queue} {parts a : ℕ} (c : Counting f g n present q parts a) (l : a < n) where
     -- a dart that is in the queue is reached from one before it
-    old_not_first : T (test_of seen a) → ¬ T (first f g n present a)
+    old_not_first : T (test_of q.seen a) → ¬ T (first f g n present a)
     old_not_first t u =
         let b = c.from a t in
         (least_iff_first symmetric
@@ -103,11 +95,10 @@ module _ {f g : List ℕ} {n : ℕ} {present : ℕ → Bool} (p : Permuted n pre
         (and_right (present a) _ u) b.0 b.1 b.2 b.3
 
     -- past a dart that is absent or in the queue
-    pub counting_skip : present a && not (test_of seen a) ≡ false →
-        Counting f g n present order seen end parts (a + 1)
+    pub counting_skip : present a && not (test_of q.seen a) ≡ false →
+        Counting f g n present q parts (a + 1)
     counting_skip old =
         record {
-          queue = c.queue;
           links = c.links;
           from = λ e t. let b = c.from e t in (b.0, omega (arith, b.1), b.2, b.3);
           passed = λ b h d.
@@ -127,27 +118,27 @@ module _ {f g : List ℕ} {n : ℕ} {present : ℕ → Bool} (p : Permuted n pre
               );
         }
       where
-        in_queue : T (present a) → T (test_of seen a)
+        in_queue : T (present a) → T (test_of q.seen a)
         in_queue t =
             ⊎_elim
             (λ s. s)
-            (λ (s : T (not (test_of seen a))).
-            absurd (subst T old (and_both (present a) (not (test_of seen a)) t s)))
-            (decide (test_of seen a))
+            (λ (s : T (not (test_of q.seen a))).
+            absurd (subst T old (and_both (present a) (not (test_of q.seen a)) t s)))
+            (decide (test_of q.seen a))
 
         not_first : ¬ T (first f g n present a)
         not_first u = old_not_first (in_queue (and_left (present a) _ u)) u
 
     -- a dart that is not in the queue is the first of its part
-    module _ (new : present a && not (test_of seen a) ≡ true) where
-      is_unseen : T (present a && not (test_of seen a))
-      is_unseen = of_true (present a && not (test_of seen a)) new
+    module _ (new : present a && not (test_of q.seen a) ≡ true) where
+      is_unseen : T (present a && not (test_of q.seen a))
+      is_unseen = of_true (present a && not (test_of q.seen a)) new
 
       a_present : T (present a)
-      a_present = and_left (present a) (not (test_of seen a)) is_unseen
+      a_present = and_left (present a) (not (test_of q.seen a)) is_unseen
 
-      not_seen : ¬ T (test_of seen a)
-      not_seen = T_not (test_of seen a) (and_right (present a) (not (test_of seen a)) is_unseen)
+      not_seen : ¬ T (test_of q.seen a)
+      not_seen = T_not (test_of q.seen a) (and_right (present a) (not (test_of q.seen a)) is_unseen)
 
       a_dart : Dart n present a
       a_dart = record { below = l; is_present = a_present }
@@ -155,27 +146,25 @@ module _ {f g : List ℕ} {n : ℕ} {present : ℕ → Bool} (p : Permuted n pre
       a_least : T (is_least (by_two (link_of f) (link_of g)) n a)
       a_least =
           (least_iff_first symmetric a_dart).1
-          (λ b h d r. not_seen (closed_reach seen c.links r (c.passed b h d)))
+          (λ b h d r. not_seen (closed_reach q.seen c.links r (c.passed b h d)))
 
       -- its part can be visited
-      pub counting_ready : Ready f g a order seen end
-      counting_ready = record { within = part_within p a_dart; queue = c.queue; closed = c.links }
+      pub counting_ready : Ready f g a q
+      counting_ready = record { within = part_within p a_dart; closed = c.links }
 
       -- past it, with its part counted
-      pub counting_part : {order₁ : List ℕ} {seen₁ : List Bool} {end₁ : ℕ} → Visited f g a order end order₁ seen₁ end₁ →
-          Counting f g n present order₁ seen₁ end₁ (parts + 1) (a + 1)
+      pub counting_part : {r : Queue} → Visited f g a q r → Counting f g n present r (parts + 1) (a + 1)
       counting_part v =
           record {
-            queue = v.lengthened.queue;
             links = v.closed;
             from = λ e t.
                 ⊎_elim
-                (λ (o : T (test_of seen e)). let b = c.from e o in (b.0, omega (arith, b.1), b.2, b.3))
+                (λ (o : T (test_of q.seen e)). let b = c.from e o in (b.0, omega (arith, b.1), b.2, b.3))
                 (λ (s : Reach (by_two (link_of f) (link_of g)) a e). (a, omega arith, a_dart, s))
-                (lengthened_cases v.lengthened c.queue e t);
+                (lengthened_cases v.lengthened e t);
             passed = λ b h d.
                 ⊎_elim
-                (λ (m : b < a). lengthened_seen v.lengthened c.queue b (c.passed b m d))
+                (λ (m : b < a). lengthened_seen v.lengthened b (c.passed b m d))
                 (λ (m : a ≤ b). let e : b ≡ a = omega arith in rw e v.start)
                 (lt_or_ge b a);
             within = omega arith;

@@ -5,43 +5,47 @@ use mathlib.Core.Path.{◌≡◌, sym}
 use mathlib.Core.Logic.{⊎_elim}
 use mathlib.Core.Bool.{Bool, false}
 use mathlib.Core.List.{List}
-use Prim.Native.Nat.{ℕ, ◌≤◌, ◌<◌, zero-le}
-use native.Mathlib.Nat.{not-suc-le-zero}
+use Prim.Native.Nat.{ℕ, ◌≤◌, ◌<◌}
+use native.Mathlib.Omega.{arith}
 use lib.Dec.{T, eqb, eqb→eq}
 use lib.ListN.{length, get_or, replicate, length-replicate, get_or-replicate, get_or-eq_default}
-use Rattle.finite.specs.Tests.{same_test, equal_by}
-use Rattle.finite.specs.Bounded.{any_at, any_by, lt_or_ge}
+use Rattle.finite.specs.Tests.{same_test}
+use Rattle.finite.specs.Bounded.{any_at, count, lt_or_ge}
 use Rattle.finite.specs.Counting.{count_none}
 use Rattle.orbits.specs.Reach.{Reach, here, there, by_one, by_two, reaches, StaysBelow}
 use Rattle.orbits.specs.Sets.{dart_limit, set_of}
 use Rattle.orbits.specs.Links.{link_of, test_of, Followable, Permuted}
-use Rattle.orbits.specs.Queue.{Queue, Closed, Visited, queued}
+use Rattle.orbits.specs.Queue.{queued}
+use Rattle.orbits.specs.Visits.{Closed, Visited}
+use Rattle.orbits.specs.declared.visits.Queue.{Queue}
 use Rattle.orbits.proofs.Reach.{Dart, Keeps, keeps_stays, reaches_sound, stays_complete, reaches_same, reaches_wider, double_to_single, single_to_double, by_two_each}
 use Rattle.orbits.proofs.Permutations.{part_keeps}
 use Rattle.orbits.proofs.Sets.{set_of_same}
+use Rattle.orbits.proofs.Queue.{place}
 
 -- ---- no dart
 
-pub none_seen : (n d : ℕ) → ¬ T (test_of (replicate n false) d)
-none_seen n d t =
+no_answer : (n d : ℕ) → ¬ T (test_of (replicate n false) d)
+no_answer n d t =
     ⊎_elim
     (λ (h : d < n). rw (get_or-replicate n d false false h) at t)
     (λ (h : n ≤ d).
     rw (get_or-eq_default (replicate n false) false {n = d} (rw (length-replicate n false) h)) at t)
     (lt_or_ge d n)
 
-pub queue_none : Queue (replicate dart_limit 0) (replicate dart_limit false) 0
-queue_none =
-    record {
-      order_whole = length-replicate {A = ℕ} dart_limit 0;
-      seen_whole = length-replicate dart_limit false;
-      held = λ i l. absurd (not-suc-le-zero l);
-      place = λ d t. absurd (none_seen dart_limit d t);
-      size = sym (count_none dart_limit (test_of (replicate dart_limit false)) (λ d l. none_seen dart_limit d));
-    }
+pub empty_placed : (order : List ℕ) (d : ℕ) → T (test_of (replicate dart_limit false) d) → T (queued order 0 d)
+empty_placed order d t = absurd (no_answer dart_limit d t)
 
-pub closed_none : (f g : ℕ → ℕ) → Closed f g (replicate dart_limit false)
-closed_none f g d t = absurd (none_seen dart_limit d t)
+pub empty_size : 0 ≡ count dart_limit (test_of (replicate dart_limit false))
+empty_size = sym (count_none dart_limit (test_of (replicate dart_limit false)) (λ d l. no_answer dart_limit d))
+
+-- of a queue whose end is 0
+module _ (q : Queue) (none : q.end ≡ 0) where
+  pub none_seen : (d : ℕ) → ¬ T (test_of q.seen d)
+  none_seen d t = let at = place q d t in absurd (omega (arith, at.1, none))
+
+  pub closed_none : (f g : ℕ → ℕ) → Closed f g q.seen
+  closed_none f g d t = absurd (none_seen d t)
 
 -- ---- what a visit finds
 
@@ -54,25 +58,23 @@ closed_reach {f} {g} seen closed {a} (there {b = b} {c = c} r e) t =
     by_two_each (λ x. T (test_of seen x)) f g b c e links.0 links.1
 
 -- from no dart, the queue comes to hold just what is reached from d
-pub visited_set : {f g : List ℕ} {d : ℕ} {order order_after : List ℕ} {seen_after : List Bool} {end : ℕ} →
-    Followable f g d → Visited f g d order 0 order_after seen_after end →
-    set_of (queued order_after end) ≡ set_of (reaches (by_two (link_of f) (link_of g)) dart_limit d)
+pub visited_set : {f g : List ℕ} {d : ℕ} {q r : Queue} → q.end ≡ 0 → Followable f g d → Visited f g d q r →
+    set_of (queued r.order r.end) ≡ set_of (reaches (by_two (link_of f) (link_of g)) dart_limit d)
 unfolding queued
-visited_set {f} {g} {d} {order_after = order} {seen_after = seen} {end = end} w v =
-    set_of_same (queued order end) (reaches (by_two (link_of f) (link_of g)) dart_limit d)
-    (λ e l. same_test (queued order end e) (reaches (by_two (link_of f) (link_of g)) dart_limit d e) (to e) (from e))
+visited_set {f} {g} {d} {r = r} none w v =
+    set_of_same (queued r.order r.end) (reaches (by_two (link_of f) (link_of g)) dart_limit d)
+    (λ e l. same_test (queued r.order r.end e) (reaches (by_two (link_of f) (link_of g)) dart_limit d e) (to e) (from e))
   where
-    to : (e : ℕ) → T (queued order end e) → T (reaches (by_two (link_of f) (link_of g)) dart_limit d e)
+    to : (e : ℕ) → T (queued r.order r.end e) → T (reaches (by_two (link_of f) (link_of g)) dart_limit d e)
     to e t =
-        let at = any_at end (λ i. eqb e (get_or order i 0)) t in
+        let at = any_at r.end (λ i. eqb e (get_or r.order i 0)) t in
         stays_complete w.below
-        (rw (eqb→eq e (get_or order at.0 0) at.2) (v.lengthened.added at.0 zero-le at.1))
+        (rw (eqb→eq e (get_or r.order at.0 0) at.2) (v.lengthened.added at.0 (omega (arith, none)) at.1))
 
-    from : (e : ℕ) → T (reaches (by_two (link_of f) (link_of g)) dart_limit d e) → T (queued order end e)
+    from : (e : ℕ) → T (reaches (by_two (link_of f) (link_of g)) dart_limit d e) → T (queued r.order r.end e)
     from e t =
         let reached = reaches_sound (by_two (link_of f) (link_of g)) dart_limit d e t in
-        let at = v.lengthened.queue.place e (closed_reach seen v.closed reached v.start) in
-        any_by end (λ i. eqb e (get_or order i 0)) at.0 at.1 (equal_by e (get_or order at.0 0) (sym at.2))
+        r.placed e (closed_reach r.seen v.closed reached v.start)
 
 -- ---- one link
 

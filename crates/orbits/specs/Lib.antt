@@ -4,10 +4,12 @@
 --     Walks      a walk along two links in turn
 --     Sets       a set of darts as sixteen words with its size
 --     Links      links that lists hold; permutations and involutions of the darts
---     Queue      the queue by which darts are visited
+--     Queue      the darts of the queue by which darts are visited
+--     Visits     what a visit adds to the queue
 pub mod Reach
 pub mod Classes
 pub mod Walks
 pub mod Sets
 pub mod Links
 pub mod Queue
+pub mod Visits

@@ -12,6 +12,8 @@ ghost use Rattle.orbits.specs.Sets.{dart_limit, set_of, no_darts, has, with_dart
 ghost use Rattle.orbits.specs.Walks.{walker_at};
 ghost use Rattle.orbits.specs.Links.{link_of, test_of, Composable, Composed, Followable, Permuted};
 
+use visits::Queue;
+
 // Darts are numbered 0 to 1,023.
 pub const DART_LIMIT: usize = 1024;
 
@@ -101,11 +103,8 @@ impl Walker {
     pub fn moved(self, link: &[usize]) -> Self
         ensures { result ≡ walker_at (link_of link.now self.dart) }
     {
-        let d = self.dart;
-        if d < link.len() {
-            Walker { dart: link[d] }
-        } else {
-            self
+        Walker {
+            dart: link_of(link, self.dart),
         }
     }
 
@@ -121,7 +120,7 @@ impl Walker {
 pub fn link_of(links: &[usize], d: usize) -> usize
     ensures { result ≡ link_of links.now d }
 {
-    if d < links.len() { links[d] } else { d }
+    links.get(d).copied().unwrap_or(d)
 }
 
 // Makes the link g, which `both` holds, the link "f, then g". From n on f moves nothing, and g is both.
@@ -145,10 +144,9 @@ pub fn part(f: &[usize; DART_LIMIT], g: &[usize; DART_LIMIT], d: usize) -> DartS
     ensures { result ≡
         set_of (reaches (by_two (link_of f.now) (link_of g.now)) dart_limit d) }
 {
-    let mut order = [0usize; DART_LIMIT];
-    let mut seen = [false; DART_LIMIT];
-    let end = visits::visit(f, g, d, &mut order, &mut seen, 0);
-    visits::set_of(&order, end)
+    let mut queue = Queue::empty();
+    queue.visit(f, g, d);
+    queue.darts()
 }
 
 // The orbit of dart d: all that is reached from it by the link f.
@@ -171,17 +169,13 @@ pub fn part_count(
     ensures { result ≡
         classes (by_two (link_of f.now) (link_of g.now)) n (test_of present.now) }
 {
-    let mut order = [0usize; DART_LIMIT];
-    let mut seen = [false; DART_LIMIT];
-    let mut end = 0;
+    let mut queue = Queue::empty();
     let mut parts = 0;
-    let mut a = 0;
-    while a < n {
-        if visits::is_unseen(present, &seen, a) {
-            end = visits::visit(f, g, a, &mut order, &mut seen, end);
+    for a in 0..n {
+        if queue.is_unseen(present, a) {
+            queue.visit(f, g, a);
             parts += 1;
         }
-        a += 1;
     }
     parts
 }

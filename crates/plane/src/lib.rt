@@ -9,19 +9,19 @@ ghost use Rattle.model.specs.Plane.{at, beside, coordinate_in_range, in_range, o
 ghost use Rattle.plane.specs.OrientedAnswer.{RangedCoordinates, OrientedAnswer};
 
 use crate::between::are_opposite;
-use model::{Oriented, Point, Refusal};
+use model::{Point, Refusal};
 
 // Coordinates run from -COORDINATE_LIMIT to COORDINATE_LIMIT.
 pub const COORDINATE_LIMIT: i64 = 1000000000;
 
 // The orientation of three points: positive is a left turn. A coordinate out of range is refused.
-pub fn orientation_of(a: Point, b: Point, c: Point) -> Oriented
+pub fn orientation_of(a: Point, b: Point, c: Point) -> Result<i64, Refusal>
     ensures { OrientedAnswer a b c result }
 {
     if all_in_range(a, b, c) {
-        Oriented::Value(orientation_in_range(a, b, c))
+        Ok(orientation_in_range(a, b, c))
     } else {
-        Oriented::Refused(Refusal::OutOfRange)
+        Err(Refusal::OutOfRange)
     }
 }
 
@@ -32,6 +32,7 @@ fn all_in_range(a: Point, b: Point, c: Point) -> bool
 }
 
 // Whether both coordinates of a point are in range.
+#[tactic(auto, unfolding(model::specs::Plane::in_range))]
 pub fn in_range(p: Point) -> bool
     ensures { result ≡ in_range p }
 {
@@ -39,6 +40,7 @@ pub fn in_range(p: Point) -> bool
 }
 
 // Whether a coordinate is in range.
+#[tactic(auto, unfolding(model::specs::Plane::coordinate_in_range))]
 pub fn coordinate_in_range(z: i64) -> bool
     ensures { result ≡ coordinate_in_range z }
 {
@@ -46,14 +48,16 @@ pub fn coordinate_in_range(z: i64) -> bool
 }
 
 // Whether two points are equal.
+#[tactic(auto, unfolding(model::specs::Plane::same_point))]
 pub fn is_same(p: Point, q: Point) -> bool
     ensures { result ≡ same_point p q }
 {
-    p.x == q.x && p.y == q.y
+    p == q
 }
 
 // Whether c lies beside the edge from a to b, left of it or on it between its ends, as all other
 // points of a sound map lie beside each outline edge, for points that are in range.
+#[tactic(auto, using(crate::proofs::Betweenness::beside_on_line, crate::proofs::Betweenness::beside_positive, crate::proofs::Betweenness::beside_negative))]
 pub fn is_beside(a: Point, b: Point, c: Point) -> bool
     requires { T (in_range a && in_range b && in_range c) }
     ensures { result ≡ beside a b c }
@@ -70,6 +74,7 @@ pub fn is_beside(a: Point, b: Point, c: Point) -> bool
 
 // Whether a point c that arrives sees the edge from a to b, which it is not beside, for points that
 // are in range.
+#[tactic(auto, unfolding(model::specs::Plane::sees_edge))]
 pub fn sees_edge(a: Point, b: Point, c: Point) -> bool
     requires { T (in_range a && in_range b && in_range c) }
     ensures { result ≡ sees_edge a b c }

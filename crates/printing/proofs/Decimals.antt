@@ -123,78 +123,94 @@ spelt_some n fits =
     (λ (h : 10 ≤ n). omega (arith, length_more n h fits))
     (lt_or_ge n 10)
 
--- the digits of n after those of `rest` are written, from the place after `place` on
+-- the digits of n after those of `rest` are written, from `place` on
 pub record Backwards (lent : List ℕ) (at n end : ℕ) (now : List ℕ) (rest place : ℕ) : Type 0 where
   pub back : List ℕ
   pub splits : spelt (pos n) ≡ spelt (pos rest) ++ back
-  pub begins : place + 1 ≡ at + length (spelt (pos rest))
-  pub wrote : PutAt lent (place + 1) back now end
+  pub begins : place ≡ at + length (spelt (pos rest))
+  pub wrote : PutAt lent place back now end
   pub less : rest ≤ n
 
 module _ {lent : List ℕ} {at n : ℕ} (room : Room lent at (spelt (pos n))) (fits : n < 2 ^ 64) where
-  pub backwards_none : {end : ℕ} → end ≡ at + length (spelt (pos n)) →
-      Backwards lent at n end lent n (end - 1)
+  pub backwards_none : {end : ℕ} → end ≡ at + length (spelt (pos n)) → Backwards lent at n end lent n end
   backwards_none {end} e =
-      let last : end - 1 + 1 ≡ end = omega (arith, spelt_some n fits) in
       record {
         back = [];
         splits = sym (append-nil (spelt (pos n)));
-        begins = last ∙ e;
-        wrote = rw last (wrote_none lent end);
+        begins = e;
+        wrote = wrote_none lent end;
         less = omega arith;
       }
 
   module _ {end rest place : ℕ} {now : List ℕ} (w : Backwards lent at n end now rest place) where
-    room_before : (b : ℕ) → Room lent place (b ∷ w.back)
+    room_before : (b : ℕ) → Room lent (place - 1) (b ∷ w.back)
     room_before b =
         record {
           room = omega (
             arith,
             room.room,
             w.begins,
+            spelt_some rest (omega (arith, w.less)),
             ap length w.splits ∙ length-append (spelt (pos rest)) w.back,
           );
         }
 
     pub backwards_long : length now ≡ length lent
-    backwards_long = wrote_length w.wrote (record { room = omega (arith, (room_before 0).room) })
+    backwards_long =
+        let some = spelt_some rest (omega (arith, w.less)) in
+        wrote_length w.wrote (record { room = omega (arith, (room_before 0).room, w.begins, some) })
 
-    pub backwards_inside : place < length now
+    -- two digits or more are left, or one
+    pub more_left : at + 1 < place → 10 ≤ rest
+    more_left h =
+        ⊎_elim
+        (λ (l : rest < 10). absurd (omega (arith, w.begins, length_one rest l)))
+        (λ (l : 10 ≤ rest). l)
+        (lt_or_ge rest 10)
+
+    pub one_left : place ≤ at + 1 → rest < 10
+    one_left h =
+        ⊎_elim
+        (λ (l : rest < 10). l)
+        (λ (l : 10 ≤ rest).
+        absurd (omega (
+          arith,
+          w.begins,
+          length_more rest l (omega (arith, w.less)),
+          spelt_some (rest / 10) (omega (arith, w.less)),
+        )))
+        (lt_or_ge rest 10)
+
+    pub backwards_inside : place - 1 < length now
     backwards_inside = omega (arith, (room_before 0).room, backwards_long)
 
     -- one digit more
-    module _ (h : 10 ≤ rest) where
-      fewer : length (spelt (pos rest)) ≡ length (spelt (pos (rest / 10))) + 1
-      fewer = length_more rest h (omega (arith, w.less))
-
-      pub backwards_some : 1 ≤ place
-      backwards_some =
-          omega (arith, w.begins, fewer, spelt_some (rest / 10) (omega (arith, w.less)))
-
-      pub backwards_more : {b : ℕ} → b ≡ digit_zero + rest % 10 →
-          Backwards lent at n end (set now place b) (rest / 10) (place - 1)
-      backwards_more {b} e =
-          let more : spelt (pos rest) ≡ spelt (pos (rest / 10)) ++ b ∷ [] =
-          rw e (spelt_more rest h (omega (arith, w.less))) in
-          let same : place - 1 + 1 ≡ place = omega (arith, backwards_some) in
-          record {
-            back = b ∷ w.back;
-            splits =
-                w.splits ∙ ap (λ (s : List ℕ). s ++ w.back) more
-                ∙ append_snoc (spelt (pos (rest / 10))) b w.back;
-            begins = omega (arith, w.begins, fewer, same);
-            wrote = rw same (wrote_before b (room_before b) w.wrote);
-            less = omega (arith, w.less);
-          }
+    pub backwards_more : {b : ℕ} → at + 1 < place → b ≡ digit_zero + rest % 10 →
+        Backwards lent at n end (set now (place - 1) b) (rest / 10) (place - 1)
+    backwards_more {b} h e =
+        let some : 10 ≤ rest = more_left h in
+        let fits' : rest < 2 ^ 64 = omega (arith, w.less) in
+        let more : spelt (pos rest) ≡ spelt (pos (rest / 10)) ++ b ∷ [] = rw e (spelt_more rest some fits') in
+        let same : place - 1 + 1 ≡ place = omega arith in
+        record {
+          back = b ∷ w.back;
+          splits =
+              w.splits ∙ ap (λ (s : List ℕ). s ++ w.back) more
+              ∙ append_snoc (spelt (pos (rest / 10))) b w.back;
+          begins = omega (arith, w.begins, length_more rest some fits');
+          wrote = wrote_before b (room_before b) (rw same w.wrote);
+          less = omega (arith, w.less);
+        }
 
     -- the first digit
-    pub backwards_all : {b : ℕ} → rest < 10 → b ≡ digit_zero + rest →
-        PutAt lent at (spelt (pos n)) (set now place b) end
+    pub backwards_all : {b : ℕ} → place ≤ at + 1 → b ≡ digit_zero + rest →
+        PutAt lent at (spelt (pos n)) (set now at b) end
     backwards_all {b} h e =
-        let one : spelt (pos rest) ≡ b ∷ [] = rw e (spelt_one rest h) in
-        let first : place ≡ at = omega (arith, w.begins, ap length one) in
+        let one : spelt (pos rest) ≡ b ∷ [] = rw e (spelt_one rest (one_left h)) in
+        let first : place - 1 ≡ at = omega (arith, w.begins, ap length one) in
+        let same : place - 1 + 1 ≡ place = omega (arith, w.begins, ap length one) in
         let whole : spelt (pos n) ≡ b ∷ w.back =
         w.splits ∙ ap (λ (s : List ℕ). s ++ w.back) one in
         rw whole
-        (subst (λ (k : ℕ). PutAt lent k (b ∷ w.back) (set now place b) end) first
-        (wrote_before b (room_before b) w.wrote))
+        (subst (λ (k : ℕ). PutAt lent k (b ∷ w.back) (set now k b) end) first
+        (wrote_before b (room_before b) (rw same w.wrote)))

@@ -6,6 +6,8 @@ use Prim.Native.Nat.{ℕ, ◌+◌, ◌*◌, ◌≤◌}
 use native.Mathlib.Omega.{arith}
 use lib.IntN.{pos}
 use lib.ListN.{length, length-append}
+use Rattle.std.specs.declared.result.Result.{Result}
+use Rattle.std.specs.declared.result.Result.TheVariants.{Ok, Err}
 use Rattle.model.specs.declared.Arrival.{Arrival}
 use Rattle.model.specs.declared.Refusal.{Refusal}
 use Rattle.model.specs.Spelling.{bytes, line_feed, space, spelt}
@@ -35,28 +37,32 @@ pub refused_as : (r : Refusal) (n : ℕ) → n ≡ number r →
     printed (refused r) ≡ answer_line (bytes "refused") (n ∷ [])
 refused_as r n e = rw e (refused_line r)
 
-pub first_line : printed (arrival_answer Arrival.First) ≡ answer_line (bytes "first") []
-unfolding printed answer_line arrival_answer
-first_line = refl
+-- of a point that is accepted, whose arrival was found, or refused
+module _ {answer : Result Arrival Refusal} where
+  pub first_as : {a : Arrival} → answer ≡ Ok a → a ≡ Arrival.First →
+      printed (arrival_answer answer) ≡ answer_line (bytes "first") []
+  unfolding printed answer_line arrival_answer
+  first_as e f = rw (e, f)
 
-pub second_line : printed (arrival_answer Arrival.Second) ≡ answer_line (bytes "second") []
-unfolding printed answer_line arrival_answer
-second_line = refl
+  pub second_as : {a : Arrival} → answer ≡ Ok a → a ≡ Arrival.Second →
+      printed (arrival_answer answer) ≡ answer_line (bytes "second") []
+  unfolding printed answer_line arrival_answer
+  second_as e f = rw (e, f)
 
-pub inside_line : printed (arrival_answer Arrival.Inside) ≡ answer_line (bytes "inside") []
-unfolding printed answer_line arrival_answer
-inside_line = refl
+  pub inside_as : {a : Arrival} → answer ≡ Ok a → a ≡ Arrival.Inside →
+      printed (arrival_answer answer) ≡ answer_line (bytes "inside") []
+  unfolding printed answer_line arrival_answer
+  inside_as e f = rw (e, f)
 
-pub outside_line : (l r v : ℕ) →
-    printed (arrival_answer (Arrival.Outside l r v)) ≡ answer_line (bytes "outside") (l ∷ r ∷ v ∷
-    [])
-unfolding printed answer_line arrival_answer
-outside_line l r v = refl
+  pub outside_as : {a : Arrival} {l r v : ℕ} → answer ≡ Ok a → a ≡ Arrival.Outside l r v →
+      printed (arrival_answer answer) ≡ answer_line (bytes "outside") (l ∷ r ∷ v ∷ [])
+  unfolding printed answer_line arrival_answer
+  outside_as e f = rw (e, f)
 
-pub refused_arrival : (r : Refusal) → printed (arrival_answer (Arrival.Refused r)) ≡ printed
-    (refused r)
-unfolding arrival_answer
-refused_arrival r = refl
+  pub refused_answer : {r : Refusal} → answer ≡ Err r →
+      printed (arrival_answer answer) ≡ printed (refused r)
+  unfolding arrival_answer
+  refused_answer e = rw e
 
 -- ---- how long they are
 
@@ -73,16 +79,23 @@ refused_most r = omega (
       ∷ []),
 )
 
-pub arrival_most : (a : Arrival) → length (printed (arrival_answer a)) ≤ 72
+pub arrival_most : (a : Result Arrival Refusal) → length (printed (arrival_answer a)) ≤ 72
 unfolding bytes
-arrival_most Arrival.First = omega (arith, ap length first_line, line_most (bytes "first") [])
-arrival_most Arrival.Second = omega (arith, ap length second_line, line_most (bytes "second") [])
-arrival_most Arrival.Inside = omega (arith, ap length inside_line, line_most (bytes "inside") [])
-arrival_most (Arrival.Outside l r v) =
-    omega (arith, ap length (outside_line l r v), line_most (bytes "outside") (l ∷ r ∷ v ∷ []))
-arrival_most (Arrival.Refused r) = omega (arith, ap length (refused_arrival r), refused_most r)
+arrival_most (Ok Arrival.First) =
+    omega (arith, ap length (first_as refl refl), line_most (bytes "first") [])
+arrival_most (Ok Arrival.Second) =
+    omega (arith, ap length (second_as refl refl), line_most (bytes "second") [])
+arrival_most (Ok Arrival.Inside) =
+    omega (arith, ap length (inside_as refl refl), line_most (bytes "inside") [])
+arrival_most (Ok (Arrival.Outside l r v)) =
+    omega (
+      arith,
+      ap length (outside_as {l = l} {r = r} {v = v} refl refl),
+      line_most (bytes "outside") (l ∷ r ∷ v ∷ []),
+    )
+arrival_most (Err r) = omega (arith, ap length (refused_answer {r = r} refl), refused_most r)
 
-module _ (n : ℕ) (a : Arrival) where
+module _ (n : ℕ) (a : Result Arrival Refusal) where
   pub arrival_line_length :
       length (arrival_line n a) ≡ length (spelt (pos n)) + 1 + length (printed (arrival_answer a))
   unfolding arrival_line

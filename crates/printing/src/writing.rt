@@ -1,7 +1,7 @@
 // Writing at a place of a lent list: bytes, words and whole numbers in decimal, each with its
 // length. A function that writes is given room and answers the place after what it wrote.
 
-ghost use Rattle.std.specs.Prelude.{◌≡◌, [], ◌∷◌, ◌+◌, ◌<◌, pos, nat_abs, length};
+ghost use Rattle.std.specs.Prelude.{◌≡◌, [], ◌∷◌, ◌+◌, ◌<◌, pos, length};
 ghost use Rattle.model.specs.Spelling.{digit_zero, spelt};
 ghost use Rattle.printing.specs.Writing.{Room, PutAt};
 
@@ -19,10 +19,9 @@ pub fn put_word(lent: &mut [u8], at: usize, word: &[u8]) -> usize
     requires { Room lent.old at word.now }
     ensures { PutAt lent.old at word.now lent.new result }
 {
-    for i in 0..word.len() {
-        lent[at + i] = word[i];
-    }
-    at + word.len()
+    let end = at + word.len();
+    lent[at..end].copy_from_slice(word);
+    end
 }
 
 // Writes a number in decimal, with a minus where it is negative.
@@ -32,9 +31,9 @@ pub fn put_number(lent: &mut [u8], at: usize, z: i64) -> usize
 {
     if z < 0 {
         let digits = put_byte(lent, at, b'-');
-        put_natural(lent, digits, magnitude(z))
+        put_natural(lent, digits, z.unsigned_abs())
     } else {
-        put_natural(lent, at, magnitude(z))
+        put_natural(lent, at, z.unsigned_abs())
     }
 }
 
@@ -43,9 +42,9 @@ pub fn number_length(z: i64) -> usize
     ensures { result ≡ length (spelt z) }
 {
     if z < 0 {
-        1 + natural_length(magnitude(z))
+        1 + natural_length(z.unsigned_abs())
     } else {
-        natural_length(magnitude(z))
+        natural_length(z.unsigned_abs())
     }
 }
 
@@ -56,13 +55,11 @@ pub fn put_natural(lent: &mut [u8], at: usize, n: u64) -> usize
 {
     let end = at + natural_length(n);
     let mut rest = n;
-    let mut place = end - 1;
-    while 10 <= rest {
+    for place in (at + 1..end).rev() {
         lent[place] = digit(rest % 10);
-        rest = rest / 10;
-        place -= 1;
+        rest /= 10;
     }
-    lent[place] = digit(rest);
+    lent[at] = digit(rest);
     end
 }
 
@@ -71,28 +68,14 @@ pub fn put_natural(lent: &mut [u8], at: usize, n: u64) -> usize
 pub fn natural_length(n: u64) -> usize
     ensures { result ≡ length (spelt (pos n)) }
 {
-    if n < 10 {
-        return 1;
+    match n {
+        0..10 => 1,
+        10..100 => 2,
+        100..1000 => 3,
+        1000..10000 => 4,
+        10000..100000 => 5,
+        _ => 4 + natural_length(n / 10000),
     }
-    if n < 100 {
-        return 2;
-    }
-    if n < 1000 {
-        return 3;
-    }
-    if n < 10000 {
-        return 4;
-    }
-    if n < 100000 {
-        return 5;
-    }
-    let mut rest = n / 10000;
-    let mut count = 5;
-    while 10 <= rest {
-        rest = rest / 10;
-        count += 1;
-    }
-    count
 }
 
 // The byte of a digit.
@@ -101,11 +84,4 @@ fn digit(n: u64) -> u8
     ensures { result ≡ digit_zero + n }
 {
     b'0' + n as u8
-}
-
-// The magnitude of a number, also of the least one.
-fn magnitude(z: i64) -> u64
-    ensures { result ≡ nat_abs z }
-{
-    if z < 0 { (-1 - z) as u64 + 1 } else { z as u64 }
 }

@@ -13,18 +13,18 @@ use native.Mathlib.Nat.{add-zero}
 use native.Mathlib.Omega.{arith}
 use borrow.Author.Tests.{eq-eqb, ne_eqb}
 use lib.Dec.{T, eqb, T_not}
-use lib.IntN.{ℤ, pos, nat_abs}
+use lib.IntN.{nat_abs}
 use lib.ListN.{length, get_or, take, drop}
 use lib.Seq.{take-add, take-length}
-use Rattle.finite.specs.Tests.{decide, is_false, either_way, same_or_not}
+use Rattle.finite.specs.Tests.{decide, is_false, same_or_not}
 use Rattle.finite.specs.Bounded.{one_if, table, lt_or_ge}
 use Rattle.finite.specs.Counting.{one_if_small, one_if_is}
 use Rattle.finite.specs.ListLaws.{get_d_any}
 use Rattle.orbits.specs.Sets.{dart_limit}
-use Rattle.model.specs.declared.Note.{Note}
+use Rattle.model.specs.declared.Point.{Point}
 use Rattle.model.specs.declared.Map.{Map}
-use Rattle.model.specs.Plane.{coordinate_limit}
-use Rattle.model.specs.Maps.{point_limit, no_dart, own, point_at, point, has_helper, is_present, edge_link, note}
+use Rattle.model.specs.Plane.{coordinate_limit, at, origin}
+use Rattle.model.specs.Maps.{point_limit, no_note, own, point_in, point, has_helper, is_present, edge_link, note}
 use Rattle.model.specs.Maps.{empty_map, map_points}
 use Rattle.model.specs.Building.{built}
 use Rattle.model.specs.Shape.{Fitting, Shaped}
@@ -33,9 +33,8 @@ use Rattle.model.specs.Saved.{version_place, count_place, reference_place, heade
 use Rattle.model.specs.Saved.{helpers_place, links_place, notes_place, notes_length, saved_length, following}
 use Rattle.model.specs.Saved.{coordinate, header, packed_note, notes_in, saved_in, saved, count_in_file}
 use Rattle.model.specs.Saved.{coordinate_in_file, helper_in_file, link_in_file, arrival_in_file, left_in_file}
-use Rattle.model.specs.Saved.{right_in_file, file_in_form_of, file_in_form, coordinates_in_file, helpers_in_file}
-use Rattle.model.specs.Saved.{links_in_file, arrivals_in_file, lefts_in_file, rights_in_file, points_in_file}
-use Rattle.model.specs.Saved.{built_in_file, by_version, map_in}
+use Rattle.model.specs.Saved.{right_in_file, file_in_form_of, file_in_form, point_in_file, note_in_file, places_in_file}
+use Rattle.model.specs.Saved.{helpers_in_file, links_in_file, notes_in_file, points_in_file, built_in_file, by_version, map_in}
 use Rattle.model.proofs.Shape.{place_ranged, present_below}
 use Rattle.plane.proofs.Bounds.{x_near, y_near}
 use Rattle.layout.proofs.Digits.{number_small, complement_small, signed_complement}
@@ -43,7 +42,6 @@ use Rattle.layout.proofs.Digits.{complement_signed, bytes_back}
 use Rattle.layout.proofs.Blocks.{block_same, block_back}
 use Rattle.layout.proofs.Notes.{arrival_group, left_group, right_group, groups_read}
 use Rattle.layout.proofs.Form.{IsVersion, version_small, in_form, Form, form_holds, form_by}
-use Rattle.maps.proofs.Same.{same_fields}
 use Rattle.saved.specs.Fields.{noted_in}
 use Rattle.saved.proofs.Tables.{until_table, until_at}
 use Rattle.saved.proofs.Places.{noted_length, noted_all, noted_below, notes_block, length_saved_in}
@@ -83,14 +81,14 @@ module _ {m : Map} (s : Shaped m) where
 
 -- ---- the file of a shaped map is in form, and its map is the map
 
-x_coordinate : (m : Map) (k : ℕ) → coordinate m (2 * k + 0) ≡ get_or m.xs k (pos 0)
-unfolding coordinate point
+x_coordinate : (m : Map) (k : ℕ) → coordinate m (2 * k) ≡ (point m k).x
+unfolding coordinate
 x_coordinate m k =
-    let e : (2 * k + 0) / 2 ≡ k = omega arith in
-    rw (eq-eqb ((2 * k + 0) % 2) 0 (omega arith), e)
+    let e : 2 * k / 2 ≡ k = omega arith in
+    rw (eq-eqb (2 * k % 2) 0 (omega arith), e)
 
-y_coordinate : (m : Map) (k : ℕ) → coordinate m (2 * k + 1) ≡ get_or m.ys k (pos 0)
-unfolding coordinate point
+y_coordinate : (m : Map) (k : ℕ) → coordinate m (2 * k + 1) ≡ (point m k).y
+unfolding coordinate
 y_coordinate m k =
     let e : (2 * k + 1) / 2 ≡ k = omega arith in
     rw (ne_eqb ((2 * k + 1) % 2) 0 (λ z. omega arith), e)
@@ -173,33 +171,24 @@ module _ {v : ℕ} (is : IsVersion v) {m : Map} (s : Shaped m) where
   pub saved_in_form : T (file_in_form file)
   saved_in_form = in_form is file saved_in_form_of
 
-  -- past the points stands 0
-  coordinate_past : (k d : ℕ) → d < 2 → m.count ≤ k → pos 0 ≡ coordinate m (2 * k + d)
-  unfolding coordinate
-  coordinate_past k d h l =
-      let e : (2 * k + d) / 2 ≡ k = omega arith in
-      rw (e, s.points.vacant k l) (sym (either_way (eqb ((2 * k + d) % 2) 0) (pos 0)))
-
-  -- the coordinates of one direction
-  coordinates_back : (l : List ℤ) → length l ≡ point_limit → (d : ℕ) → d < 2 →
-      ((k : ℕ) → coordinate m (2 * k + d) ≡ get_or l k (pos 0)) →
-      coordinates_in_file file (count_in_file file) d ≡ l
-  coordinates_back l whole d h same =
-      let c = count_back in
-      until_table (pos 0) l whole (count_in_file file) (λ k. coordinate_in_file file (2 * k + d)) (λ k. pos 0)
-      (λ k i b. coordinate_back (2 * k + d) (omega arith) ∙ same k)
-      (λ k i b. coordinate_past k d h (omega arith) ∙ same k)
-
-  xs_back : coordinates_in_file file (count_in_file file) 0 ≡ m.xs
-  xs_back = coordinates_back m.xs s.points.xs_whole 0 (omega arith) (x_coordinate m)
-
-  ys_back : coordinates_in_file file (count_in_file file) 1 ≡ m.ys
-  ys_back = coordinates_back m.ys s.points.ys_whole 1 (omega arith) (y_coordinate m)
-
   -- the points
+  point_back : (k : ℕ) → k < m.count → point_in_file file k ≡ point m k
+  point_back k l =
+      let x = coordinate_back (2 * k) (omega arith) ∙ x_coordinate m k in
+      let y = coordinate_back (2 * k + 1) (omega arith) ∙ y_coordinate m k in
+      λ i. at (x i) (y i)
+
+  places_back : places_in_file file (count_in_file file) ≡ m.points
+  unfolding point
+  places_back =
+      let c = count_back in
+      until_table origin m.points s.points.points_whole (count_in_file file) (point_in_file file) (λ k. origin)
+      (λ k i l. point_back k (omega arith))
+      (λ k i l. sym (s.points.vacant k (omega arith)))
+
   pub points_back : points_in_file file ≡ map_points m
   unfolding point
-  points_back = λ i. table (count_back i) (point_at (xs_back i) (ys_back i))
+  points_back = λ i. table (count_back i) (point_in (places_back i))
 
   helpers_back : helpers_in_file file (count_in_file file) ≡ m.helpers
   unfolding has_helper
@@ -223,56 +212,47 @@ module _ {v : ℕ} (is : IsVersion v) {m : Map} (s : Shaped m) where
       ∙ get_d_any m.edge d d 0 (omega arith))
 
   -- the notes, where the version has some
-  arrivals_back : v ≢ old_version → arrivals_in_file file (count_in_file file) ≡ m.arrivals
-  unfolding note
-  arrivals_back e =
-      let c = count_back in
-      until_table 0 m.arrivals s.notes.arrivals_whole (count_in_file file)
-      (arrival_in_file file (count_in_file file)) (λ k. 0)
-      (λ k i l. arrival_back e k (omega arith))
-      (λ k i l. sym (ap (λ (a : Note). a.arrival) (s.notes.unnoted k (omega arith))))
+  note_back : v ≢ old_version → (k : ℕ) → k < m.count → note_in_file file (count_in_file file) k ≡ note m k
+  note_back e k l =
+      let arrival = arrival_back e k l in
+      let left = left_back e k l in
+      let right = right_back e k l in
+      λ i. record { arrival = arrival i; left = left i; right = right i }
 
-  lefts_back : v ≢ old_version → lefts_in_file file (count_in_file file) ≡ m.lefts
+  notes_back : v ≢ old_version → notes_in_file file (count_in_file file) ≡ m.notes
   unfolding note
-  lefts_back e =
+  notes_back e =
       let c = count_back in
-      until_table no_dart m.lefts s.notes.lefts_whole (count_in_file file)
-      (left_in_file file (count_in_file file)) (λ k. no_dart)
-      (λ k i l. left_back e k (omega arith))
-      (λ k i l. sym (ap (λ (a : Note). a.left) (s.notes.unnoted k (omega arith))))
-
-  rights_back : v ≢ old_version → rights_in_file file (count_in_file file) ≡ m.rights
-  unfolding note
-  rights_back e =
-      let c = count_back in
-      until_table no_dart m.rights s.notes.rights_whole (count_in_file file)
-      (right_in_file file (count_in_file file)) (λ k. no_dart)
-      (λ k i l. right_back e k (omega arith))
-      (λ k i l. sym (ap (λ (a : Note). a.right) (s.notes.unnoted k (omega arith))))
+      until_table no_note m.notes s.notes.notes_whole (count_in_file file)
+      (note_in_file file (count_in_file file)) (λ k. no_note)
+      (λ k i l. note_back e k (omega arith))
+      (λ k i l. sym (s.notes.unnoted k (omega arith)))
 
   -- the old version has none: there the map must be the one that its points build
   module _ (builds : v ≡ old_version → m ≡ built empty_map (map_points m)) where
-    -- an array of notes, read or rebuilt
-    noted_back : (array : Map → List ℕ) {read : List ℕ} → (v ≢ old_version → read ≡ array m) →
-        by_version file (array (built_in_file file)) read ≡ array m
-    noted_back array found =
+    -- the notes, read or rebuilt
+    noted_back : by_version file (built_in_file file).notes (notes_in_file file (count_in_file file)) ≡ m.notes
+    noted_back =
         ⊎_elim
         (λ (e : v ≡ old_version).
         rw (eq-eqb (number_at file version_place 1) old_version (version_back ∙ e))
-        (ap array (ap (built empty_map) points_back ∙ sym (builds e))))
+        (ap (λ (n : Map). n.notes) (ap (built empty_map) points_back ∙ sym (builds e))))
         (λ (e : v ≢ old_version).
-        rw (ne_eqb (number_at file version_place 1) old_version (λ o. e (sym version_back ∙ o))) (found e))
+        rw (ne_eqb (number_at file version_place 1) old_version (λ o. e (sym version_back ∙ o))) (notes_back e))
         (same_or_not v old_version)
 
     pub map_back : map_in file ≡ m
     unfolding map_in
     map_back =
-        same_fields xs_back ys_back helpers_back links_back
-        (noted_back (λ n. n.arrivals) arrivals_back)
-        (noted_back (λ n. n.lefts) lefts_back)
-        (noted_back (λ n. n.rights) rights_back)
-        count_back
-        (reference_read v m (reference_small s))
+        λ i.
+        record {
+          points = places_back i;
+          helpers = helpers_back i;
+          edge = links_back i;
+          notes = noted_back i;
+          count = count_back i;
+          reference = reference_read v m (reference_small s) i;
+        }
 
 -- ---- no reader takes a file of another version for one of its own
 
@@ -296,11 +276,9 @@ bit_is b l =
     (same_or_not b 1)
 
 module _ {v : ℕ} {s : List ℕ} (b : Bytes s) (f : Form v s) where
-  coordinate_held : (k d : ℕ) → k < count_in_file s →
-      get_or (coordinates_in_file s (count_in_file s) d) k (pos 0) ≡ coordinate_in_file s (2 * k + d)
-  coordinate_held k d l =
-      until_at point_limit (count_in_file s) (λ j. coordinate_in_file s (2 * j + d)) (λ j. pos 0) k
-      (pos 0) f.few l
+  place_held : (k : ℕ) → k < count_in_file s →
+      get_or (places_in_file s (count_in_file s)) k origin ≡ point_in_file s k
+  place_held k l = until_at point_limit (count_in_file s) (point_in_file s) (λ j. origin) k origin f.few l
 
   coordinate_is : (i : ℕ) → i < 2 * count_in_file s →
       coordinate (map_in s) i ≡ coordinate_in_file s i
@@ -309,11 +287,11 @@ module _ {v : ℕ} {s : List ℕ} (b : Bytes s) (f : Form v s) where
       let k : i / 2 < count_in_file s = omega arith in
       ⊎_elim
       (λ (e : i % 2 ≡ 0).
-      let h : 2 * (i / 2) + 0 ≡ i = omega arith in
-      rw (eq-eqb (i % 2) 0 e) (coordinate_held (i / 2) 0 k ∙ ap (coordinate_in_file s) h))
+      let h : 2 * (i / 2) ≡ i = omega arith in
+      rw (eq-eqb (i % 2) 0 e) (ap (λ (p : Point). p.x) (place_held (i / 2) k) ∙ ap (coordinate_in_file s) h))
       (λ (e : i % 2 ≢ 0).
       let h : 2 * (i / 2) + 1 ≡ i = omega arith in
-      rw (ne_eqb (i % 2) 0 e) (coordinate_held (i / 2) 1 k ∙ ap (coordinate_in_file s) h))
+      rw (ne_eqb (i % 2) 0 e) (ap (λ (p : Point). p.y) (place_held (i / 2) k) ∙ ap (coordinate_in_file s) h))
       (same_or_not (i % 2) 0)
 
   coordinate_written : (i : ℕ) → i < 2 * count_in_file s →
@@ -349,9 +327,7 @@ module _ {v : ℕ} {s : List ℕ} (b : Bytes s) (f : Form v s) where
       let l = below.1 in
       rw (
         ne_eqb (number_at s version_place 1) old_version (λ o. below.0 (sym f.version_right ∙ o)),
-        until_at point_limit n (arrival_in_file s n) (λ j. 0) k 0 f.few l,
-        until_at point_limit n (left_in_file s n) (λ j. no_dart) k no_dart f.few l,
-        until_at point_limit n (right_in_file s n) (λ j. no_dart) k no_dart f.few l,
+        until_at point_limit n (note_in_file s n) (λ j. no_note) k no_note f.few l,
       )
       (sym (groups_read s (notes_place n + 5 * k)))
 

@@ -1,3 +1,3 @@
 -- What the functions of this crate answer. Nothing is assumed.
---     Fields    a map's fields as the file has them, read from its arrays
+--     Fields    what is written of a map
 pub mod Fields

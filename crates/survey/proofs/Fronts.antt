@@ -2,7 +2,7 @@
 -- ends where a number ends that something else follows; what is read of the front, for the list
 -- itself and for what stands before its first space; a line by its front.
 use mathlib.Core.Path.{◌≡◌, refl, sym, ap, ap₂, ◌∙◌}
-use mathlib.Core.Logic.{◌≢◌, ⊎_elim}
+use mathlib.Core.Logic.{◌≢◌, ◌⊎◌, ⊎_elim}
 use mathlib.Core.Bool.{true, false, not, cond, ◌&&◌}
 use mathlib.Core.List.{List, [], ◌∷◌, ◌++◌, append-nil}
 use Prim.Native.Nat.{ℕ, suc, ◌+◌, ◌≤◌, ◌<◌}
@@ -14,16 +14,19 @@ use lib.Dec.{T, T_not, eqb}
 use lib.IntN.{ℤ}
 use lib.ListN.{length, get_or, take, drop, take-append-drop, drop_of_length-le, length-take, get_or-eq_default}
 use lib.Seq.{drop-cons, take-length}
+use Rattle.std.specs.declared.option.Option.{Option}
+use Rattle.std.specs.declared.option.Option.TheVariants.{Some}
+use Rattle.std.specs.declared.result.Result.TheVariants.{Err}
+use Rattle.std.specs.declared.option.Option.TheVariants.{None}
 use Rattle.finite.specs.Tests.{and_left, and_right, decide, is_true, is_false, of_true, same_or_not}
 use Rattle.finite.specs.Bounded.{lt_or_ge}
 use Rattle.finite.specs.Lists.{all_in, before, beyond}
-use Rattle.model.specs.declared.Line.{Line}
 use Rattle.model.specs.declared.Refusal.{Refusal}
 use Rattle.model.specs.Spelling.{line_feed, minus, space}
 use Rattle.model.specs.Text.{digits, front, has_minus, is_digit, is_number, leading_digits, line_read, magnitude, number_value}
 use Rattle.survey.specs.declared.numbers.Front.{Front}
-use Rattle.survey.specs.Numbers.{front_number, is_magnitude, named, Number, value_of, no_number, number_read}
-use Rattle.survey.proofs.Digits.{digit_or_not, digit_small, leading_more, leading_none, magnitude_digits}
+use Rattle.survey.specs.Numbers.{front_number, is_magnitude, named, number_read}
+use Rattle.survey.proofs.Digits.{some_same, digit_or_not, digit_small, leading_more, leading_none, magnitude_digits}
 use Rattle.survey.proofs.Signs.{number_is}
 use Rattle.survey.proofs.Separators.{before_found, before_other, before_part, before_ends, beyond_part, line_is}
 
@@ -114,11 +117,14 @@ pub front_number_before : (s : List ℕ) → front_number (before line_feed s) �
 unfolding front_number
 front_number_before s =
     ap
-    (λ (f : List ℕ). cond (is_number f) (Front.Value (number_value f) (length f)) Front.Malformed)
+    (λ (f : List ℕ). cond (is_number f) (Some (record { value = number_value f; end = length f })) None)
     (front_before s)
 
 -- past the end of a list there is none
-pub front_past : (s : List ℕ) (at : ℕ) → length s ≤ at → Front.Malformed ≡ front_number (drop at s)
+pub past_end : (s : List ℕ) (at : ℕ) → (length s < at) ⊎ (length s < length s) → length s ≤ at
+past_end s at e = ⊎_elim (λ h. omega arith) (λ h. absurd (omega arith)) e
+
+pub front_past : (s : List ℕ) (at : ℕ) → length s ≤ at → None ≡ front_number (drop at s)
 unfolding front_number front is_number digits
 front_past s at h = let none : drop at s ≡ [] = drop_of_length-le s h in rw none
 
@@ -218,7 +224,7 @@ front_space (b ∷ s) e =
 
 -- ---- what is read
 
-unread : (p : List ℕ) → (T (is_number p) → ⊥) → number_read p ≡ no_number
+unread : (p : List ℕ) → (T (is_number p) → ⊥) → number_read p ≡ None
 unfolding number_read
 unread p n = rw (is_false (is_number p) n)
 
@@ -230,20 +236,21 @@ pub record Leads (s : List ℕ) (z : ℤ) (n : ℕ) : Type 0 where
 
 module _ (s : List ℕ) where
   has_front : T (is_number (front s)) →
-      front_number s ≡ Front.Value (number_value (front s)) (length (front s))
+      front_number s ≡ Some (record { value = number_value (front s); end = length (front s) })
   unfolding front_number
   has_front t = rw (is_true (is_number (front s)) t)
 
-  no_front : (T (is_number (front s)) → ⊥) → front_number s ≡ Front.Malformed
+  no_front : (T (is_number (front s)) → ⊥) → front_number s ≡ None
   unfolding front_number
   no_front n = rw (is_false (is_number (front s)) n)
 
-  pub leads : {z : ℤ} {n : ℕ} → front_number s ≡ Front.Value z n → Leads s z n
+  pub leads : {z : ℤ} {n : ℕ} → front_number s ≡ Some (record { value = z; end = n }) → Leads s z n
   leads {z} {n} e =
       ⊎_elim
       (λ (t : T (is_number (front s))).
       let has = has_front t in
-      record { passes = t; value = cc; ends = cc })
+      let same = some_same _ _ (sym e ∙ has) in
+      record { passes = t; value = ap (λ (f : Front). f.value) same; ends = ap (λ (f : Front). f.end) same })
       (λ (t : T (not (is_number (front s)))).
       let has = no_front (T_not (is_number (front s)) t) in
       let never : ◌≡◌ {A = ℕ} 0 1 = cc in absurd (omega arith))
@@ -251,49 +258,49 @@ module _ (s : List ℕ) where
 
   -- a part p of the list that is a number only where it is the front
   module _ (p : List ℕ) (only : T (is_number p) → front s ≡ p) where
-    pub read_none : front_number s ≡ Front.Malformed → number_read p ≡ no_number
+    pub read_none : front_number s ≡ None → number_read p ≡ None
     read_none e =
         unread p (λ t.
         let has = has_front (rw (only t) t) in
         let never : ◌≡◌ {A = ℕ} 0 1 = cc in omega arith)
 
-    read_other : (front s ≡ p → ⊥) → number_read p ≡ no_number
+    read_other : (front s ≡ p → ⊥) → number_read p ≡ None
     read_other n = unread p (λ t. n (only t))
 
-    read_front : {z : ℤ} {n : ℕ} → Leads s z n → front s ≡ p → number_read p ≡ value_of z
+    read_front : {z : ℤ} {n : ℕ} → Leads s z n → front s ≡ p → number_read p ≡ Some z
     unfolding number_read
     read_front w e = rw (← e, is_true (is_number (front s)) w.passes, w.value)
 
   -- the front is the list itself just where it ends where the list ends
   module _ {z : ℤ} {n : ℕ} (w : Leads s z n) where
-    pub read_whole : n ≡ length s → number_read s ≡ value_of z
+    pub read_whole : n ≡ length s → number_read s ≡ Some z
     read_whole e =
         let ends : length (front s) ≡ length s = sym w.ends ∙ e in
         read_front s (whole_front s) w
         (front_part s ∙ ap (λ (k : ℕ). take k s) ends ∙ take-length s)
 
-    pub read_part : n ≢ length s → number_read s ≡ no_number
+    pub read_part : n ≢ length s → number_read s ≡ None
     read_part l = read_other s (whole_front s) (λ e. l (w.ends ∙ ap length e))
 
 -- ---- a line
 
-number_none : number_read [] ≡ no_number
+number_none : number_read [] ≡ None
 unfolding number_read is_number digits
 number_none = refl
 
 module _ (s : List ℕ) where
-  bad_first : number_read (before space s) ≡ no_number →
-      line_read s ≡ Line.Refused Refusal.BadLine
+  bad_first : number_read (before space s) ≡ None →
+      line_read s ≡ Err Refusal.BadLine
   unfolding named
-  bad_first e = line_is s ∙ ap (λ (x : Number). named x (number_read (beyond space s))) e
+  bad_first e = line_is s ∙ ap (λ (x : Option ℤ). named x (number_read (beyond space s))) e
 
   -- the front is no number
-  pub line_bad : front_number s ≡ Front.Malformed → line_read s ≡ Line.Refused Refusal.BadLine
+  pub line_bad : front_number s ≡ None → line_read s ≡ Err Refusal.BadLine
   line_bad e = bad_first (read_none s (before space s) (first_front s) e)
 
   module _ {z : ℤ} {n : ℕ} (w : Leads s z n) where
     -- no space follows the front
-    pub line_unspaced : get_or s n 0 ≢ space → line_read s ≡ Line.Refused Refusal.BadLine
+    pub line_unspaced : get_or s n 0 ≢ space → line_read s ≡ Err Refusal.BadLine
     unfolding named
     line_unspaced h =
         ⊎_elim
@@ -332,7 +339,7 @@ module _ (s : List ℕ) where
           rw add-one (ap suc (w.ends ∙ ap length is_first)) in
           ap (λ (k : ℕ). drop k s) ends ∙ sym (beyond_part space s)
 
-      pub line_spaced : named (value_of z) (number_read (drop (n + 1) s)) ≡ line_read s
+      pub line_spaced : named (Some z) (number_read (drop (n + 1) s)) ≡ line_read s
       line_spaced =
           ap₂ named (sym (read_front s (before space s) (first_front s) w is_first))
           (ap number_read is_rest)

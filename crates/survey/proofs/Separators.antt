@@ -1,16 +1,18 @@
 -- What stands before and after the first of a byte in a list, in the order of this page: both as
--- parts of the list, from a place within on, and where the first ends; what a search from place to
--- place finds; a line as two numbers.
+-- parts of the list, from a place within on, and where the first ends; what the library takes up to it; a
+-- line as two numbers.
 use mathlib.Core.Path.{◌≡◌, refl, sym, ap, ◌∙◌}
 use mathlib.Core.Logic.{◌≢◌, ⊎_elim}
-use mathlib.Core.Bool.{Bool, true, false}
+use mathlib.Core.Bool.{Bool, true, false, not}
 use mathlib.Core.List.{List, [], ◌∷◌}
-use Prim.Native.Nat.{ℕ, zero, suc, ◌+◌, ◌≤◌, ◌<◌}
-use native.Mathlib.Numerals.{add-one}
+use Prim.Native.Nat.{ℕ, zero, suc, ◌≤◌, ◌<◌}
 use native.Mathlib.Omega.{arith}
 use borrow.Author.Tests.{eq-eqb, ne_eqb}
-use lib.ListN.{length, get_or, take, drop, drop_of_length-le, get_or-eq_default}
-use lib.Seq.{drop-cons, get_or-take}
+use lib.Dec.{eqb}
+use lib.ListN.{length, get_or, take, drop, get_or-eq_default}
+use lib.Seq.{get_or-take}
+use Rattle.std.specs.List.{take_while}
+use Rattle.std.proofs.lemmas.List.Sums.{take_while-cons}
 use Rattle.finite.specs.Tests.{same_or_not}
 use Rattle.finite.specs.Bounded.{lt_or_ge}
 use Rattle.finite.specs.Lists.{before, beyond}
@@ -137,29 +139,17 @@ module _ (x : ℕ) (s : List ℕ) (k : ℕ) (inside : k ≤ length (before x s))
       (lt_or_ge k (length s)))
       (lt_or_ge k (length (before x s)))
 
--- ---- a search from place `at` on
-
--- the first x from place `at` on
-abbrev pub first_place : ℕ → List ℕ → ℕ → ℕ
-first_place x s at = at + length (before x (drop at s))
-
-pub place_here : (x : ℕ) (s : List ℕ) (i : ℕ) → i < length s → get_or s i 0 ≡ x →
-    first_place x s i ≡ i
-place_here x s i h e =
-    rw (drop-cons s i 0, before_found x (get_or s i 0) (drop (suc i) s) (sym e)) (omega arith)
-
-pub place_later : (x : ℕ) (s : List ℕ) (i : ℕ) → i < length s → (get_or s i 0 ≡ x → ⊥) →
-    first_place x s (i + 1) ≡ first_place x s i
-place_later x s i h n =
-    rw (
-      drop-cons s i 0 h,
-      before_other x (get_or s i 0) (drop (suc i) s) (λ e. n (sym e)),
-      add-one,
-    ) (omega arith)
-
-pub place_past : (x : ℕ) (s : List ℕ) (i : ℕ) → length s ≤ i → first_place x s i ≡ i
+-- what the library takes while no x stands there
+pub before_while : (x : ℕ) (s : List ℕ) → take_while (λ b. not (eqb b x)) s ≡ before x s
 unfolding before
-place_past x s i h = let none : drop i s ≡ [] = drop_of_length-le s h in rw none (omega arith)
+before_while x [] = refl
+before_while x (y ∷ s) =
+    ⊎_elim
+    (λ (e : x ≡ y). rw (before_found x y s e, take_while-cons (λ b. not (eqb b x)) y s, eq-eqb y x (sym e)))
+    (λ (n : x ≡ y → ⊥).
+    rw (before_other x y s n, take_while-cons (λ b. not (eqb b x)) y s, ne_eqb y x (λ e. n (sym e)))
+    (ap (λ (l : List ℕ). y ∷ l) (before_while x s)))
+    (same_or_not x y)
 
 -- ---- a line is two numbers
 

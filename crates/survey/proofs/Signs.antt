@@ -14,14 +14,14 @@ use lib.Dec.{T, T_not, eqb}
 use lib.IntN.{pos, neg_ℤ}
 use lib.ListN.{length, take, drop}
 use lib.Seq.{take_all}
+use Rattle.std.specs.declared.option.Option.TheVariants.{Some, None}
 use Rattle.finite.specs.Tests.{decide, is_true, is_false, of_true, and_left, and_right}
 use Rattle.finite.specs.Lists.{all_in}
 use Rattle.model.specs.Spelling.{digit_zero, minus}
 use Rattle.model.specs.Text.{digit_limit, digits, front, has_minus, is_digit, is_number, leading_digits, magnitude, number_value, value_after}
-use Rattle.survey.specs.declared.numbers.Front.{Front}
 use Rattle.survey.specs.declared.numbers.Magnitude.{Magnitude}
 use Rattle.survey.specs.Numbers.{front_number, is_magnitude, magnitude_read, no_leading_zero}
-use Rattle.survey.proofs.Digits.{magnitude_digits, digit_small, below_limit, digit_or_not, leading_none, leading_more, magnitude_value, magnitude_none}
+use Rattle.survey.proofs.Digits.{some_same, magnitude_digits, digit_small, below_limit, digit_or_not, leading_none, leading_more, magnitude_value, magnitude_none}
 
 -- ---- magnitudes
 
@@ -45,21 +45,22 @@ pub record Reads (s : List ℕ) (m n : ℕ) : Type 0 where
   pub small : m < 10 ^ digit_limit
 
 module _ (s : List ℕ) where
-  pub reads_value : (m n : ℕ) → magnitude_read s ≡ Magnitude.Value m n → Reads s m n
+  pub reads_value : (m n : ℕ) → magnitude_read s ≡ Some (record { value = m; count = n }) → Reads s m n
   reads_value m n e =
       let d = leading_digits s in
       ⊎_elim
       (λ (t : T (is_magnitude d)).
-      let has = magnitude_value s t in
-      let same : m ≡ value_after 0 d = cc in
+      let has = some_same _ _ (sym e ∙ magnitude_value s t) in
+      let value : m ≡ value_after 0 d = ap (λ (r : Magnitude). r.value) has in
+      let counted : n ≡ length d = ap (λ (r : Magnitude). r.count) has in
       let digits_of = magnitude_digits d t in
       record {
         passes = is_true (is_magnitude d) t;
-        value = same;
-        counted = cc;
-        few = let same_length : n ≡ length d = cc in omega (arith, digits_of.few);
+        value = value;
+        counted = counted;
+        few = omega (arith, counted, digits_of.few);
         small =
-            rw same
+            rw value
             (below_limit digit_limit (value_small 0 0 d (omega arith) digits_of.each) (omega
             (arith, digits_of.few)));
       })
@@ -68,7 +69,7 @@ module _ (s : List ℕ) where
       let z : ◌≡◌ {A = ℕ} 0 1 = cc in absurd (omega arith))
       (decide (is_magnitude d))
 
-  pub reads_none : magnitude_read s ≡ Magnitude.Malformed → is_magnitude (leading_digits s) ≡ false
+  pub reads_none : magnitude_read s ≡ None → is_magnitude (leading_digits s) ≡ false
   reads_none e =
       is_false (is_magnitude (leading_digits s))
       (λ t. let has = magnitude_value s t in let z : ◌≡◌ {A = ℕ} 0 1 = cc in omega arith)
@@ -80,25 +81,16 @@ unfolding digits has_minus
 digits_plain [] e = refl
 digits_plain (b ∷ s) e = rw e
 
--- the digits are the part of a list from place `first` on
-pub record Begins (s : List ℕ) (first : ℕ) : Type 0 where
-  pub inside : first ≤ length s
-  pub part : digits s ≡ take (length s - first) (drop first s)
+-- with a minus they stand from place 1 on
+pub signed_some : (s : List ℕ) → has_minus s ≡ true → 1 ≤ length s
+unfolding has_minus
+signed_some [] e = absurd (false≢true e)
+signed_some (b ∷ s) e = omega arith
 
-pub begins_signed : (s : List ℕ) {first : ℕ} → has_minus s ≡ true → first ≡ 1 → Begins s first
+pub digits_signed : (s : List ℕ) → has_minus s ≡ true → digits s ≡ take (length s - 1) (drop 1 s)
 unfolding digits has_minus
-begins_signed [] e f = absurd (false≢true e)
-begins_signed (b ∷ s) e f =
-    rw f
-    (record { inside = omega arith; part = rw (e, take_all (length (b ∷ s) - 1) s (omega arith)) })
-
-pub begins_plain : (s : List ℕ) {first : ℕ} → has_minus s ≡ false → first ≡ 0 → Begins s first
-begins_plain s e f =
-    rw f
-    (record {
-      inside = omega arith;
-      part = digits_plain s e ∙ sym (take_all (length s - 0) s (omega arith));
-    })
+digits_signed [] e = absurd (false≢true e)
+digits_signed (b ∷ s) e = rw (e, take_all (length (b ∷ s) - 1) s (omega arith))
 
 -- digits have no minus
 leading_plain : (s : List ℕ) → has_minus (leading_digits s) ≡ false
@@ -148,11 +140,11 @@ module _ (s d : List ℕ) (from : digits s ≡ d) where
       rw (plain_front e) (digits_plain (leading_digits d) (leading_plain d)))
       (decide (has_minus s))
 
-  pub front_malformed : magnitude_read d ≡ Magnitude.Malformed → front_number s ≡ Front.Malformed
+  pub front_malformed : magnitude_read d ≡ None → front_number s ≡ None
   unfolding front_number
   front_malformed e = rw (number_is (front s), front_digits, reads_none d e)
 
-  module _ (m n : ℕ) (e : magnitude_read d ≡ Magnitude.Value m n) where
+  module _ (m n : ℕ) (e : magnitude_read d ≡ Some (record { value = m; count = n })) where
     reads : Reads d m n
     reads = reads_value d m n e
 
@@ -163,7 +155,7 @@ module _ (s d : List ℕ) (from : digits s ≡ d) where
     passes : is_magnitude (digits (front s)) ≡ true
     passes = rw front_digits reads.passes
 
-    pub front_positive : has_minus s ≡ false → front_number s ≡ Front.Value (pos m) n
+    pub front_positive : has_minus s ≡ false → front_number s ≡ Some (record { value = pos m; end = n })
     unfolding front_number number_value
     front_positive h =
         let plain : has_minus (front s) ≡ false = rw (plain_front h) (leading_plain d) in
@@ -175,13 +167,13 @@ module _ (s d : List ℕ) (from : digits s ≡ d) where
       unfolding has_minus
       signed = rw (signed_front h)
 
-      pub front_negative : m ≢ 0 → front_number s ≡ Front.Value (neg_ℤ (pos m)) (n + 1)
+      pub front_negative : m ≢ 0 → front_number s ≡ Some (record { value = neg_ℤ (pos m); end = n + 1 })
       unfolding front_number number_value
       front_negative l =
           let ends : length (front s) ≡ n + 1 =
           rw (signed_front h, add-one) (ap suc (sym reads.counted)) in
           rw (number_is (front s), passes, signed, is_value, ne_eqb m 0 l, ends)
 
-      pub front_minus_zero : m ≡ 0 → front_number s ≡ Front.Malformed
+      pub front_minus_zero : m ≡ 0 → front_number s ≡ None
       unfolding front_number
       front_minus_zero l = rw (number_is (front s), passes, signed, is_value, eq-eqb m 0 l)

@@ -7,20 +7,24 @@ use mathlib.Core.Path.{◌≡◌, refl, sym, ap, ◌∙◌}
 use mathlib.Core.Logic.{◌≢◌, ◌⊎◌, inl, inr, ⊎_elim}
 use mathlib.Core.Bool.{true, false}
 use mathlib.Core.List.{List, [], ◌∷◌}
-use Prim.Native.Nat.{ℕ, suc, ◌+◌, ◌≤◌, ◌<◌}
+use Prim.Native.Nat.{ℕ, suc, ◌+◌, ◌-◌, ◌≤◌, ◌<◌}
 use native.Mathlib.Omega.{arith}
 use borrow.Author.Tests.{eq-eqb, ne_eqb, lt-ltb, le-ltb, leb-true, leb-false}
 use lib.ListN.{length, get_or, drop, length-drop, drop_of_length-le}
 use lib.Seq.{drop-cons, drop-drop}
+use Rattle.std.specs.Prelude.{ℤ}
+use Rattle.std.specs.declared.option.Option.{Option}
+use Rattle.std.specs.declared.option.Option.TheVariants.{Some}
+use Rattle.std.specs.declared.result.Result.TheVariants.{Err}
+use Rattle.std.specs.declared.option.Option.TheVariants.{None}
 use Rattle.finite.specs.Tests.{same_or_not}
 use Rattle.finite.specs.Bounded.{lt_or_ge}
 use Rattle.finite.specs.Lists.{before, beyond}
-use Rattle.model.specs.declared.Line.{Line}
 use Rattle.model.specs.declared.Refusal.{Refusal}
 use Rattle.model.specs.Refusals.{unless}
 use Rattle.model.specs.Spelling.{line_feed, space}
 use Rattle.model.specs.Text.{in_first_line, is_number, digits, line_read, lines, one_line}
-use Rattle.survey.specs.Numbers.{named, Number, value_of, no_number, number_read}
+use Rattle.survey.specs.Numbers.{named, number_read}
 use Rattle.survey.specs.Places.{at_end, line_at, line_bytes, line_end, next_line}
 use Rattle.survey.proofs.Separators.{before_short, before_drop, beyond_part, before_found, before_other, beyond_found, beyond_other, line_is}
 
@@ -40,23 +44,23 @@ module _ (text : List ℕ) (at k : ℕ) (inside : k ≤ length (line_bytes text 
   unfolding next_line
   next_within = rw end_within
 
-pub blank_refused : line_read [] ≡ Line.Refused Refusal.BadLine
+pub blank_refused : line_read [] ≡ Err Refusal.BadLine
 unfolding line_read unless before beyond is_number digits
 blank_refused = refl
 
 -- a line is refused as one that is not in form
-pub line_at_refused : (text : List ℕ) (at : ℕ) (r : Refusal) → line_at text at ≡ Line.Refused r →
+pub line_at_refused : (text : List ℕ) (at : ℕ) (r : Refusal) → line_at text at ≡ Err r →
     r ≡ Refusal.BadLine
 unfolding line_at named
 line_at_refused text at r e =
     let s = line_bytes text at in
     go (number_read (before space s)) (number_read (beyond space s)) (sym (line_is s) ∙ e)
   where
-    go : (x y : Number) → named x y ≡ Line.Refused r → r ≡ Refusal.BadLine
-    go (value_of x) (value_of y) e =
+    go : (x y : Option ℤ) → named x y ≡ Err r → r ≡ Refusal.BadLine
+    go (Some x) (Some y) e =
         absurd (let z : ◌≡◌ {A = ℕ} 0 1 = cc in omega arith)
-    go (value_of x) no_number e = cc
-    go no_number y e = cc
+    go (Some x) None e = cc
+    go None y e = cc
 
 -- ---- the lines of a text
 
@@ -153,6 +157,21 @@ module _ (text : List ℕ) (at : ℕ) where
   unfolding at_end
   one_left e = lines_from text at (leb-false (length text) at e)
 
+-- a reader that has come to the end of the text stays there
+pub end_stays : (text : List ℕ) (at : ℕ) → at_end text at ≡ true → next_line text at ≡ at
+unfolding at_end next_line line_end line_bytes before
+end_stays text at e =
+    let past = leb-true (length text) at e in
+    let none : drop at text ≡ [] = drop_of_length-le text past in
+    rw (none, le-ltb (at + 0) (length text) (omega arith)) (omega arith)
+
+pub next_nearer : (text : List ℕ) (at : ℕ) → at_end text at ≡ false →
+    length text - next_line text at < length text - at
+unfolding at_end
+next_nearer text at e =
+    let on = next_further text at (leb-false (length text) at e) in
+    omega (arith, on.0, on.1)
+
 -- a line that is lent by itself is the line at the first place, where no other follows
 module _ (s : List ℕ) where
   -- nothing is lent
@@ -174,7 +193,7 @@ module _ (s : List ℕ) where
       (lt_or_ge 0 (length s))
 
   pub lent_lines : next_line s 0 ≢ length s →
-      Line.Refused Refusal.BadLine ≡ line_read (one_line (lines s))
+      Err Refusal.BadLine ≡ line_read (one_line (lines s))
   unfolding one_line
   lent_lines n =
       sym blank_refused

@@ -2,8 +2,12 @@
 -- front of a list; a number that is a whole list; two numbers. Document 01, "The text program": "A
 -- number is an optional minus and 1 to .. digits, no leading zero save 0 itself, no -0."
 use Rattle.std.specs.Prelude.{Bool, not, cond, ◌&&◌, ◌||◌, List, ℕ, leb, eqb, ℤ, length, get_or}
+use Rattle.std.specs.declared.option.Option.{Option}
+use Rattle.std.specs.declared.option.Option.TheVariants.{Some, None}
+use Rattle.std.specs.declared.result.Result.{Result}
+use Rattle.std.specs.declared.result.Result.TheVariants.{Ok, Err}
 use Rattle.finite.specs.Lists.{all_in}
-use Rattle.model.specs.declared.Line.{Line}
+use Rattle.model.specs.declared.Point.{Point}
 use Rattle.model.specs.declared.Refusal.{Refusal}
 use Rattle.model.specs.Spelling.{digit_zero}
 use Rattle.model.specs.Text.{digit_limit, is_digit, value_after, is_number, number_value, leading_digits, front}
@@ -20,26 +24,22 @@ is_magnitude d =
     leb 1 (length d) && leb (length d) digit_limit && all_in is_digit d && no_leading_zero d
 
 -- what the digits at the front of a list stand for, and how many they are
-unfoldable pub magnitude_read : List ℕ → Magnitude
+unfoldable pub magnitude_read : List ℕ → Option Magnitude
 magnitude_read s =
     let d = leading_digits s in
-    cond (is_magnitude d) (Magnitude.Value (value_after 0 d) (length d)) Magnitude.Malformed
+    cond (is_magnitude d) (Some (record { value = value_after 0 d; count = length d })) None
 
 -- the number at the front of a list, and the place after it
-unfoldable pub front_number : List ℕ → Front
+unfoldable pub front_number : List ℕ → Option Front
 front_number s =
-    let f = front s in cond (is_number f) (Front.Value (number_value f) (length f)) Front.Malformed
+    let f = front s in cond (is_number f) (Some (record { value = number_value f; end = length f })) None
 
--- what a list of bytes stands for: a number that it spells, or none
-pub data Number : Type 0 where
-  value_of : ℤ → Number
-  no_number : Number
-
-unfoldable pub number_read : List ℕ → Number
-number_read s = cond (is_number s) (value_of (number_value s)) no_number
+-- what a list of bytes stands for: the number that it spells, or none
+unfoldable pub number_read : List ℕ → Option ℤ
+number_read s = cond (is_number s) (Some (number_value s)) None
 
 -- the point of two numbers, or number 8
-unfoldable pub named : Number → Number → Line
-named (value_of x) (value_of y) = Line.Named (record { x = x; y = y })
-named (value_of x) no_number = Line.Refused Refusal.BadLine
-named no_number y = Line.Refused Refusal.BadLine
+unfoldable pub named : Option ℤ → Option ℤ → Result Point Refusal
+named (Some x) (Some y) = Ok (record { x = x; y = y })
+named (Some x) None = Err Refusal.BadLine
+named None y = Err Refusal.BadLine

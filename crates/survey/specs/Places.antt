@@ -3,8 +3,10 @@
 -- there. Document 01, "The text program": "a line feed; the last feed may be missing, and nothing
 -- follows it". Every place is served, also one past the end.
 use Rattle.std.specs.Prelude.{Bool, cond, List, ℕ, ◌+◌, leb, ltb, length, drop}
+use Rattle.std.specs.declared.result.Result.{Result}
 use Rattle.finite.specs.Lists.{before}
-use Rattle.model.specs.declared.Line.{Line}
+use Rattle.model.specs.declared.Refusal.{Refusal}
+use Rattle.model.specs.declared.Point.{Point}
 use Rattle.model.specs.Spelling.{line_feed}
 use Rattle.model.specs.Text.{line_read}
 use Rattle.survey.specs.declared.lines.Read.{Read}
@@ -24,11 +26,11 @@ unfoldable pub at_end : List ℕ → ℕ → Bool
 at_end text at = leb (length text) at
 
 -- what the line names
-unfoldable pub line_at : List ℕ → ℕ → Line
+unfoldable pub line_at : List ℕ → ℕ → Result Point Refusal
 line_at text at = line_read (line_bytes text at)
 
 -- what is read: a line, and where the next one begins
-abbrev pub found_at : Line → List ℕ → ℕ → Read
+abbrev pub found_at : Result Point Refusal → List ℕ → ℕ → Read
 found_at line text at = record { line = line; next = next_line text at }
 
 abbrev pub read_at : List ℕ → ℕ → Read

@@ -1,12 +1,8 @@
 -- `orbits::part_count` meets its contract. The loop's invariant: the darts below `a` have been
--- passed, and the parts that they lie in counted. The measure is the darts left.
-use Prim.Native.Nat.{◌-◌}
+-- passed, and the parts that they lie in counted.
 use Rattle.orbits.specs.Links.{test_of}
 use Rattle.orbits.proofs.Counts.{Counting}
 use Rattle.orbits.proofs.part_count.Given as goal
 
 abbrev pub invariant-loop-a : goal.invariant-loop-a
-invariant-loop-a l = Counting l.f l.g l.n (test_of l.present) l.order l.seen l.end l.parts l.a
-
-abbrev pub decreases-loop-a : goal.decreases-loop-a
-decreases-loop-a l = l.n - l.a
+invariant-loop-a l = Counting l.f l.g l.n (test_of l.present) l.queue l.parts l.a

@@ -8,7 +8,7 @@ use mir.ValLaws.{to_z-of_z}
 use Prim.Native.Nat.{◌≤◌}
 use Rattle.integers.specs.Range.{bounded_fits}
 use Rattle.finite.specs.Tests.{of_true}
-use Rattle.model.specs.declared.Oriented.{Oriented}
+use Rattle.std.specs.declared.result.Result.TheVariants.{Ok, Err}
 use Rattle.model.specs.Answers.{oriented_answer}
 use Rattle.model.specs.Plane.{in_range, orientation_limit, orientation_call}
 use Rattle.model.proofs.Answers.{answered, rule_applies, rule_passes, no_rule}
@@ -35,8 +35,8 @@ returns-then-all_in_range c = let s = c.args in
     record {
       answer =
           answered (orientation_call s.a s.b s.c) (λ r. refl)
-          (rule_passes Oriented.Refused _ _ _ (ap not in-limit) (ap Oriented.Value back
-          ∙ no_rule Oriented.Refused _));
+          (rule_passes Err _ _ _ (ap not in-limit) (ap Ok back
+          ∙ no_rule Err _));
       within = subst (λ (z : ℤ). nat_abs z ≤ orientation_limit) (sym back) bounded.bound;
     }
 
@@ -47,6 +47,6 @@ returns-else-all_in_range c = let s = c.args in
     record {
       answer =
           answered (orientation_call s.a s.b s.c) (λ r. refl)
-          (rule_applies Oriented.Refused _ _ _ (ap not out));
+          (rule_applies Err _ _ _ (ap not out));
       within = tt;
     }

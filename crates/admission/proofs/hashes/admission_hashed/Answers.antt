@@ -2,23 +2,21 @@
 -- by no rule but the first.
 use mathlib.Core.Path.{sym, ap, ◌∙◌}
 use mathlib.Core.Bool.{not}
-use borrow.Author.Tests.{le-leb, lt-leb, not-true}
-use Rattle.model.specs.declared.Outcome.{Outcome}
+use borrow.Author.Tests.{le-leb, lt-leb}
+use Rattle.std.specs.declared.result.Result.TheVariants.{Err}
 use Rattle.model.proofs.Answers.{rule_applies, rule_passes, no_rule}
 use Rattle.admission.specs.Admission.{admission_by}
 use Rattle.admission.proofs.Hashing.{unhashed_new}
 use Rattle.admission.proofs.hashes.admission_hashed.Goals as goal
 
-pub returns-then-count-ge-POINT_LIMIT : goal.returns-then-count-ge-POINT_LIMIT
+pub returns-then-points-ge-POINT_LIMIT : goal.returns-then-points-ge-POINT_LIMIT
 unfolding admission_by
-returns-then-count-ge-POINT_LIMIT c =
-    rule_applies Outcome.Refused _ _ _ (le-leb _ _ c.if-count-ge-POINT_LIMIT.true)
+returns-then-points-ge-POINT_LIMIT c = rule_applies Err _ _ _ (le-leb _ _ c.if-points-ge-POINT_LIMIT.true)
 
-pub returns-then-not-has_hash : goal.returns-then-not-has_hash
+pub returns-then-not-has : goal.returns-then-not-has
 unfolding admission_by
-returns-then-not-has_hash c =
-    let unset = sym c.has_hash.ensures ∙ not-true _ (ap not c.if-not-has_hash.true) in
-    rule_passes Outcome.Refused _ _ _ (lt-leb _ _ c.if-count-ge-POINT_LIMIT.false)
-    (rule_passes Outcome.Refused _ _ _ (ap not (sym c.in_range.ensures ∙ c.if-in_range.true))
-    (rule_passes Outcome.Refused _ _ _ (unhashed_new c.args.p c.requires.all_hashed unset)
-    (no_rule Outcome.Refused _)))
+returns-then-not-has c =
+    rule_passes Err _ _ _ (lt-leb _ _ c.if-points-ge-POINT_LIMIT.false)
+    (rule_passes Err _ _ _ (ap not (sym c.in_range.ensures ∙ c.if-in_range.true))
+    (rule_passes Err _ _ _ (unhashed_new c.args.p c.requires (sym c.has.ensures ∙ c.if-not-has.true))
+    (no_rule Err _)))

@@ -3,7 +3,6 @@ use mathlib.Core.Bool.{false}
 use native.Mathlib.Omega.{arith}
 use lib.ListN.{length-replicate}
 use Rattle.orbits.specs.Sets.{dart_limit}
-use Rattle.orbits.specs.Links.{test_of}
 use Rattle.finite.specs.Loops.{none_in_front, one_in_front, all_in_front, all_filled}
 use Rattle.maps.proofs.Tables.{none_present}
 use Rattle.maps.proofs.arrays.present_darts.Goals as goal
@@ -11,7 +10,7 @@ use Rattle.maps.proofs.arrays.present_darts.Goals as goal
 pub loop-d-init : goal.loop-d-init
 loop-d-init c = (
   none_in_front (length-replicate dart_limit false)
-      (λ j h l. none_present (test_of c.args.helpers.now) c.args.count j h),
+      (λ j h l. none_present c.args.map.now j h),
   refl,
 )
 

@@ -3,12 +3,11 @@
 use mathlib.Core.Path.{◌≡◌}
 use mathlib.Core.Bool.{false}
 use Rattle.orbits.specs.Sets.{dart_limit}
-use Rattle.orbits.specs.Links.{test_of}
-use Rattle.model.specs.Maps.{own, present_by}
+use Rattle.model.specs.Maps.{own, is_present}
 use Rattle.finite.specs.Loops.{FilledFront}
 use Rattle.maps.proofs.arrays.present_darts.Given as goal
 
 abbrev pub invariant-loop-d : goal.invariant-loop-d
 invariant-loop-d l =
-    FilledFront (present_by (test_of l.helpers) l.count) false dart_limit (own l.count) l.d l.present ×
-    (l.d-end ≡ own l.count)
+    FilledFront (is_present l.map) false dart_limit (own l.map.count) l.d l.present ×
+    (l.d-end ≡ own l.map.count)

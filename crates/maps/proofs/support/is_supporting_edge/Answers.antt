@@ -1,38 +1,34 @@
+use mathlib.Core.Path.{◌≡◌, sym, ap, ◌∙◌}
+use mathlib.Core.Logic.{◌≢◌}
+use mathlib.Core.List.{List}
+use mathlib.Core.Bool.{false, not}
+use Prim.Native.Nat.{ℕ}
 use native.Mathlib.Omega.{arith}
-use Rattle.maps.specs.Places.{aside_at}
-use Rattle.finite.specs.Loops.{Iteration, none_passed, one_passed, one_failed, all_passed, below}
-use mathlib.Core.Path.{ap}
-use mathlib.Core.Bool.{not}
+use borrow.Author.Tests.{ne_eqb}
+use lib.ListN.{length}
+use Rattle.finite.specs.Loops.{below, one_failed, all_passed}
+use Rattle.model.specs.declared.Point.{Point}
+use Rattle.model.specs.Plane.{beside}
+use Rattle.model.specs.Maps.{point_in}
+use Rattle.maps.specs.Places.{aside_in}
 use Rattle.maps.proofs.support.is_supporting_edge.Goals as goal
-use Rattle.maps.proofs.support.is_supporting_edge.Goals.{After-is_end_or_beside}
 
-pub loop-c-init : goal.loop-c-init
-loop-c-init c = none_passed _ 0
+not_aside : (points : List Point) (a b c : ℕ) →
+    beside (point_in points a) (point_in points b) (point_in points c) ≡ false → c ≢ a → c ≢ b →
+    false ≡ aside_in points a b c
+not_aside points a b c out not_a not_b = rw (ne_eqb c a not_a, ne_eqb c b not_b) (sym out)
 
-pub is_end_or_beside-requires : goal.is_end_or_beside-requires
-is_end_or_beside-requires c = let pre = c.requires in (
-  record { places = pre.by_index; from_is = c.point_at-from.ensures; to_is = c.point_at-to.ensures },
-  record {
-    xs_hold = omega (arith, pre.places_for.xs_hold);
-    ys_hold =
-        omega (arith, pre.places_for.ys_hold);
-  },
-)
-
-module _ (c : After-is_end_or_beside) where
-  iteration : Iteration (aside_at c.args.xs.now c.args.ys.now c.args.a c.args.b) 0
-      c.loop-c.c c.is_end_or_beside.result
-  iteration = record { passed = c.loop-c.invariant; found = c.is_end_or_beside.ensures }
-
-pub returns-then-not-is_end_or_beside : goal.returns-then-not-is_end_or_beside
-returns-then-not-is_end_or_beside c =
-    one_failed (iteration (goal.at.returns-then-not-is_end_or_beside c).After-is_end_or_beside)
-    (below c.args.n _) (omega arith) (ap not c.if-not-is_end_or_beside.true)
-
-pub loop-c-preserved : goal.loop-c-preserved
-loop-c-preserved c =
-    one_passed (iteration (goal.at.loop-c-preserved c).After-is_end_or_beside)
-    (ap not c.if-not-is_end_or_beside.false)
+pub returns-then-c-b : goal.returns-then-c-b
+returns-then-c-b c =
+    let read = c.loop-c.invariant in
+    let out = (λ i. beside (sym read.0 i) (sym read.1 i) (point_in c.args.points.now c.loop-c.c))
+    ∙ sym c.is_beside.ensures ∙ c.if-not-is_beside.true in
+    one_failed
+    (record {
+      passed = read.2;
+      found = not_aside c.args.points.now c.args.a c.args.b c.loop-c.c out c.if-c-a.true c.if-c-b.true;
+    })
+    (below (length c.args.points.now) _) (omega arith) (ap not (λ i. false))
 
 pub returns : goal.returns
-returns c = all_passed (below c.args.n _) c.loop-c.invariant (omega arith)
+returns c = all_passed (below (length c.args.points.now) _) c.loop-c.invariant.2 (omega arith)

@@ -1,13 +1,12 @@
 -- `maps::traversal::counts_of` meets its contract: the lists that the code fills hold the links and the
 -- present darts, and permute these, so that each number of orbits is that of the definition; the number of
 -- parts follows from the others, since they balance.
-use mathlib.Core.Path.{refl, ◌≡◌, sym, ap, subst, ◌∙◌}
+use mathlib.Core.Path.{◌≡◌, sym, ap, subst, ◌∙◌}
 use mathlib.Core.Bool.{Bool, ◌&&◌}
 use mathlib.Core.List.{List}
 use Prim.Native.Nat.{ℕ, ◌+◌, ◌-◌, ◌/◌, ◌≤◌}
 use native.Mathlib.Omega.{arith}
-use lib.ListN.{length}
-use Rattle.finite.specs.Bounded.{count, table, length_table}
+use Rattle.finite.specs.Bounded.{table}
 use Rattle.finite.specs.Counting.{count_small}
 use Rattle.orbits.specs.Reach.{by_one}
 use Rattle.orbits.specs.Sets.{dart_limit}
@@ -16,33 +15,27 @@ use Rattle.orbits.specs.Links.{Composed, Permuted, link_of, test_of}
 use Rattle.orbits.proofs.Links.{permuted_first, permuted_second, permuted_composed}
 use Rattle.model.specs.declared.Kind.{Kind}
 use Rattle.model.specs.declared.Map.{Map}
-use Rattle.model.specs.Maps.{own, point_link_by, present_by, has_helper, is_present, edge_link, point_link, face_link, dart_bound}
+use Rattle.model.specs.Maps.{is_present, edge_link, point_link, face_link, dart_bound}
 use Rattle.model.specs.Reading.{links_of, number_of, darts, counts}
 use Rattle.model.specs.Shape.{Shaped}
 use Rattle.maps.proofs.Links.{sound_linked, edge_involutes, counts_balance}
-use Rattle.maps.proofs.Tables.{point_table, present_table, composable, tables_permuted}
+use Rattle.maps.proofs.Tables.{links_whole, present_table, composable, tables_permuted}
 use Rattle.maps.proofs.traversal.counts_of.Goals as goal
 use Rattle.maps.proofs.traversal.counts_of.Goals.{After-orbit_count-faces}
 
 -- the lists as the code fills them: the point links, the links of the faces, the present darts
 module _ (m : Map) (sound : Shaped m) {point face : List ℕ} {present : List Bool}
-    (points_are : point ≡ table dart_limit (point_link_by (test_of m.helpers)))
+    (points_are : point ≡ table dart_limit (point_link m)) (points : link_of point ≡ point_link m)
     (composed : Composed m.edge point face)
-    (presence_is : present ≡ table dart_limit (present_by (test_of m.helpers) m.count)) where
-  points : link_of point ≡ point_link m
-  unfolding point_link has_helper
-  points = ap link_of points_are ∙ point_table m sound.links.helpers_whole
-
+    (presence_is : present ≡ table dart_limit (is_present m)) where
   faces : link_of face ≡ face_link m
   unfolding face_link edge_link
   faces = composed.leads ∙ (λ i d. points i (edge_link m d))
 
   presence : test_of present ≡ is_present m
-  unfolding is_present has_helper
   presence = ap test_of presence_is ∙ present_table m sound.links.fits
 
   permuted : Permuted (dart_bound m) (test_of present) m.edge point
-  unfolding point_link has_helper is_present
   permuted =
       subst (λ (p : List Bool). Permuted (dart_bound m) (test_of p) m.edge point)
       (sym presence_is)
@@ -63,14 +56,6 @@ module _ (m : Map) (sound : Shaped m) {point face : List ℕ} {present : List Bo
   unfolding number_of links_of
   faces_are = λ i. classes (by_one (faces i)) (dart_bound m) (presence i)
 
-points_whole : (m : Map) {point : List ℕ} → point ≡ table dart_limit (point_link_by (test_of m.helpers)) →
-    length point ≡ dart_limit
-points_whole m e = ap length e ∙ length_table dart_limit (point_link_by (test_of m.helpers))
-
-darts_are : (m : Map) → count (own m.count) (present_by (test_of m.helpers) m.count) ≡ darts m
-unfolding darts is_present has_helper
-darts_are m = refl
-
 -- of each kind there are at most as many as places
 few : {m : Map} → Shaped m → (kind : Kind) → number_of m kind ≤ dart_limit
 unfolding number_of classes
@@ -85,18 +70,17 @@ pub overflow_mul-n : goal.overflow_mul-n
 overflow_mul-n c = omega (arith, c.requires.links.fits)
 
 pub compose-requires : goal.compose-requires
-unfolding point_link has_helper
-compose-requires c = composable c.args.m c.requires (points_whole c.args.m c.put_point_links.ensures)
+compose-requires c = composable c.args.map.now c.requires (links_whole c.args.map.now c.point_links-point.ensures.list)
 
 pub orbit_count-vertices-requires : goal.orbit_count-vertices-requires
 orbit_count-vertices-requires c =
     permuted_second
-    (permuted c.args.m c.requires c.put_point_links.ensures c.compose.ensures c.present_darts-present.ensures)
+    (permuted c.args.map.now c.requires c.point_links-point.ensures.list c.point_links-point.ensures.leads c.compose.ensures c.present_darts-present.ensures)
 
 pub orbit_count-edges-requires : goal.orbit_count-edges-requires
 orbit_count-edges-requires c =
     permuted_first
-    (permuted c.args.m c.requires c.put_point_links.ensures c.compose.ensures c.present_darts-present.ensures)
+    (permuted c.args.map.now c.requires c.point_links-point.ensures.list c.point_links-point.ensures.leads c.compose.ensures c.present_darts-present.ensures)
 
 pub overflow_mul-n-4 : goal.overflow_mul-n-4
 overflow_mul-n-4 c = omega (arith, c.requires.links.fits)
@@ -104,30 +88,30 @@ overflow_mul-n-4 c = omega (arith, c.requires.links.fits)
 pub orbit_count-faces-requires : goal.orbit_count-faces-requires
 orbit_count-faces-requires c =
     permuted_composed
-    (permuted c.args.m c.requires c.put_point_links.ensures c.compose.ensures c.present_darts-present.ensures)
+    (permuted c.args.map.now c.requires c.point_links-point.ensures.list c.point_links-point.ensures.leads c.compose.ensures c.present_darts-present.ensures)
     c.compose.ensures
 
 -- the numbers that are counted
 module _ (c : After-orbit_count-faces) where
-  darts_counted : c.dart_count-darts.result ≡ darts c.args.m
-  darts_counted = c.dart_count-darts.ensures ∙ darts_are c.args.m
+  darts_counted : c.dart_count-darts.result ≡ darts c.args.map.now
+  darts_counted = c.dart_count-darts.ensures
 
-  vertices_counted : c.orbit_count-vertices.result ≡ number_of c.args.m Kind.Vertex
+  vertices_counted : c.orbit_count-vertices.result ≡ number_of c.args.map.now Kind.Vertex
   vertices_counted =
       c.orbit_count-vertices.ensures
-      ∙ vertices_are c.args.m c.requires c.put_point_links.ensures c.compose.ensures
+      ∙ vertices_are c.args.map.now c.requires c.point_links-point.ensures.list c.point_links-point.ensures.leads c.compose.ensures
       c.present_darts-present.ensures
 
-  edges_counted : c.orbit_count-edges.result ≡ number_of c.args.m Kind.Edge
+  edges_counted : c.orbit_count-edges.result ≡ number_of c.args.map.now Kind.Edge
   edges_counted =
       c.orbit_count-edges.ensures
-      ∙ edges_are c.args.m c.requires c.put_point_links.ensures c.compose.ensures
+      ∙ edges_are c.args.map.now c.requires c.point_links-point.ensures.list c.point_links-point.ensures.leads c.compose.ensures
       c.present_darts-present.ensures
 
-  faces_counted : c.orbit_count-faces.result ≡ number_of c.args.m Kind.Face
+  faces_counted : c.orbit_count-faces.result ≡ number_of c.args.map.now Kind.Face
   faces_counted =
       c.orbit_count-faces.ensures
-      ∙ faces_are c.args.m c.requires c.put_point_links.ensures c.compose.ensures
+      ∙ faces_are c.args.map.now c.requires c.point_links-point.ensures.list c.point_links-point.ensures.leads c.compose.ensures
       c.present_darts-present.ensures
 
 pub overflow_add-result : goal.overflow_add-result
@@ -179,7 +163,7 @@ returns c =
     let present = darts_counted c in
     let parts :
     (c.orbit_count-vertices.result + c.orbit_count-edges.result + c.orbit_count-faces.result
-    - c.dart_count-darts.result) / 2 ≡ number_of c.args.m Kind.Part =
+    - c.dart_count-darts.result) / 2 ≡ number_of c.args.map.now Kind.Part =
     omega (arith, counts_balance c.requires) in
     λ i. record {
       darts = present i;

@@ -4,9 +4,9 @@ use native.Mathlib.Omega.{arith}
 use Rattle.finite.specs.Bounded.{one_if, count}
 use Rattle.finite.specs.Counting.{count_small}
 use Rattle.orbits.proofs.Counts.{count_next, one_if_byte, byte_small}
-use Rattle.orbits.specs.Links.{test_of}
 use Rattle.model.specs.Maps.{own}
-use Rattle.model.specs.Maps.{present_by}
+use Rattle.model.specs.Maps.{is_present}
+use Rattle.model.specs.Reading.{darts}
 use Rattle.maps.proofs.traversal.dart_count.Goals as goal
 
 pub overflow_mul-d-end : goal.overflow_mul-d-end
@@ -23,12 +23,12 @@ pub overflow_add-darts : goal.overflow_add-darts
 overflow_add-darts c = omega (
   arith,
   byte_small c.is_present.result,
-  count_small c.loop-d.d (present_by (test_of c.args.helpers.now) c.args.points),
+  count_small c.loop-d.d (is_present c.args.map.now),
   c.requires,
 )
 
 pub loop-d-preserved : goal.loop-d-preserved
-loop-d-preserved c = let p = present_by (test_of c.args.helpers.now) c.args.points in (
+loop-d-preserved c = let p = is_present c.args.map.now in (
   omega arith,
   c.loop-d.invariant.1,
   omega (
@@ -40,6 +40,7 @@ loop-d-preserved c = let p = present_by (test_of c.args.helpers.now) c.args.poin
 )
 
 pub returns : goal.returns
-returns c = let p = present_by (test_of c.args.helpers.now) c.args.points in
-    let same : c.loop-d.d ≡ own c.args.points = omega arith in
+unfolding darts
+returns c = let p = is_present c.args.map.now in
+    let same : c.loop-d.d ≡ own c.args.map.now.count = omega arith in
     c.loop-d.invariant.2 ∙ ap (λ (n : ℕ). count n p) same

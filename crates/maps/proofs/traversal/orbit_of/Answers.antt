@@ -4,27 +4,18 @@ use mathlib.Core.Path.{◌≡◌, refl, sym, ap, ◌∙◌}
 use mathlib.Core.List.{List}
 use Prim.Native.Nat.{ℕ}
 use native.Mathlib.Omega.{arith}
-use lib.ListN.{length}
-use Rattle.finite.specs.Bounded.{table, length_table}
 use Rattle.orbits.specs.Reach.{by_one, by_two}
-use Rattle.orbits.specs.Sets.{dart_limit}
-use Rattle.orbits.specs.Links.{Composed, link_of, test_of}
+use Rattle.orbits.specs.Links.{Composed, link_of}
 use Rattle.model.specs.declared.Kind.{Kind}
 use Rattle.model.specs.declared.Map.{Map}
-use Rattle.model.specs.Maps.{point_link_by, has_helper, edge_link, point_link, face_link}
+use Rattle.model.specs.Maps.{edge_link, point_link, face_link}
 use Rattle.model.specs.Reading.{links_of, orbit_set}
-use Rattle.model.specs.Shape.{Shaped}
-use Rattle.maps.proofs.Tables.{point_table, composable}
+use Rattle.maps.proofs.Tables.{links_whole, composable}
 use Rattle.maps.proofs.Orbits.{read_stays, read_orbit}
 use Rattle.maps.proofs.traversal.orbit_of.Goals as goal
 
--- the point links as the code writes them
-module _ (map : Map) (sound : Shaped map) {point : List ℕ}
-    (points_are : point ≡ table dart_limit (point_link_by (test_of map.helpers))) where
-  point_leads : link_of point ≡ point_link map
-  unfolding point_link has_helper
-  point_leads = ap link_of points_are ∙ point_table map sound.links.helpers_whole
-
+-- the point links as the code has them
+module _ (map : Map) (point : List ℕ) (point_leads : link_of point ≡ point_link map) where
   vertices : by_one (link_of point) ≡ links_of map Kind.Vertex
   unfolding links_of
   vertices = ap by_one point_leads
@@ -38,10 +29,6 @@ module _ (map : Map) (sound : Shaped map) {point : List ℕ}
   unfolding links_of face_link edge_link
   faces made = ap by_one (made.leads ∙ (λ i d. point_leads i (edge_link map d)))
 
-point_whole : (map : Map) {point : List ℕ} → point ≡ table dart_limit (point_link_by (test_of map.helpers)) →
-    length point ≡ dart_limit
-point_whole map e = ap length e ∙ length_table dart_limit (point_link_by (test_of map.helpers))
-
 edges : (map : Map) → by_one (link_of map.edge) ≡ links_of map Kind.Edge
 unfolding links_of edge_link
 edges map = refl
@@ -50,34 +37,33 @@ pub overflow_mul-n : goal.overflow_mul-n
 overflow_mul-n c = omega (arith, c.requires.0.links.fits)
 
 pub compose-requires : goal.compose-requires
-unfolding point_link has_helper
-compose-requires c = composable c.args.m c.requires.0 (point_whole c.args.m c.put_point_links.ensures)
+compose-requires c = composable c.args.map.now c.requires.0 (links_whole c.args.map.now c.point_links-point.ensures.list)
 
 pub orbit-requires : goal.orbit-requires
 orbit-requires c =
     let s = c.requires.0 in
-    (s.links.edge_whole, read_stays s Kind.Edge _ (edges c.args.m) _ c.requires.1)
+    (s.links.edge_whole, read_stays s Kind.Edge _ (edges c.args.map.now) _ c.requires.1)
 
 pub orbit-requires-in-Vertex : goal.orbit-requires-in-Vertex
 orbit-requires-in-Vertex c =
     let s = c.requires.0 in
-    let e = c.put_point_links.ensures in
-    (point_whole c.args.m e, read_stays s Kind.Vertex _ (vertices c.args.m s e) _ c.requires.1)
+    let e = c.point_links-point.ensures in
+    (links_whole c.args.map.now e.list, read_stays s Kind.Vertex _ (vertices c.args.map.now _ e.leads) _ c.requires.1)
 
 pub orbit-requires-in-Face : goal.orbit-requires-in-Face
 orbit-requires-in-Face c =
     let s = c.requires.0 in
-    let e = c.put_point_links.ensures in
-    (c.compose.ensures.whole, read_stays s Kind.Face _ (faces c.args.m s e c.compose.ensures) _ c.requires.1)
+    let e = c.point_links-point.ensures in
+    (c.compose.ensures.whole, read_stays s Kind.Face _ (faces c.args.map.now _ e.leads c.compose.ensures) _ c.requires.1)
 
 pub part-requires : goal.part-requires
 part-requires c =
     let s = c.requires.0 in
-    let e = c.put_point_links.ensures in
+    let e = c.point_links-point.ensures in
     record {
       first_whole = s.links.edge_whole;
-      second_whole = point_whole c.args.m e;
-      below = read_stays s Kind.Part _ (parts c.args.m s e) _ c.requires.1;
+      second_whole = links_whole c.args.map.now e.list;
+      below = read_stays s Kind.Part _ (parts c.args.map.now _ e.leads) _ c.requires.1;
     }
 
 -- what is read, for the kind that was told
@@ -88,26 +74,26 @@ told_orbit map d e = ap (λ (k : Kind). orbit_set map k d) (sym e)
 pub returns-in-Edge : goal.returns-in-Edge
 returns-in-Edge c =
     c.orbit.ensures
-    ∙ read_orbit c.requires.0 Kind.Edge _ (edges c.args.m) _ c.requires.1
-    ∙ told_orbit c.args.m c.args.d c.in-Edge.is
+    ∙ read_orbit c.requires.0 Kind.Edge _ (edges c.args.map.now) _ c.requires.1
+    ∙ told_orbit c.args.map.now c.args.d c.in-Edge.is
 
 pub returns-in-Vertex : goal.returns-in-Vertex
 returns-in-Vertex c =
     c.orbit-in-Vertex.ensures
-    ∙ read_orbit c.requires.0 Kind.Vertex _ (vertices c.args.m c.requires.0 c.put_point_links.ensures) _
+    ∙ read_orbit c.requires.0 Kind.Vertex _ (vertices c.args.map.now _ c.point_links-point.ensures.leads) _
     c.requires.1
-    ∙ told_orbit c.args.m c.args.d c.in-Vertex.is
+    ∙ told_orbit c.args.map.now c.args.d c.in-Vertex.is
 
 pub returns-in-Face : goal.returns-in-Face
 returns-in-Face c =
     c.orbit-in-Face.ensures
     ∙ read_orbit c.requires.0 Kind.Face _
-    (faces c.args.m c.requires.0 c.put_point_links.ensures c.compose.ensures) _ c.requires.1
-    ∙ told_orbit c.args.m c.args.d c.in-Face.is
+    (faces c.args.map.now _ c.point_links-point.ensures.leads c.compose.ensures) _ c.requires.1
+    ∙ told_orbit c.args.map.now c.args.d c.in-Face.is
 
 pub returns-in-Part : goal.returns-in-Part
 returns-in-Part c =
     c.part.ensures
-    ∙ read_orbit c.requires.0 Kind.Part _ (parts c.args.m c.requires.0 c.put_point_links.ensures) _
+    ∙ read_orbit c.requires.0 Kind.Part _ (parts c.args.map.now _ c.point_links-point.ensures.leads) _
     c.requires.1
-    ∙ told_orbit c.args.m c.args.d c.in-Part.is
+    ∙ told_orbit c.args.map.now c.args.d c.in-Part.is

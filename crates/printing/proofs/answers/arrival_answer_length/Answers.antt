@@ -1,54 +1,48 @@
 -- `printing::answers::arrival_answer_length` meets its contract, arrival by arrival.
-use mathlib.Core.Path.{◌≡◌, sym, ap, ◌∙◌}
-use mathlib.Core.List.{List, [], ◌∷◌}
-use Prim.Native.Nat.{ℕ, ◌+◌}
-use native.Mathlib.Omega.{arith}
-use lib.ListN.{length}
-use Rattle.model.specs.declared.Arrival.{Arrival}
+use Rattle.std.proofs.Common.{◌≡◌, sym, ap, ◌∙◌, [], ◌∷◌, ◌+◌, arith, length}
 use Rattle.model.specs.Spelling.{bytes}
 use Rattle.model.specs.Answers.{arrival_answer}
 use Rattle.model.specs.Report.{printed, spaced}
 use Rattle.printing.specs.Printing.{answer_line}
-use Rattle.printing.proofs.Printed.{first_line, second_line, inside_line, outside_line, refused_arrival, line_length, arrival_most}
+use Rattle.printing.proofs.Printed.{first_as, second_as, inside_as, outside_as, refused_answer, line_length, arrival_most}
 use Rattle.printing.proofs.answers.arrival_answer_length.Goals as goal
 use Rattle.printing.proofs.answers.arrival_answer_length.Goals.{After-values_length}
 
-abbrev line : Arrival → List ℕ
-line a = printed (arrival_answer a)
-
-whole : (c : After-values_length) → 8 + c.values_length.result ≡ length (line c.args.arrival)
+whole : (c : After-values_length) → 8 + c.values_length.result ≡ length (printed (arrival_answer c.args.answer))
 unfolding bytes
 whole c =
-    let v = c.in-Outside in
+    let v = c.in-Ok-Outside in
     omega (
       arith,
       c.values_length.ensures,
-      ap length (ap line v.is ∙ outside_line v.left v.right v.visible),
+      ap length (outside_as v.is (rw v.is at v.field-0-is)),
       line_length (bytes "outside") (v.left ∷ v.right ∷ v.visible ∷ []),
     )
 
 pub overflow_add-result : goal.overflow_add-result
-overflow_add-result c = omega (
-  arith,
-  whole (goal.at.overflow_add-result c).After-values_length,
-  arrival_most c.args.arrival,
-)
+overflow_add-result c =
+    omega (arith, whole (goal.at.overflow_add-result c).After-values_length, arrival_most c.args.answer)
 
-pub returns-in-First : goal.returns-in-First
+pub returns-in-Ok-First : goal.returns-in-Ok-First
 unfolding answer_line bytes spaced
-returns-in-First c = sym (ap length (ap line c.in-First.is ∙ first_line))
+returns-in-Ok-First c =
+    let a = c.in-Ok-First in
+    sym (ap length (first_as a.is (rw a.is at a.field-0-is)))
 
-pub returns-in-Second : goal.returns-in-Second
+pub returns-in-Ok-Second : goal.returns-in-Ok-Second
 unfolding answer_line bytes spaced
-returns-in-Second c = sym (ap length (ap line c.in-Second.is ∙ second_line))
+returns-in-Ok-Second c =
+    let a = c.in-Ok-Second in
+    sym (ap length (second_as a.is (rw a.is at a.field-0-is)))
 
-pub returns-in-Inside : goal.returns-in-Inside
+pub returns-in-Ok-Inside : goal.returns-in-Ok-Inside
 unfolding answer_line bytes spaced
-returns-in-Inside c = sym (ap length (ap line c.in-Inside.is ∙ inside_line))
+returns-in-Ok-Inside c =
+    let a = c.in-Ok-Inside in
+    sym (ap length (inside_as a.is (rw a.is at a.field-0-is)))
 
-pub returns-in-Outside : goal.returns-in-Outside
-returns-in-Outside c = whole (goal.at.returns-in-Outside c).After-values_length
+pub returns-in-Ok-Outside : goal.returns-in-Ok-Outside
+returns-in-Ok-Outside c = whole (goal.at.returns-in-Ok-Outside c).After-values_length
 
-pub returns-in-Refused : goal.returns-in-Refused
-returns-in-Refused c = c.refused_length.ensures ∙ sym (ap length (ap line c.in-Refused.is
-    ∙ refused_arrival c.in-Refused.refusal))
+pub returns-in-Err : goal.returns-in-Err
+returns-in-Err c = c.refused_length.ensures ∙ sym (ap length (refused_answer c.in-Err.is))

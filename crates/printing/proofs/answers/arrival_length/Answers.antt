@@ -16,21 +16,21 @@ overflow_add-result c = omega (arith, c.natural_length.ensures, spelt_length c.a
 whole : (c : After-arrival_answer_length) →
     let a = c.args in
     c.natural_length.result + 1 + c.arrival_answer_length.result ≡ length
-    (arrival_line a.line a.arrival)
+    (arrival_line a.line a.answer)
 whole c =
     let a = c.args in
     omega (
       arith,
       c.natural_length.ensures,
       c.arrival_answer_length.ensures,
-      arrival_line_length a.line a.arrival,
+      arrival_line_length a.line a.answer,
     )
 
 pub overflow_add-result-2 : goal.overflow_add-result-2
 overflow_add-result-2 c = let a = c.args in omega (
   arith,
   whole (goal.at.overflow_add-result-2 c).After-arrival_answer_length,
-  arrival_line_most a.line a.arrival,
+  arrival_line_most a.line a.answer,
 )
 
 pub returns : goal.returns

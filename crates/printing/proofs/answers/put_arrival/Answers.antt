@@ -13,27 +13,27 @@ use Rattle.printing.proofs.answers.put_arrival.Goals.{After-put_natural-after_nu
 pub put_natural-after_number-requires : goal.put_natural-after_number-requires
 unfolding arrival_line
 put_natural-after_number-requires c =
-    room_first (spelt (pos c.args.line)) (space ∷ printed (arrival_answer c.args.arrival)) c.requires
+    room_first (spelt (pos c.args.line)) (space ∷ printed (arrival_answer c.args.answer)) c.requires
 
 -- room after the number
 rest_room : (c : After-put_natural-after_number) →
     Room c.put_natural-after_number.new.lent c.put_natural-after_number.result
-    (space ∷ printed (arrival_answer c.args.arrival))
+    (space ∷ printed (arrival_answer c.args.answer))
 unfolding arrival_line
 rest_room c = room_second c.put_natural-after_number.ensures _ c.requires
 
-pub put_byte-answer-requires : goal.put_byte-answer-requires
-put_byte-answer-requires c =
-    room_first (space ∷ []) _ (rest_room (goal.at.put_byte-answer-requires
+pub put_byte-after_space-requires : goal.put_byte-after_space-requires
+put_byte-after_space-requires c =
+    room_first (space ∷ []) _ (rest_room (goal.at.put_byte-after_space-requires
     c).After-put_natural-after_number)
 
 pub put_arrival_answer-requires : goal.put_arrival_answer-requires
 put_arrival_answer-requires c =
-    room_second c.put_byte-answer.ensures _ (rest_room
+    room_second c.put_byte-after_space.ensures _ (rest_room
     (goal.at.put_arrival_answer-requires c).After-put_natural-after_number)
 
 pub returns : goal.returns
 unfolding arrival_line
 returns c = wrote_then c.put_natural-after_number.ensures c.requires
-    (wrote_then c.put_byte-answer.ensures (rest_room (goal.at.returns c).After-put_natural-after_number)
+    (wrote_then c.put_byte-after_space.ensures (rest_room (goal.at.returns c).After-put_natural-after_number)
     c.put_arrival_answer.ensures)

@@ -18,8 +18,8 @@ whole c =
     omega (
       arith,
       c.values_length.ensures,
-      ap length (refused_as c.args.refusal _ c.refusal_number.ensures),
-      line_length (bytes "refused") (c.refusal_number.result ∷ []),
+      ap length (refused_as c.args.refusal _ c.from.ensures),
+      line_length (bytes "refused") (c.from.result ∷ []),
     )
 
 pub overflow_add-result : goal.overflow_add-result

@@ -1,11 +1,8 @@
 -- `printing::answers::values_length` meets its contract. The loop's invariant: the total is the
--- length of what stands before place i.
-use mathlib.Core.Path.{◌≡◌}
-use Prim.Native.Nat.{◌≤◌}
-use lib.ListN.{length}
+-- length of what stands before the value.
+use Rattle.std.proofs.Common.{◌≡◌, length}
 use Rattle.printing.proofs.Values.{printed_to}
 use Rattle.printing.proofs.answers.values_length.Given as goal
 
-abbrev pub invariant-loop-i : goal.invariant-loop-i
-invariant-loop-i l = (l.total ≡ length (printed_to l.values l.i)) × (l.i ≤ length
-    l.values)
+abbrev pub invariant-loop-value : goal.invariant-loop-value
+invariant-loop-value l = l.total ≡ length (printed_to l.values l.value-index)

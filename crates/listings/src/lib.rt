@@ -90,7 +90,8 @@ fn is_lowest(first: Point, others: &[Point]) -> bool
     others.iter().all(|p| is_lower(first, *p))
 }
 
-// Whether points turn left all the way, and as the first one sees them: then they go round once.
+// Whether points turn left all the way, and as the first one sees them: then they go round once. By index:
+// of `windows(3).all(..)` it was not proved that the closure may be called, which asks points in range.
 fn turn_left(corners: &[Point]) -> bool
     requires { T (all_in in_range corners.now) }
     ensures { result ≡ turns_at corners.now }

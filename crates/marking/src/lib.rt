@@ -26,7 +26,7 @@ pub fn mark(points: &[i64], claim: &[usize]) -> Result<bool, Refusal>
 }
 
 // Whether all points of a list are accepted, offered one after another, or the first refusal met. They are written into
-// places that are lent empty.
+// places that are lent empty: there is no heap.
 fn take_points(points: &[i64], places: &mut [Point; POINT_LIMIT]) -> Result<(), Refusal>
     requires { places.old ≡ empty_map.points }
     ensures { PointsTaken (points_of points.now) result places.new }

@@ -40,8 +40,10 @@ asked : (c : After-admission_hashed) →
     (put c.in-Some.pair.now) c.admission_hashed.result
 asked c =
     let x = c.in-Some.pair.now in
-    let e : to_z w64 (of_z w64 (get_or c.in-Some.pair.now 0 (pos 0))) ≡ get_or c.in-Some.pair.now 0 (pos 0) = search rules in
-    let f : to_z w64 (of_z w64 (get_or c.in-Some.pair.now 1 (pos 0))) ≡ get_or c.in-Some.pair.now 1 (pos 0) = search rules in
+    let e : to_z w64 (of_z w64 (get_or c.in-Some.pair.now 0 (pos 0))) ≡ get_or c.in-Some.pair.now 0 (pos 0) =
+    search rules in
+    let f : to_z w64 (of_z w64 (get_or c.in-Some.pair.now 1 (pos 0))) ≡ get_or c.in-Some.pair.now 1 (pos 0) =
+    search rules in
     let step = c.in-Some.ensures.steps in
     let a = c.loop-k.invariant.3 in
     let two = step.0.1.1 ∙ c.loop-k.invariant.2 in
@@ -65,11 +67,12 @@ returns-in_err-admission_hashed c =
 
 pub bounds-places-k : goal.bounds-places-k
 bounds-places-k c =
-    omega
-    (arith, place_free (asked (goal.at.bounds-places-k c).After-admission_hashed) c.in_ok-admission_hashed.was, c.in-Some.ensures.steps.1)
+    let free = place_free (asked (goal.at.bounds-places-k c).After-admission_hashed) c.in_ok-admission_hashed.was in
+    omega (arith, free, c.in-Some.ensures.steps.1)
 
 pub put-requires : goal.put-requires
-put-requires c = (one_accepted (asked (goal.at.put-requires c).After-admission_hashed) c.in_ok-admission_hashed.was).ranged
+put-requires c =
+    (one_accepted (asked (goal.at.put-requires c).After-admission_hashed) c.in_ok-admission_hashed.was).ranged
 
 pub loop-k-preserved : goal.loop-k-preserved
 loop-k-preserved c =

@@ -13,11 +13,9 @@ use Rattle.saved.proofs.Places.{length_saved_in}
 use Rattle.loading.proofs.writes.Goals as goal
 use Rattle.loading.proofs.writes.Goals.{After-write_map}
 
-pub write_map-requires : goal.write_map-requires
-write_map-requires c = record {
-  shaped = c.requires.shaped;
-  count_in_bounds = omega (arith, c.requires.shaped.links.fits, notes_short c.args.version c.args.map.now.count);
-}
+pub write_map-requires-clause-count_in_bounds : goal.write_map-requires-clause-count_in_bounds
+write_map-requires-clause-count_in_bounds c =
+    omega (arith, c.requires.shaped.links.fits, notes_short c.args.version c.args.map.now.count)
 
 module _ (c : After-write_map) where
   abbrev file : List ℕ

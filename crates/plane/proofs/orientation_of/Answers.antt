@@ -18,7 +18,7 @@ use Rattle.model.specs.declared.Refusal.{Refusal}
 use Rattle.model.specs.Answers.{oriented_answer}
 use Rattle.model.specs.Plane.{in_range, orientation, orientation_limit, orientation_call}
 use Rattle.model.proofs.Answers.{answered, rule_applies, rule_passes, no_rule}
-use Rattle.plane.specs.OrientedAnswer.{OrientedAnswer, RangedAnswer}
+use Rattle.plane.specs.OrientedAnswer.{OrientedAnswer}
 use Rattle.plane.proofs.Bounds.{ranged_near, orientation_bounded}
 use Rattle.plane.proofs.orientation_of.Goals as goal
 

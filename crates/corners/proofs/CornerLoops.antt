@@ -7,52 +7,46 @@ use mathlib.Core.List.{List, [], ◌∷◌, ◌++◌, append_assoc, append-nil}
 use Prim.Native.Nat.{ℕ, zero, suc, ◌+◌, ◌-◌, ◌≤◌, ◌<◌}
 use native.Mathlib.Numerals.{add-one}
 use native.Mathlib.Omega.{arith}
-use lib.IntN.{ℤ}
 use lib.ListN.{length, take, set, replicate, length-replicate, length-set}
 use lib.Seq.{take-suc-set, length-take-le}
 use borrow.Author.Tests.{le-ltb}
 use Rattle.finite.specs.Bounded.{table}
 use Rattle.finite.specs.Lists.{ring}
 use Rattle.finite.specs.Rings.{ring_last, ring_more}
-use Rattle.orbits.specs.Links.{link_of}
 use Rattle.model.specs.declared.Map.{Map}
-use Rattle.model.specs.Maps.{point_limit, owner, point, point_at, edge_link}
-use Rattle.model.specs.Outline.{next_by, next_corner, corners_from, outline, lowest_corner, corners}
+use Rattle.model.specs.Maps.{point_limit, owner, point}
+use Rattle.model.specs.Outline.{next_corner, corners_from, outline, lowest_corner, corners}
 use Rattle.model.specs.Shape.{Shaped}
-use Rattle.corners.specs.Listing.{ListsCorners, lower_at, lowest_of, lowest_round}
+use Rattle.corners.specs.Listing.{ListsCorners, lower_of, lowest_of, lowest_round}
 use Rattle.corners.proofs.Corners.{lowest_found, corners_lowest, few_listed}
 
 -- ---- the lowest corner
 
-module _ (xs ys : List ℤ) (edge : List ℕ) (count start : ℕ) where
-  -- where an edge leads
-  abbrev next : ℕ → ℕ
-  next = next_by (link_of edge)
-
+module _ (m : Map) (start : ℕ) where
   -- the lower of `lowest` and of what is ahead, at most so many from corner a, is the lowest of all
   pub record Seeking (lowest a ahead : ℕ) : Type 0 where
-    pub so_far : lowest_of (point_at xs ys) lowest (ring next start ahead a) ≡ lowest_round xs ys edge count start
+    pub so_far : lowest_of (point m) lowest (ring (next_corner m) start ahead a) ≡ lowest_round m start
 
-  pub seeking_first : {ahead : ℕ} → ahead ≡ count → Seeking start start ahead
-  unfolding lowest_round
+  pub seeking_first : {ahead : ℕ} → ahead ≡ m.count → Seeking start start ahead
+  unfolding lowest_round corners_from
   seeking_first all = rw all (record { so_far = refl })
 
   module _ {lowest lowest' a b ahead : ℕ} (u : Seeking lowest a ahead) (more : 0 < ahead)
-      (l : lowest' ≡ lower_at xs ys lowest a) (to : b ≡ next a) where
-    step : (on : ℕ) → ring next start ahead a ≡ a ∷ ring next start on b → Seeking lowest' b on
+      (l : lowest' ≡ lower_of m lowest a) (to : b ≡ next_corner m a) where
+    step : (on : ℕ) → ring (next_corner m) start ahead a ≡ a ∷ ring (next_corner m) start on b → Seeking lowest' b on
     unfolding lowest_of
-    step on is = record { so_far = rw l (ap (lowest_of (point_at xs ys) lowest) (sym is) ∙ u.so_far) }
+    step on is = record { so_far = rw l (ap (lowest_of (point m) lowest) (sym is) ∙ u.so_far) }
 
     -- the next corner is the first ..
     pub seeking_last : b ≡ start → Seeking lowest' b 0
-    seeking_last e = step 0 (rw to (ring_last next start ahead a more (sym to ∙ e)))
+    seeking_last e = step 0 (rw to (ring_last (next_corner m) start ahead a more (sym to ∙ e)))
 
     -- .. or another one
     pub seeking_more : {on : ℕ} → on ≡ ahead - 1 → b ≢ start → Seeking lowest' b on
     seeking_more one_less n =
-        rw one_less (step (ahead - 1) (rw to (ring_more next start ahead a more (λ e. n (to ∙ e)))))
+        rw one_less (step (ahead - 1) (rw to (ring_more (next_corner m) start ahead a more (λ e. n (to ∙ e)))))
 
-  pub seeking_end : {lowest a ahead : ℕ} → Seeking lowest a ahead → ahead ≤ 0 → lowest ≡ lowest_round xs ys edge count start
+  pub seeking_end : {lowest a ahead : ℕ} → Seeking lowest a ahead → ahead ≤ 0 → lowest ≡ lowest_round m start
   unfolding ring lowest_of
   seeking_end {lowest} {a} {ahead} u h =
       let none : ahead ≡ 0 = omega arith in (subst (Seeking lowest a) none u).so_far
@@ -63,9 +57,8 @@ unfolding outline
 outline_from m two = rw (le-ltb m.count 2 two)
 
 -- .. and the lowest there is the lowest corner of a sound map
-pub lowest_is : {m : Map} → Shaped m → 2 ≤ m.count →
-    lowest_round m.xs m.ys m.edge m.count (owner m.reference) ≡ lowest_corner m
-unfolding lowest_round point corners_from next_corner edge_link
+pub lowest_is : {m : Map} → Shaped m → 2 ≤ m.count → lowest_round m (owner m.reference) ≡ lowest_corner m
+unfolding lowest_round
 lowest_is {m} s two = ap (lowest_of (point m) (owner m.reference)) (sym (outline_from m two)) ∙ lowest_found s two
 
 -- ---- the list
@@ -109,10 +102,11 @@ module _ (m : Map) (start : ℕ) where
 
 pub listing_end : {m : Map} → Shaped m → 2 ≤ m.count → {start : ℕ} → start ≡ lowest_corner m →
     {points : List ℕ} {listed a ahead : ℕ} → Listing m start points listed a ahead → ahead ≤ 0 →
-    ListsCorners m (record { points = points; count = listed })
+    {n : ℕ} → n ≡ listed → ListsCorners m (record { points = points; count = n })
 unfolding ring
-listing_end {m} s two {start} is {points} {listed} {a} {ahead} u h =
-    let none : ahead ≡ 0 = omega arith in
+listing_end {m} s two {start} is {points} {listed} {a} {ahead} u h {n} so_many =
+    rw so_many
+    (let none : ahead ≡ 0 = omega arith in
     let w = subst (Listing m start points listed a) none u in
     let fits : listed ≤ point_limit = omega (arith, u.few, s.links.fits) in
     let members : take listed points ≡ corners m =
@@ -122,7 +116,7 @@ listing_end {m} s two {start} is {points} {listed} {a} {ahead} u h =
       number = sym (length-take-le listed points (omega (arith, u.whole))) ∙ ap length members;
       whole = u.whole;
       fits = fits;
-    }
+    })
 
 -- one point or none
 pub listing_few : {m : Map} → m.count < 2 → {n : ℕ} → n ≡ m.count →

@@ -87,7 +87,6 @@ module _ (m : Map) (p : Point) where
   Means (Placed.Edge a b) = LiesBetween a b
   Means Placed.Inside = LeftOfAll
   Means (Placed.Outside v) = LiesOutside v
-  Means (Placed.Refused r) = ⊥
 
 -- ---- every answer has its meaning
 

@@ -3,7 +3,7 @@
 -- with the laws of its start, of a step, of an early answer and of the end.
 -- What is found and what is still ahead make up the answer together.
 use mathlib.Core.Path.{◌≡◌, refl, sym, ap, ◌∙◌}
-use mathlib.Core.Bool.{Bool, true, false, cond, ◌&&◌, ◌||◌, and-true, and-false, or-true, or-false}
+use mathlib.Core.Bool.{Bool, true, false, cond, ◌&&◌, ◌||◌, and-true, and-false}
 use mathlib.Core.List.{List, [], ◌∷◌}
 use Prim.Native.Nat.{ℕ, suc, ◌+◌, ◌≤◌, ◌<◌}
 use native.Mathlib.Nat.{zero-add}
@@ -11,26 +11,26 @@ use native.Mathlib.Numerals.{add-one}
 use native.Mathlib.Omega.{arith}
 use lib.Dec.{ltb}
 use lib.ListN.{length, get_or, drop, drop_of_length-le}
-use lib.Seq.{drop-cons, get_or-take}
+use lib.Seq.{drop-cons}
 use borrow.Author.Tests.{le-ltb}
 use Rattle.integers.specs.Order.{<ℤ_asym}
-use Rattle.finite.specs.Tests.{of_true, either_way}
+use Rattle.std.specs.declared.option.Option.{Option}
+use Rattle.std.specs.declared.option.Option.TheVariants.{Some, None}
+use Rattle.finite.specs.Tests.{of_true}
 use Rattle.finite.specs.Bounded.{one_if}
 use Rattle.finite.specs.Lists.{all_in, any_in, count_in, first_in}
 use Rattle.model.specs.declared.Point.{Point}
 use Rattle.model.specs.declared.Map.{Map}
 use Rattle.model.specs.declared.Placed.{Placed}
-use Rattle.model.specs.Plane.{left_of, visible_from, in_line, strictly_between}
+use Rattle.model.specs.Plane.{same_point, left_of, visible_from, in_line, strictly_between}
 use Rattle.model.specs.Maps.{point}
 use Rattle.model.specs.Outline.{next_corner, corners}
 use Rattle.model.specs.Placing.{is_at, is_on_edge, is_left_of_edge, strictly_sees, strictly_visible, place_among}
 use Rattle.plane.specs.Between.{opposite}
 use Rattle.plane.proofs.Orientation.{left_positive, visible_negative}
-use Rattle.corners.specs.declared.listing.CornerList.{CornerList}
 use Rattle.corners.specs.declared.query.Side.{Side}
 use Rattle.corners.specs.declared.query.View.{View}
-use Rattle.corners.specs.Listing.{ListsCorners}
-use Rattle.corners.specs.Viewing.{same_at, side_at, side_of, viewed, view_of}
+use Rattle.corners.specs.Viewing.{side_of, viewed, view_of}
 
 -- ---- a side of an edge
 
@@ -74,21 +74,6 @@ side_says a b p = go (left_of a b p) (visible_from a b p) (opposite a b p) refl 
 
 -- ---- what is found in a list of corners
 
-found_step : (v : View) (side : Side) (a : ℕ) (rest : Bool) →
-    ((viewed v side a).found || rest) ≡ (v.found || (says_between side || rest))
-found_step v Side.Left a rest = refl
-found_step v Side.Visible a rest = refl
-found_step v Side.Between a rest = sym (or-true v.found)
-found_step v Side.Beyond a rest = refl
-
-start_step : (v : View) (side : Side) (a : ℕ) (later : ℕ → ℕ) →
-    cond (viewed v side a).found (viewed v side a).start (later (viewed v side a).start) ≡
-    cond v.found v.start (cond (says_between side) a (later v.start))
-start_step v Side.Left a later = refl
-start_step v Side.Visible a later = refl
-start_step v Side.Between a later = refl
-start_step v Side.Beyond a later = refl
-
 inside_step : (v : View) (side : Side) (a : ℕ) (rest : Bool) →
     ((viewed v side a).inside && rest) ≡ (v.inside && (says_left side && rest))
 inside_step v Side.Left a rest = refl
@@ -111,23 +96,47 @@ module _ (m : Map) (p : Point) where
   says : (a : ℕ) → Says (point m a) (point m (next_corner m a)) p (side_from a)
   says a = side_says (point m a) (point m (next_corner m a)) p
 
-  view_found : (v : View) (s : List ℕ) → (view_of m p v s).found ≡ (v.found || any_in (is_on_edge m p) s)
-  unfolding view_of any_in
-  view_found v [] = sym (or-false v.found)
-  view_found v (a ∷ s) =
-      view_found (viewed v (side_from a) a) s
-      ∙ found_step v (side_from a) a (any_in (is_on_edge m p) s)
-      ∙ ap (λ (b : Bool). v.found || (b || any_in (is_on_edge m p) s)) (sym (says a).between)
+  -- the start that was found, or the first one of a list
+  first_or : Option ℕ → List ℕ → Option ℕ
+  first_or (Some b) s = Some b
+  first_or None s = cond (any_in (is_on_edge m p) s) (Some (first_in (is_on_edge m p) 0 s)) None
 
-  view_start : (v : View) (s : List ℕ) →
-      (view_of m p v s).start ≡ cond v.found v.start (first_in (is_on_edge m p) v.start s)
-  unfolding view_of first_in
-  view_start v [] = sym (either_way v.found v.start)
+  -- the same of a corner that is tested and those after it
+  first_after : Option ℕ → Bool → ℕ → List ℕ → Option ℕ
+  first_after (Some b) t a s = Some b
+  first_after None t a s = cond (t || any_in (is_on_edge m p) s) (Some (cond t a (first_in (is_on_edge m p) 0 s))) None
+
+  first_next : (o : Option ℕ) (a : ℕ) (s : List ℕ) → first_or o (a ∷ s) ≡ first_after o (is_on_edge m p a) a s
+  unfolding first_or first_after any_in first_in
+  first_next (Some b) a s = refl
+  first_next None a s = refl
+
+  start_step : (o : Option ℕ) (inside : Bool) (visible : ℕ) (side : Side) (a : ℕ) (s : List ℕ) →
+      first_or (viewed (record { start = o; inside = inside; visible = visible }) side a).start s ≡
+      first_after o (says_between side) a s
+  unfolding first_or first_after
+  start_step (Some b) i n Side.Left a s = refl
+  start_step (Some b) i n Side.Visible a s = refl
+  start_step (Some b) i n Side.Between a s = refl
+  start_step (Some b) i n Side.Beyond a s = refl
+  start_step None i n Side.Left a s = refl
+  start_step None i n Side.Visible a s = refl
+  start_step None i n Side.Between a s = refl
+  start_step None i n Side.Beyond a s = refl
+
+  none_more : (o : Option ℕ) → o ≡ first_or o []
+  unfolding first_or any_in
+  none_more (Some b) = refl
+  none_more None = refl
+
+  view_start : (v : View) (s : List ℕ) → (view_of m p v s).start ≡ first_or v.start s
+  unfolding view_of
+  view_start v [] = none_more v.start
   view_start v (a ∷ s) =
       view_start (viewed v (side_from a) a) s
-      ∙ start_step v (side_from a) a (λ d. first_in (is_on_edge m p) d s)
-      ∙ ap (λ (b : Bool). cond v.found v.start (cond b a (first_in (is_on_edge m p) v.start s)))
-      (sym (says a).between)
+      ∙ start_step v.start v.inside v.visible (side_from a) a s
+      ∙ ap (λ (b : Bool). first_after v.start b a s) (sym (says a).between)
+      ∙ sym (first_next v.start a s)
 
   view_inside : (v : View) (s : List ℕ) → (view_of m p v s).inside ≡ (v.inside && all_in (is_left_of_edge m p) s)
   unfolding view_of all_in
@@ -148,34 +157,42 @@ module _ (m : Map) (p : Point) where
   -- ---- the answer
 
   abbrev nothing_found : View
-  nothing_found = record { start = 0; found = false; inside = true; visible = 0 }
+  nothing_found = record { start = None; inside = true; visible = 0 }
+
+  -- on the edge from a start that was found, or as it is else
+  abbrev placed_by : Option ℕ → Placed → Placed
+  placed_by (Some a) rest = Placed.Edge a (next_corner m a)
+  placed_by None rest = rest
 
   abbrev pub place_seen : View → Placed
-  place_seen v =
-      cond v.found (Placed.Edge v.start (next_corner m v.start))
-      (cond v.inside Placed.Inside (Placed.Outside v.visible))
+  place_seen v = placed_by v.start (cond v.inside Placed.Inside (Placed.Outside v.visible))
 
   module _ (v : View) where
-    pub edge_seen : v.found ≡ true → {b : ℕ} → b ≡ next_corner m v.start → Placed.Edge v.start b ≡ place_seen v
-    edge_seen e to = rw (e, to)
+    pub edge_seen : {a : ℕ} → v.start ≡ Some a → {b : ℕ} → b ≡ next_corner m a → Placed.Edge a b ≡ place_seen v
+    edge_seen {a} e to = rw (e, to)
 
-    pub inside_seen : v.found ≡ false → v.inside ≡ true → Placed.Inside ≡ place_seen v
+    pub inside_seen : v.start ≡ None → v.inside ≡ true → Placed.Inside ≡ place_seen v
     inside_seen e i = rw (e, i)
 
-    pub outside_seen : v.found ≡ false → v.inside ≡ false → Placed.Outside v.visible ≡ place_seen v
+    pub outside_seen : v.start ≡ None → v.inside ≡ false → Placed.Outside v.visible ≡ place_seen v
     outside_seen e i = rw (e, i)
+
+  placed_cond : (t : Bool) (a : ℕ) (rest : Placed) →
+      placed_by (cond t (Some a) None) rest ≡ cond t (Placed.Edge a (next_corner m a)) rest
+  placed_cond true a rest = refl
+  placed_cond false a rest = refl
 
   place_seen_is : any_in (is_at m p) (corners m) ≡ false →
       place_seen (view_of m p nothing_found (corners m)) ≡ place_among m p
-  unfolding place_among strictly_visible
+  unfolding place_among strictly_visible first_or
   place_seen_is none =
       rw (
         none,
-        view_found nothing_found (corners m),
         view_start nothing_found (corners m),
         view_inside nothing_found (corners m),
         view_visible nothing_found (corners m) ∙ zero-add (count_in (strictly_sees m p) (corners m)),
       )
+      (placed_cond (any_in (is_on_edge m p) (corners m)) (first_in (is_on_edge m p) 0 (corners m)) _)
 
 -- ---- the loop
 
@@ -197,29 +214,24 @@ module _ (m : Map) (p : Point) where
   pub at_first : Scanning m p (nothing_found m p) 0
   at_first = record { few = omega arith; bounded = omega arith; rest = refl; any_at = refl; first_at = refl }
 
-  module _ {list : CornerList} (lists : ListsCorners m list) {view : View} {i : ℕ} (u : Scanning m p view i)
-      (more : i < list.count) {here : Bool}
-      (tests : here ≡ same_at m.xs m.ys (get_or list.points i 0) p) where
+  module _ {items : List ℕ} (are : items ≡ corners m) {view : View} {i : ℕ} (u : Scanning m p view i)
+      (more : i < length items) where
+    -- the corner that is looked at
     abbrev a : ℕ
-    a = get_or list.points i 0
+    a = get_or items i 0
 
     ahead : drop i (corners m) ≡ a ∷ drop (suc i) (corners m)
     ahead =
-        let corner : get_or (corners m) i 0 ≡ a =
-        ap (λ (s : List ℕ). get_or s i 0) (sym lists.members) ∙ get_or-take list.count list.points i 0 more in
-        drop-cons (corners m) i 0 (omega (arith, lists.number))
-        ∙ ap (λ (k : ℕ). k ∷ drop (suc i) (corners m)) corner
-
-    test_is : here ≡ is_at m p a
-    unfolding point
-    test_is = tests
+        let some : i < length (corners m) = omega (arith, ap length are) in
+        drop-cons (corners m) i 0 some
+        ∙ ap (λ (s : List ℕ). get_or s i 0 ∷ drop (suc i) (corners m)) (sym are)
 
     -- corner a is the point
-    pub corner_found : here ≡ true → 2 ≤ m.count →
+    pub corner_found : {q : Point} → q ≡ point m a → {here : Bool} → here ≡ same_point q p → here ≡ true → 2 ≤ m.count →
         Placed.Corner a ≡ cond (ltb m.count 2) Placed.NoOutline (place_among m p)
     unfolding place_among any_in first_in
-    corner_found e two =
-        let yes : is_at m p a ≡ true = sym test_is ∙ e in
+    corner_found read tests e two =
+        let yes : is_at m p a ≡ true = sym (tests ∙ ap (λ (r : Point). same_point r p) read) ∙ e in
         let any : any_in (is_at m p) (corners m) ≡ true =
         sym u.any_at ∙ ap (any_in (is_at m p)) ahead
         ∙ ap (λ (b : Bool). b || any_in (is_at m p) (drop (suc i) (corners m))) yes in
@@ -229,19 +241,22 @@ module _ (m : Map) (p : Point) where
         rw (le-ltb m.count 2 two, any, first)
 
     -- or it is not, and the edge that leaves it is looked at
-    pub corner_looked : here ≡ false → {b : ℕ} → b ≡ next_corner m a → {side : Side} → side ≡ side_at m.xs m.ys a b p →
+    pub corner_looked : {q : Point} → q ≡ point m a → {here : Bool} → here ≡ same_point q p → here ≡ false →
+        {b : ℕ} → b ≡ next_corner m a → {q' : Point} → q' ≡ point m b → {side : Side} → side ≡ side_of q q' p →
         {view' : View} → view' ≡ viewed view side a → Scanning m p view' (i + 1)
-    unfolding any_in first_in view_of point
-    corner_looked e {b} to {side} is {view'} w =
-        let no : is_at m p a ≡ false = sym test_is ∙ e in
+    unfolding any_in first_in view_of
+    corner_looked read tests e {b} to read' {side} is {view'} w =
+        let no : is_at m p a ≡ false = sym (tests ∙ ap (λ (r : Point). same_point r p) read) ∙ e in
+        let side_is : side ≡ side_of (point m a) (point m (next_corner m a)) p =
+        is ∙ (λ j. side_of (read j) ((read' ∙ ap (point m) to) j) p) in
         let on = add-one i in
         record {
           few = omega (arith, u.few, ap (λ (v : View). v.visible) w, viewed_few view side a);
-          bounded = omega (arith, lists.number);
+          bounded = omega (arith, ap length are);
           rest =
               ap (λ (j : ℕ). view_of m p view' (drop j (corners m))) on
               ∙ ap (λ (v : View). view_of m p v (drop (suc i) (corners m)))
-              (w ∙ ap (λ (t : Side). viewed view t a) (is ∙ ap (λ (c : ℕ). side_at m.xs m.ys a c p) to))
+              (w ∙ ap (λ (t : Side). viewed view t a) side_is)
               ∙ ap (view_of m p view) (sym ahead)
               ∙ u.rest;
           any_at =
@@ -256,11 +271,11 @@ module _ (m : Map) (p : Point) where
               ∙ u.first_at;
         }
 
-  pub at_end : {list : CornerList} → ListsCorners m list → {view : View} {i : ℕ} → Scanning m p view i → list.count ≤ i →
+  pub at_end : {items : List ℕ} → items ≡ corners m → {view : View} {i : ℕ} → Scanning m p view i → length items ≤ i →
       2 ≤ m.count → place_seen m p view ≡ cond (ltb m.count 2) Placed.NoOutline (place_among m p)
   unfolding any_in view_of
-  at_end {list} lists {view} {i} u h two =
-      let none : drop i (corners m) ≡ [] = drop_of_length-le (corners m) {i = i} (omega (arith, lists.number)) in
+  at_end {items} are {view} {i} u h two =
+      let none : drop i (corners m) ≡ [] = drop_of_length-le (corners m) {i = i} (omega (arith, ap length are)) in
       let view_is : view ≡ view_of m p (nothing_found m p) (corners m) =
       sym (ap (view_of m p view) none) ∙ u.rest in
       let no_corner : any_in (is_at m p) (corners m) ≡ false = sym u.any_at ∙ ap (any_in (is_at m p)) none in

@@ -1,19 +1,14 @@
--- Looking at the edges in turn for where a point lies, in the order of this page: whether a corner is
--- the point; how the point lies to an edge; what is found with one edge more; and with a list of
--- corners, each with the edge that leaves it.
-use Rattle.std.specs.Prelude.{Bool, true, false, cond, List, [], ◌∷◌, ℕ, ◌+◌, ℤ}
+-- Looking at the edges in turn for where a point lies, in the order of this page: how the point lies to an edge; what is
+-- found with one edge more; and with a list of corners, each with the edge that leaves it.
+use Rattle.std.specs.Prelude.{false, cond, Some, unwrap_or, List, [], ◌∷◌, ℕ, ◌+◌}
 use Rattle.model.specs.declared.Point.{Point}
 use Rattle.model.specs.declared.Map.{Map}
-use Rattle.model.specs.Plane.{same_point, left_of, visible_from}
+use Rattle.model.specs.Plane.{left_of, visible_from}
 use Rattle.model.specs.Maps.{point}
 use Rattle.model.specs.Outline.{next_corner}
 use Rattle.plane.specs.Between.{opposite}
-use Rattle.model.specs.Maps.{point_at}
 use Rattle.corners.specs.declared.query.Side.{Side}
 use Rattle.corners.specs.declared.query.View.{View}
-
-abbrev pub same_at : List ℤ → List ℤ → ℕ → Point → Bool
-same_at xs ys a p = same_point (point_at xs ys a) p
 
 -- how p lies to the edge from a to b
 unfoldable pub side_of : Point → Point → Point → Side
@@ -21,18 +16,12 @@ side_of a b p =
     cond (left_of a b p) Side.Left
     (cond (visible_from a b p) Side.Visible (cond (opposite a b p) Side.Between Side.Beyond))
 
-abbrev pub side_at : List ℤ → List ℤ → ℕ → ℕ → Point → Side
-side_at xs ys a b p = side_of (point_at xs ys a) (point_at xs ys b) p
-
 -- what is found with the edge that leaves corner a
 abbrev pub viewed : View → Side → ℕ → View
 viewed v Side.Left a = v
-viewed v Side.Visible a =
-    record { start = v.start; found = v.found; inside = false; visible = v.visible + 1 }
-viewed v Side.Between a =
-    record { start = cond v.found v.start a; found = true; inside = false; visible = v.visible }
-viewed v Side.Beyond a =
-    record { start = v.start; found = v.found; inside = false; visible = v.visible }
+viewed v Side.Visible a = record { start = v.start; inside = false; visible = v.visible + 1 }
+viewed v Side.Between a = record { start = Some (unwrap_or v.start a); inside = false; visible = v.visible }
+viewed v Side.Beyond a = record { start = v.start; inside = false; visible = v.visible }
 
 -- .. and with all corners of a list
 unfoldable pub view_of : Map → Point → View → List ℕ → View

@@ -1,12 +1,10 @@
 // The corners of a map in listing order.
 
-ghost use Rattle.std.specs.Prelude.{◌≡◌, ◌≤◌};
+ghost use Rattle.std.specs.Prelude.{◌≡◌, ◌≤◌, length};
 ghost use Rattle.finite.specs.Overwriting.{over};
-ghost use Rattle.model.specs.Maps.{point_limit};
 ghost use Rattle.model.specs.Shape.{Shaped};
-ghost use Rattle.corners.specs.Listing.{HasRoom, ListsCorners, listed, lower_at, lowest_round};
+ghost use Rattle.corners.specs.Listing.{ListsCorners, listed, lower_of, lowest_round};
 
-use maps::reading::{next_corner, point_at};
 use model::{Map, POINT_LIMIT};
 use plane::lower::is_lower;
 
@@ -17,50 +15,50 @@ pub struct CornerList {
     pub count: usize,
 }
 
+impl CornerList {
+    // The corners.
+    pub fn as_slice(&self) -> &[usize]
+        ensures { result.now ≡ listed self.now }
+    {
+        &self.points[..self.count.min(POINT_LIMIT)]
+    }
+}
+
 // The corners of a sound map: the lowest first, and then anticlockwise. One point lists itself.
-pub fn corners_of(map: Map) -> CornerList
-    requires { Shaped map }
-    ensures { ListsCorners map result }
+pub fn corners_of(map: &Map) -> CornerList
+    requires { Shaped map.now }
+    ensures { ListsCorners map.now result }
 {
     let mut points = [0usize; POINT_LIMIT];
     let count = map.count;
     if count < 2 {
         return CornerList { points, count };
     }
-    let start = map.reference / 2;
-    let first = lowest_corner(&map.xs, &map.ys, &map.edge, count, start);
-    let mut listed = 0;
+    let first = lowest_corner(map, map.reference / 2);
     let mut a = first;
-    for _ in 0..count {
-        points[listed] = a;
-        listed += 1;
-        a = next_corner(&map.edge, a);
+    for i in 0..count {
+        points[i] = a;
+        a = map.next_corner(a);
         if a == first {
-            break;
+            return CornerList {
+                points,
+                count: i + 1,
+            };
         }
     }
-    CornerList {
-        points,
-        count: listed,
-    }
+    CornerList { points, count }
 }
 
-// The lowest corner round from corner `start`, of at most so many: the smallest y, then the smallest x.
-fn lowest_corner<'a>(
-    xs: &'a [i64],
-    ys: &'a [i64],
-    edge: &'a [usize],
-    count: usize,
-    start: usize,
-) -> usize
-    requires { count ≤ point_limit }
-    ensures { result ≡ lowest_round xs.now ys.now edge.now count start }
+// The lowest corner round from corner `start`, of at most so many as the map has points: the smallest y, then the
+// smallest x.
+fn lowest_corner(map: &Map, start: usize) -> usize
+    ensures { result ≡ lowest_round map.now start }
 {
     let mut lowest = start;
     let mut a = start;
-    for _ in 0..count {
-        lowest = lower_of(xs, ys, lowest, a);
-        a = next_corner(edge, a);
+    for _ in 0..map.count {
+        lowest = lower_of(map, lowest, a);
+        a = map.next_corner(a);
         if a == start {
             break;
         }
@@ -69,10 +67,10 @@ fn lowest_corner<'a>(
 }
 
 // The lower one of points a and b; a where neither is lower.
-fn lower_of<'a>(xs: &'a [i64], ys: &'a [i64], a: usize, b: usize) -> usize
-    ensures { result ≡ lower_at xs.now ys.now a b }
+fn lower_of(map: &Map, a: usize, b: usize) -> usize
+    ensures { result ≡ lower_of map.now a b }
 {
-    if is_lower(point_at(xs, ys, b), point_at(xs, ys, a)) {
+    if is_lower(map.point(b), map.point(a)) {
         b
     } else {
         a
@@ -80,12 +78,10 @@ fn lower_of<'a>(xs: &'a [i64], ys: &'a [i64], a: usize, b: usize) -> usize
 }
 
 // Writes the corners into a lent list that has room for them; the rest of it stays as it is.
-pub fn write_corners(list: CornerList, lent: &mut [usize])
-    requires { HasRoom list lent.old }
-    ensures { lent.new ≡ over (listed list) lent.old }
+pub fn write_corners(list: &CornerList, lent: &mut [usize])
+    requires { list.now.count ≤ length lent.old }
+    ensures { lent.new ≡ over (listed list.now) lent.old }
 {
-    let count = list.count;
-    for i in 0..count {
-        lent[i] = list.points[i];
-    }
+    let corners = list.as_slice();
+    lent[..corners.len()].copy_from_slice(corners);
 }

@@ -1,27 +1,35 @@
--- How far the lines of a text are decided, in the order of this page: the answers before a line and
--- the lines ahead make up the report; what it takes to decide a line, and what is decided of it; a
--- text at the start; all lines. Document 01, "The text program".
-use Rattle.std.specs.Prelude.{◌≡◌, Bool, List, ◌++◌, ℕ, ◌+◌, ◌≤◌, ◌<◌, T, length, drop, set}
+-- How far the lines of a text are decided, in the order of this page: the points that a map has; the answers
+-- before a line and the lines ahead make up the report; what it takes to decide a line, and what is decided of
+-- it; a text at the start; all lines. Document 01, "The text program".
+use Rattle.std.specs.Prelude.{◌≡◌, List, ◌++◌, ℕ, ◌≤◌, T, length, take, drop}
+use Rattle.std.specs.declared.result.Result.{Result}
+use Rattle.std.specs.declared.result.Result.TheVariants.{Err}
 use Rattle.model.specs.declared.Map.{Map}
-use Rattle.model.specs.declared.Line.{Line}
+use Rattle.model.specs.declared.Point.{Point}
 use Rattle.model.specs.declared.Refusal.{Refusal}
 use Rattle.model.specs.declared.Arrival.{Arrival}
+use Rattle.model.specs.Answers.{arrival_of}
 use Rattle.model.specs.Maps.{empty_map}
-use Rattle.model.specs.Arrival.{arrived}
+use Rattle.model.specs.Offers.{map_after}
 use Rattle.model.specs.Shape.{Shaped}
 use Rattle.model.specs.Sound.{sound}
 use Rattle.model.specs.Text.{lines}
 use Rattle.model.specs.Report.{text_limit, arrivals, closing, offer_line}
+use Rattle.admission.specs.declared.hashes.Hashes.{Hashes}
 use Rattle.admission.specs.Hashes.{AllHashed}
-use Rattle.lines.specs.Packing.{Packable, packed}
+use Rattle.lines.specs.Packing.{Packable}
 use Rattle.lines.specs.Lines.{answer_lines}
+
+-- the points that a map has, as the code is lent them
+abbrev pub put_points : Map → List Point
+put_points m = take m.count m.points
 
 -- the answers of the lines before number n, and the lines from a place on, offered to the map, with
 -- the hashes of its points
-pub record Surveying (text : List ℕ) (m : Map) (hashes : List Bool) (answers : List ℕ)
+pub record Surveying (text : List ℕ) (m : Map) (hashes : Hashes) (answers : List ℕ)
     (n at : ℕ) : Type 0 where
   pub is_sound : T (sound m)
-  pub all_hashed : AllHashed m.xs m.ys m.count hashes
+  pub all_hashed : AllHashed (put_points m) hashes
   pub together :
       answer_lines answers n ++ arrivals m n (lines (drop at text))
       ≡ arrivals empty_map 0 (lines text)
@@ -31,29 +39,23 @@ pub record Surveying (text : List ℕ) (m : Map) (hashes : List Bool) (answers :
   pub whole : length answers ≡ text_limit
 
 -- what reading refuses is a line that is not in form
-abbrev pub AsRead : Line → Type 0
-AsRead line = (r : Refusal) → line ≡ Line.Refused r → r ≡ Refusal.BadLine
+abbrev pub AsRead : Result Point Refusal → Type 0
+AsRead line = (r : Refusal) → line ≡ Err r → r ≡ Refusal.BadLine
 
--- a sound map with the hashes of its points, a place for the answer, and a line as it is read
-pub record Decidable (m : Map) (hashes : List Bool) (answers : List ℕ) (n : ℕ) (line : Line) :
-    Type 0 where
+-- a sound map with the hashes of its points, and a line as it is read
+pub record Decidable (m : Map) (hashes : Hashes) (line : Result Point Refusal) : Type 0 where
   pub is_sound : T (sound m)
-  pub all_hashed : AllHashed m.xs m.ys m.count hashes
-  pub free : n < text_limit
-  pub whole : length answers ≡ text_limit
+  pub all_hashed : AllHashed (put_points m) hashes
   pub as_read : AsRead line
 
--- what the offer comes to, with the map and its hashes after it; the answer stands at the line's
--- number
-pub record DecidedLine (m after : Map) (hashes : List Bool) (answers later : List ℕ) (n more : ℕ)
-    (line : Line) : Type 0 where
-  pub arrival : Arrival
-  pub offered : offer_line m line ≡ arrived arrival after
-  pub packable : Packable arrival
+-- what the offer comes to, with the map and its hashes after it; the answer is one that has a number
+pub record DecidedLine (m after : Map) (hashes : Hashes) (line : Result Point Refusal)
+    (answer : Result Arrival Refusal) : Type 0 where
+  pub answered : answer ≡ arrival_of (offer_line m line)
+  pub left : after ≡ map_after m (offer_line m line)
+  pub packable : Packable answer
   pub is_sound : T (sound after)
-  pub all_hashed : AllHashed after.xs after.ys after.count hashes
-  pub answered : later ≡ set answers n (packed arrival)
-  pub counted : more ≡ n + 1
+  pub all_hashed : AllHashed (put_points after) hashes
 
 -- a text that is not too long, and a place for the answer of each of its lines
 pub record Readable (text answers : List ℕ) : Type 0 where

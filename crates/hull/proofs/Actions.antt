@@ -4,22 +4,22 @@
 -- alone (`actions_are_offers`), and demand 3 holds of it (`balanced_with_removals`). A list without
 -- removals makes the run of its offers (`offers_alone`).
 use mathlib.Core.Path.{◌≡◌, refl, sym, ap, subst, ◌∙◌}
-use mathlib.Core.Bool.{cond}
 use mathlib.Core.List.{List, [], ◌∷◌, ◌++◌, map, map-append}
 use Prim.Native.Nat.{◌-◌, ◌<◌}
 use native.Mathlib.Omega.{arith}
 use lib.Dec.{T}
 use lib.ListN.{length, take, length-append}
 use lib.Seq.{take_at}
+use Rattle.std.specs.declared.result.Result.{Result}
 use Rattle.model.specs.declared.Refusal.{Refusal}
 use Rattle.model.specs.declared.Point.{Point}
-use Rattle.model.specs.declared.Removed.{Removed}
+use Rattle.model.specs.declared.Map.{Map}
 use Rattle.model.specs.Refusals.{nor, Refuses}
 use Rattle.model.specs.Maps.{empty_map}
 use Rattle.model.specs.Sound.{sound}
 use Rattle.model.specs.Arrival.{arrive}
 use Rattle.model.specs.Removal.{before_last, remove_call, remove}
-use Rattle.model.specs.History.{Entry, Run, extended, run_from, run, Action, offering, taking_back, is_served, taken_back, acted, performed_from, performed, offered_point, Balanced}
+use Rattle.model.specs.History.{Entry, Run, extended, run_from, run, Action, offering, taking_back, taken_back_by, taken_back, acted, performed_from, performed, offered_point, Balanced}
 use Rattle.model.proofs.Answers.{refuses_some}
 use Rattle.sight.specs.Requires.{Accepted}
 use Rattle.hull.proofs.Outcomes.{none_applies}
@@ -52,18 +52,11 @@ module _ (Q : Run → Type 0) (r : Run)
     Q (record { map = before_last r.map; history = take (length r.history - 1) r.history }))
     (if_kept : (refusal : Refusal) → Refuses refusal (remove_call r.map).rules → Q r)
   where
-    abbrev after_removal : Removed → Run
-    after_removal o =
-        record {
-          map = o.map;
-          history = cond (is_served o.outcome) (take (length r.history - 1) r.history) r.history;
-        }
-
     pub taken_either : Q (taken_back r)
-    unfolding taken_back is_served
+    unfolding taken_back taken_back_by
     taken_either = decided (remove r.map) (remove_decided r.map)
       where
-        decided : (o : Removed) → Taken r.map o → Q (after_removal o)
+        decided : (o : Result Map Refusal) → Taken r.map o → Q (taken_back_by r o)
         decided o (taken t some) = if_taken t some
         decided o (kept refusal first) = if_kept refusal first
 

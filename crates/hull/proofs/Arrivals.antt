@@ -11,17 +11,21 @@ use Prim.Native.Nat.{ℕ, ◌+◌, ◌≤◌, ◌<◌}
 use native.Mathlib.Omega.{arith}
 use lib.Dec.{T}
 use lib.ListN.{length}
+use Rattle.std.specs.declared.result.Result.{Result}
+use Rattle.std.specs.declared.result.Result.TheVariants.{Ok, Err}
 use Rattle.finite.specs.Lists.{elem}
 use Rattle.finite.specs.ListLaws.{elem_one, elem_append}
 use Rattle.finite.specs.Distinct.{count_in_zero}
 use Rattle.model.specs.declared.Point.{Point}
 use Rattle.model.specs.declared.Map.{Map}
+use Rattle.model.specs.declared.Refusal.{Refusal}
 use Rattle.model.specs.declared.Offered.{Offered}
 use Rattle.model.specs.Plane.{beside}
 use Rattle.model.specs.Maps.{point}
 use Rattle.model.specs.Outline.{next_corner, previous_corner, outline, sees, visible_edges}
 use Rattle.model.specs.Shape.{Shaped}
-use Rattle.model.specs.Arrival.{first_kind, inside_kind, turning_left, turning_right, is_beyond, farther, left_corner, right_corner, spliced, arrive, admission_rules, refusing, admitted}
+use Rattle.model.specs.Arrival.{first_kind, inside_kind, turning_left, turning_right, is_beyond, farther, left_corner, right_corner, spliced, arrive, admission_rules, admitted}
+use Rattle.model.specs.Offers.{map_after}
 use Rattle.model.proofs.Answers.{RulesDecide, refuses, serves, unless_decides}
 use Rattle.plane.proofs.Betweenness.{Between, between_symmetric, beside_between, hidden_beside}
 use Rattle.plane.proofs.Convex.{Convex}
@@ -158,10 +162,11 @@ pub arrive_sound : {m : Map} {p : Point} → Accepted m p → Shaped (arrive m p
 arrive_sound {m} {p} a = arrival_sound m p a (arrive m p) (arrive_arrives m p)
 
 -- and a point that is refused leaves the map as it was
-pub admitted_sound : (m : Map) (p : Point) → Shaped m → Shaped (admitted m p).map
-unfolding admitted
-admitted_sound m p s = decided (admitted m p) (unless_decides (refusing m) (admission_rules m p) (arrive m p))
+pub admitted_sound : (m : Map) (p : Point) → Shaped m → Shaped (map_after m (admitted m p))
+unfolding admitted map_after
+admitted_sound m p s = decided (admitted m p) (unless_decides Err (admission_rules m p) (Ok (arrive m p)))
   where
-    decided : (o : Offered) → RulesDecide (refusing m) (admission_rules m p) (arrive m p) o → Shaped o.map
+    decided : (o : Result Offered Refusal) → RulesDecide Err (admission_rules m p) (Ok (arrive m p)) o →
+        Shaped (map_after m o)
     decided o (refuses q by_rule) = s
     decided o (serves free) = arrive_sound (accepted_by p s free)

@@ -41,14 +41,10 @@ module _ (m : Map) (p : Point) where
       holds o (inside two e) = q _ _ _ _
       holds o (outside two n) = q _ _ _ _
 
-  -- there is one point more, at the end of the coordinates
-  pub arrive_xs : (arrive m p).map.xs ≡ set m.xs m.count p.x
+  -- there is one point more, at the end
+  pub arrive_list : (arrive m p).map.points ≡ set m.points m.count p
   unfolding with_point
-  arrive_xs = arrive_holds (λ new. new.xs ≡ set m.xs m.count p.x) (λ noted helpers edge reference. refl)
-
-  pub arrive_ys : (arrive m p).map.ys ≡ set m.ys m.count p.y
-  unfolding with_point
-  arrive_ys = arrive_holds (λ new. new.ys ≡ set m.ys m.count p.y) (λ noted helpers edge reference. refl)
+  arrive_list = arrive_holds (λ new. new.points ≡ set m.points m.count p) (λ noted helpers edge reference. refl)
 
   pub arrive_count : (arrive m p).map.count ≡ suc m.count
   unfolding with_point

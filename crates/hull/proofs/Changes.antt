@@ -9,16 +9,20 @@ use Prim.Native.Nat.{ℕ, ◌≤◌}
 use native.Mathlib.Omega.{arith}
 use borrow.Author.Tests.{eq-eqb, ne_eqb}
 use lib.Dec.{T, ltb, ltb→lt, lt→ltb}
+use Rattle.std.specs.declared.result.Result.{Result}
+use Rattle.std.specs.declared.result.Result.TheVariants.{Ok}
 use Rattle.finite.specs.Tests.{is_true, is_false, same_test, same_or_not}
 use Rattle.model.specs.declared.Point.{Point}
 use Rattle.model.specs.declared.Note.{Note}
 use Rattle.model.specs.declared.Map.{Map}
+use Rattle.model.specs.declared.Refusal.{Refusal}
 use Rattle.model.specs.declared.Offered.{Offered}
+use Rattle.model.specs.Answers.{arrival_of}
 use Rattle.model.specs.Maps.{own, helper, owner, other_dart, point, has_helper, edge_link, point_link, note}
 use Rattle.model.specs.Outline.{visible_edges}
 use Rattle.model.specs.Shape.{Shaped}
 use Rattle.model.specs.Arrival.{left_corner, right_corner, first_kind, inside_kind, freeing_none, with_point, alone, pair, spliced, arrive}
-use Rattle.model.specs.Offers.{offer}
+use Rattle.model.specs.Offers.{offer, map_after}
 use Rattle.model.specs.Changes.{joined, parted, with_helper, Grown, FirstGrown, SecondGrown, InsideGrown, Lone, OutsideGrown, Changes, first, second, inside, outside, refused}
 use Rattle.maps.proofs.Darts.{owner_own, own_or_helper, point_own, point_helper, point_lone}
 use Rattle.maps.proofs.Outline.{outline_circuit}
@@ -247,16 +251,17 @@ module _ {m : Map} {p : Point} (a : Accepted m p) where
 -- ---- every offer
 
 arrival_changes : (m : Map) (p : Point) → Accepted m p → (o : Offered) → Arrives m p o →
-    Changes m p o.arrival o.map
+    Changes m p (Ok o.arrival) o.map
 arrival_changes m p a o (outcomes.first none) = first none (first_changes a none)
 arrival_changes m p a o (outcomes.second one) = second one (second_changes a one)
 arrival_changes m p a o (outcomes.inside two none) = inside two none (inside_changes a) (inside_lone a)
 arrival_changes m p a o (outcomes.outside two some) = outside two some (outside_changes a two some)
 
-pub nothing_else_changes : (m : Map) (p : Point) → Changes m p (offer m p).arrival (offer m p).map
+pub nothing_else_changes : (m : Map) (p : Point) → Changes m p (arrival_of (offer m p)) (map_after m (offer m p))
+unfolding arrival_of map_after
 nothing_else_changes m p = decided (offer m p) (offer_decided m p)
   where
-    decided : (o : Offered) → Decided m p o → Changes m p o.arrival o.map
+    decided : (o : Result Offered Refusal) → Decided m p o → Changes m p (arrival_of o) (map_after m o)
     decided o (accepted t a) = arrival_changes m p a (arrive m p) (arrive_arrives m p)
     decided o (offers.refused r by_rule) = refused r
 

@@ -5,13 +5,14 @@
 -- accepted offer; every list of offers; the claims; a refused offer.
 use mathlib.Core.Path.{◌≡◌, refl, sym, ap, subst, ◌∙◌}
 use mathlib.Core.Logic.{◌≢◌, ⊎_elim}
-use mathlib.Core.Bool.{cond}
 use mathlib.Core.List.{List, [], ◌∷◌, ◌++◌, map, map-append}
 use Prim.Native.Nat.{ℕ, suc, ◌+◌, ◌*◌, ◌≤◌, ◌<◌}
 use native.Mathlib.Omega.{arith}
 use lib.Dec.{T, ltb, lt→ltb}
 use lib.ListN.{length}
-use Rattle.finite.specs.Tests.{is_true, is_false, same_or_not}
+use Rattle.std.specs.declared.result.Result.{Result}
+use Rattle.std.specs.declared.result.Result.TheVariants.{Err}
+use Rattle.finite.specs.Tests.{is_true, same_or_not}
 use Rattle.finite.specs.Bounded.{one_if, table, table_onto, lt_or_ge}
 use Rattle.finite.specs.Lists.{distinct, count_in, total}
 use Rattle.finite.specs.ListLaws.{total_append}
@@ -26,7 +27,7 @@ use Rattle.model.specs.Shape.{Shaped}
 use Rattle.model.specs.Sound.{sound}
 use Rattle.model.specs.Arrival.{inside_kind, with_point, alone, pair, spliced, arrive}
 use Rattle.model.specs.Offers.{offer_rules, offer}
-use Rattle.model.specs.History.{Entry, Run, is_accepted, extended, run_from, run, offered_point, reported, reported_edges, edges_seen, is_outside, outside_arrivals, Balanced}
+use Rattle.model.specs.History.{Entry, Run, extended_by, extended, run_from, run, offered_point, reported, reported_edges, edges_seen, is_outside, outside_arrivals, Balanced}
 use Rattle.maps.proofs.Darts.{point_twice}
 use Rattle.maps.proofs.Links.{counts_balance}
 use Rattle.maps.proofs.Outline.{outline_two, outline_circuit, outline_next, corners_on_it}
@@ -34,9 +35,9 @@ use Rattle.maps.proofs.Empty.{empty_sound}
 use Rattle.maps.proofs.Alone.{alone_outline}
 use Rattle.maps.proofs.Pair.{pair_outline}
 use Rattle.sight.specs.Requires.{Accepted}
-use Rattle.hull.proofs.Outcomes.{Arrives, first, second, inside, outside, arrive_arrives, arrival_accepted}
-use Rattle.hull.proofs.Sound.{empty_is_sound}
-use Rattle.hull.proofs.Offers.{Decided, accepted, refused, offer_decided, refused_keeps, sound_kept}
+use Rattle.hull.proofs.Outcomes.{Arrives, first, second, inside, outside, arrive_arrives}
+use Rattle.hull.proofs.Sound.{sound_grows, empty_is_sound}
+use Rattle.hull.proofs.Offers.{Decided, accepted, refused, offer_decided}
 use Rattle.hull.proofs.Arrivals.{arrival_sound, outside_balance}
 use Rattle.hull.proofs.Building.{points_grow}
 use Rattle.hull.proofs.Theorems.{corners_turn_left}
@@ -51,25 +52,15 @@ with_entry r p o =
       history = r.history ++ record { before = r.map; offered = p; arrival = o.arrival } ∷ [];
     }
 
--- the run after an offer that came to o
-abbrev after_offer : Run → Point → Offered → Run
-after_offer r p o =
-    record {
-      map = o.map;
-      history = cond (is_accepted o.arrival) (with_entry r p o).history r.history;
-    }
-
 -- what holds of the run with one entry more if the point is accepted, and of the run as it was if it is refused,
 -- holds after the offer
 module _ (Q : Run → Type 0) (r : Run) (p : Point)
     (if_accepted : T (sound r.map) → Accepted r.map p → Q (with_entry r p (arrive r.map p)))
     (if_refused : (refusal : Refusal) → Refuses refusal (offer_rules r.map p) → Q r)
   where
-    decided_either : (o : Offered) → Decided r.map p o → Q (after_offer r p o)
-    unfolding is_accepted
-    decided_either o (accepted t a) =
-        let arrives = arrive_arrives r.map p in
-        rw (is_true (is_accepted o.arrival) (arrival_accepted r.map p o arrives)) (if_accepted t a)
+    decided_either : (o : Result Offered Refusal) → Decided r.map p o → Q (extended_by r p o)
+    unfolding extended_by
+    decided_either o (accepted t a) = if_accepted t a
     decided_either o (refused refusal first_rule) = if_refused refusal first_rule
 
     pub offer_either : Q (extended r p)
@@ -246,12 +237,14 @@ pub run_shaped : (ps : List Point) → Shaped (run ps).map
 run_shaped ps = (invariant_run ps).is_sound
 
 pub run_sound : (ps : List Point) → T (sound (run ps).map)
-unfolding run run_from extended
+unfolding run run_from
 run_sound ps = from (record { map = empty_map; history = [] }) empty_is_sound ps
   where
     from : (r : Run) → T (sound r.map) → (ps : List Point) → T (sound (run_from r ps).map)
     from r t [] = t
-    from r t (p ∷ ps) = from (extended r p) (sound_kept r.map p t) ps
+    from r t (p ∷ ps) =
+        from (extended r p)
+        (offer_either (λ (next : Run). T (sound next.map)) r p (λ s a. sound_grows s a) (λ refusal first_rule. t)) ps
 
 -- ---- the claims
 
@@ -292,8 +285,6 @@ always_balanced ps = invariant_balanced (run ps) (invariant_run ps)
 
 -- "A refused offer, whatever its number, leaves the map as it was for the next one", and "adds nothing"
 -- to the history
-pub refused_adds_nothing : (r : Run) (p : Point) → ¬ T (is_accepted (offer r.map p).arrival) → extended r p ≡ r
-unfolding extended
-refused_adds_nothing r p n =
-    rw (is_false (is_accepted (offer r.map p).arrival) n)
-    (λ i. record { map = refused_keeps r.map p n i; history = r.history })
+pub refused_adds_nothing : (r : Run) (p : Point) (refusal : Refusal) → offer r.map p ≡ Err refusal → extended r p ≡ r
+unfolding extended extended_by
+refused_adds_nothing r p refusal e = ap (extended_by r p) e

@@ -7,6 +7,7 @@ use Prim.Native.Nat.{ℕ, ◌≤◌}
 use native.Mathlib.Omega.{arith}
 use borrow.Author.Tests.{eq-eqb, ne_eqb}
 use lib.Dec.{T, T_not, not_T, leb, eqb, leb→le, nleb→lt}
+use Rattle.std.specs.declared.result.Result.TheVariants.{Ok}
 use Rattle.finite.specs.Tests.{same_or_not, not_not}
 use Rattle.finite.specs.Bounded.{any_at, any_by}
 use Rattle.model.specs.declared.Point.{Point}
@@ -20,7 +21,6 @@ use Rattle.model.specs.Maps.{point_limit, point}
 use Rattle.model.specs.Shape.{Shaped}
 use Rattle.model.specs.Outline.{visible_edges}
 use Rattle.model.specs.Arrival.{left_corner, right_corner, first_kind, inside_kind, alone, pair, spliced, arrived, later_point, arrive, is_repeated, admission_rules}
-use Rattle.model.specs.History.{is_accepted}
 use Rattle.model.proofs.Shape.{same_point_eq, same_point_by}
 use Rattle.sight.specs.Requires.{Accepted}
 
@@ -77,16 +77,8 @@ arrive_arrives m p =
     (λ (n₁ : m.count ≢ 1).
     by_equal (Arrives m p) (visible_edges m p) 0 (inside (omega arith)) (outside (omega arith))))
 
--- an arrival is no refusal
-pub arrival_accepted : (m : Map) (p : Point) (o : Offered) → Arrives m p o → T (is_accepted o.arrival)
-unfolding is_accepted
-arrival_accepted m p o (first e) = tt
-arrival_accepted m p o (second e) = tt
-arrival_accepted m p o (inside h e) = tt
-arrival_accepted m p o (outside h n) = tt
-
--- and is served
-pub arrival_served : (m : Map) (p : Point) (o : Offered) → Arrives m p o → (arrival_answer o.arrival).number ≡ 0
+-- an arrival is served
+pub arrival_served : (m : Map) (p : Point) (o : Offered) → Arrives m p o → (arrival_answer (Ok o.arrival)).number ≡ 0
 unfolding arrival_answer
 arrival_served m p o (first e) = refl
 arrival_served m p o (second e) = refl

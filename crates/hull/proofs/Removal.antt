@@ -2,26 +2,25 @@
 -- is the one before it (`removal_undoes`); offered again, it brings back the same map (`offer_again`); what
 -- a removal comes to, by the first rule that applies: a refused one keeps the map, and every one keeps a
 -- map sound.
-use mathlib.Core.Path.{◌≡◌, refl, sym, ap, subst, ◌∙◌}
+use mathlib.Core.Path.{◌≡◌, sym, ap, subst, ◌∙◌}
 use mathlib.Core.List.{[], ◌∷◌, ◌++◌}
 use Prim.Native.Nat.{ℕ, suc, ◌<◌}
 use native.Mathlib.Omega.{arith}
 use lib.Dec.{T, eqb→eq}
+use Rattle.std.specs.declared.result.Result.{Result}
+use Rattle.std.specs.declared.result.Result.TheVariants.{Ok, Err}
 use Rattle.finite.specs.Tests.{equal_by, not_not}
 use Rattle.finite.specs.Bounded.{table, table_more, table_same}
 use Rattle.model.specs.declared.Refusal.{Refusal}
 use Rattle.model.specs.declared.Point.{Point}
 use Rattle.model.specs.declared.Map.{Map}
-use Rattle.model.specs.declared.Offered.{Offered}
-use Rattle.model.specs.declared.Removed.{Removed}
 use Rattle.model.specs.Refusals.{NoneApplies, none, nor, Refuses}
 use Rattle.model.specs.Maps.{point, empty_map, map_points}
 use Rattle.model.specs.Sound.{sound}
 use Rattle.model.specs.Arrival.{arrive, admission_rules}
 use Rattle.model.specs.Building.{building_rules, built}
-use Rattle.model.specs.Offers.{offer}
-use Rattle.model.specs.Removal.{last, before_last, keeping, remove_call, remove}
-use Rattle.model.specs.History.{is_served}
+use Rattle.model.specs.Offers.{offer, map_after}
+use Rattle.model.specs.Removal.{last, before_last, remove_call, remove, map_left}
 use Rattle.model.proofs.Answers.{none_both, RulesDecide, refuses, serves, unless_decides}
 use Rattle.model.proofs.Sound.{sound_is}
 use Rattle.sight.specs.Requires.{Accepted}
@@ -75,21 +74,21 @@ module _ (m : Map) (t : T (sound m)) (some : 0 < m.count) where
       }
 
   -- "Offering the point again brings back the same map."
-  pub offer_again : (offer b p).map ≡ m
+  pub offer_again : map_after b (offer b p) ≡ m
+  unfolding map_after
   offer_again =
-      ap (λ (o : Offered). o.map) (not_refused b before_grows.is_sound p before_grows.accepted)
-      ∙ sym before_grows.grows
+      ap (map_after b) (not_refused b before_grows.is_sound p before_grows.accepted) ∙ sym before_grows.grows
 
--- what a removal comes to: the map before the last point, or a refusal, which keeps the map
-pub data Taken (m : Map) : Removed → Type 0 where
-  taken : T (sound m) → 0 < m.count → Taken m (remove_call m).value
-  kept : (r : Refusal) → Refuses r (remove_call m).rules → Taken m (keeping m r)
+-- what a removal comes to: the map before the last point, or a refusal
+pub data Taken (m : Map) : Result Map Refusal → Type 0 where
+  taken : T (sound m) → 0 < m.count → Taken m (Ok (before_last m))
+  kept : (r : Refusal) → Refuses r (remove_call m).rules → Taken m (Err r)
 
 pub remove_decided : (m : Map) → Taken m (remove m)
 unfolding remove
-remove_decided m = decided (remove m) (unless_decides (keeping m) (remove_call m).rules (remove_call m).value)
+remove_decided m = decided (remove m) (unless_decides Err (remove_call m).rules (Ok (before_last m)))
   where
-    decided : (o : Removed) → RulesDecide (keeping m) (remove_call m).rules (remove_call m).value o → Taken m o
+    decided : (o : Result Map Refusal) → RulesDecide Err (remove_call m).rules (Ok (before_last m)) o → Taken m o
     decided o (refuses r first) = kept r first
     decided o (serves (nor unsound (nor no_point none))) =
         let some : ¬ (m.count ≡ 0) = λ e. no_point (equal_by m.count 0 e) in
@@ -100,18 +99,15 @@ pub none_refuses : (m : Map) → T (sound m) → 0 < m.count → NoneApplies (re
 none_refuses m t some = nor (sound_passes m t) (nor (λ z. omega (arith, eqb→eq m.count 0 z)) none)
 
 -- a refused removal leaves the map as it was
-pub refused_removal_keeps : (m : Map) → ¬ T (is_served (remove m).outcome) → (remove m).map ≡ m
-unfolding is_served
-refused_removal_keeps m n = keeps (remove m) (remove_decided m) n
-  where
-    keeps : (o : Removed) → Taken m o → ¬ T (is_served o.outcome) → o.map ≡ m
-    keeps o (taken t some) n = absurd (n tt)
-    keeps o (kept r first) n = refl
+pub refused_removal_keeps : (m : Map) (r : Refusal) → remove m ≡ Err r → map_left m (remove m) ≡ m
+unfolding map_left
+refused_removal_keeps m r e = ap (map_left m) e
 
 -- every removal keeps a map sound
-pub removal_sound : (m : Map) → T (sound m) → T (sound (remove m).map)
+pub removal_sound : (m : Map) → T (sound m) → T (sound (map_left m (remove m)))
+unfolding map_left
 removal_sound m t = keeps (remove m) (remove_decided m)
   where
-    keeps : (o : Removed) → Taken m o → T (sound o.map)
+    keeps : (o : Result Map Refusal) → Taken m o → T (sound (map_left m o))
     keeps o (taken s some) = (before_grows m s some).is_sound
     keeps o (kept r first) = t

@@ -11,10 +11,10 @@ use native.Mathlib.Nat.{zero-add}
 use native.Mathlib.Omega.{arith}
 use lib.Dec.{T}
 use lib.ListN.{length, length-append}
+use Rattle.std.specs.declared.result.Result.TheVariants.{Err}
 use Rattle.model.specs.declared.Refusal.{Refusal}
 use Rattle.model.specs.declared.Point.{Point}
 use Rattle.model.specs.declared.Map.{Map}
-use Rattle.model.specs.declared.Arrival.{Arrival}
 use Rattle.model.specs.Refusals.{Refuses, NoneApplies, none, nor}
 use Rattle.model.specs.Maps.{empty_map, map_points}
 use Rattle.model.specs.Arrival.{arrive, admission_rules}
@@ -94,7 +94,7 @@ built_is_run ps = (after_run ps).is_built
 -- where the offers of qs are all accepted and the next one is refused with r, r is the first refusal met, whatever
 -- follows
 pub first_refusal_met : (qs : List Point) (p : Point) (rest : List Point) (r : Refusal) →
-    length (run qs).history ≡ length qs → (offer (run qs).map p).arrival ≡ Arrival.Refused r →
+    length (run qs).history ≡ length qs → offer (run qs).map p ≡ Err r →
     Refuses r (building_rules empty_map (qs ++ p ∷ rest))
 unfolding building_rules
 first_refusal_met qs p rest r all refusal =

@@ -4,23 +4,17 @@
 -- Document 01, "Saved form": "Big-endian", "two's complement".
 use mathlib.Core.Path.{◌≡◌, refl, sym, ap, ap₂, ◌∙◌}
 use mathlib.Core.Logic.{⊎_elim}
-use mathlib.Core.Bool.{true, false}
 use mathlib.Core.List.{List, ◌++◌}
 use Prim.Native.Nat.{ℕ, zero, suc, ◌+◌, ◌-◌, ◌*◌, ◌/◌, ◌%◌, ◌^◌, ◌≤◌, ◌<◌}
 use native.Mathlib.Nat.{add-zero, zero-add, add-suc, suc-add, add_assoc, pow-suc, pow-succ'}
 use native.Mathlib.Nat.{one-le-pow, mod-one, div-one, div-div-eq-div-mul, mod-eq_of_lt}
 use native.Mathlib.Omega.{arith}
 use borrow.Author.Tests.{lt-ltb, le-ltb}
-use lib.IntN.{ℤ, pos, negsuc, nat_abs, ◌+ℤ◌, ◌-ℤ◌}
-use lib.Signed.{lt_z}
+use lib.IntN.{ℤ, pos, negsuc, nat_abs}
 use lib.Arith.{digits_lt, digits_div, digits_mod, mod-mul}
 use lib.ListN.{length, get_or, take, drop, get_or-append, length-drop}
 use lib.Seq.{get_or-append-add, get_or-take, get_or-drop, length-take-le, ext_get_or}
-use Rattle.integers.specs.Order.{≡_splits, splits_≡, +ℤ_splits, -ℤ_splits, nat_abs_splits}
-use Rattle.integers.specs.Order.{lt_z_true_splits}
-use Rattle.integers.specs.Range.{Bounded}
 use Rattle.finite.specs.Bounded.{lt_or_ge}
-use Rattle.model.specs.Plane.{coordinate_limit}
 use Rattle.model.specs.Saved.{Bytes, big_endian, number_at, complement, signed}
 
 pub length_big_endian : (w v : ℕ) → length (big_endian w v) ≡ w
@@ -140,30 +134,3 @@ complement_signed v h = ⊎_elim
     (λ (l : v < 2 ^ 31). rw (lt-ltb v (2 ^ 31) l))
     (λ (l : 2 ^ 31 ≤ v). rw (le-ltb v (2 ^ 31) l) (omega arith))
     (lt_or_ge v (2 ^ 31))
-
--- by the sign, as the code goes
-pub complement_negative : (z : ℤ) (v : ℕ) → lt_z z (pos 0) ≡ true → Bounded coordinate_limit z →
-    pos v ≡ z +ℤ pos (2 ^ 32) → v ≡ complement z
-unfolding complement
-complement_negative (pos n) v t h e = absurd (omega (arith, lt_z_true_splits (pos n) (pos 0) t))
-complement_negative (negsuc n) v t h e =
-    let b = h.bound in omega (arith, ≡_splits e, +ℤ_splits (negsuc n) (pos (2 ^ 32)))
-
-pub complement_not_negative : (z : ℤ) (v : ℕ) → lt_z z (pos 0) ≡ false → pos v ≡ z → v ≡ complement z
-unfolding complement
-complement_not_negative (pos n) v t e = omega (arith, ≡_splits e)
-complement_not_negative (negsuc n) v t e = absurd (omega (arith, ≡_splits e))
-
-pub signed_low : (v : ℕ) → v < 2 ^ 31 → signed v ≡ pos v
-unfolding signed
-signed_low v h = rw (lt-ltb v (2 ^ 31) h)
-
-pub signed_high : (v : ℕ) → 2 ^ 31 ≤ v → v < 256 ^ 4 → signed v ≡ pos v -ℤ pos (2 ^ 32)
-unfolding signed
-signed_high v h l =
-    rw (le-ltb v (2 ^ 31) h)
-    (splits_≡ (omega (
-      arith,
-      -ℤ_splits (pos v) (pos (2 ^ 32)),
-      nat_abs_splits (pos v -ℤ pos (2 ^ 32)),
-    )))

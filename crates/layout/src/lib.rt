@@ -12,7 +12,8 @@ use model::POINT_LIMIT;
 
 pub mod numbers;
 
-// The version that is saved, and the one before it, which is still read.
+// The version that is saved, and the one before it, which is still read. They are numbers and no enum:
+// what `saved_length` and `file_in_form_of` say holds of any version.
 pub const VERSION: usize = 2;
 
 pub const OLD_VERSION: usize = 1;
@@ -33,9 +34,10 @@ pub fn saved_length(version: usize, count: usize) -> usize
     ensures { result ≡ saved_length version count }
 {
     if version == OLD_VERSION {
-        return notes_place(count);
+        notes_place(count)
+    } else {
+        notes_place(count) + 5 * count
     }
-    notes_place(count) + 5 * count
 }
 
 // Where the helper bytes begin in the file of a map of so many points.
@@ -63,13 +65,11 @@ pub fn notes_place(count: usize) -> usize
 }
 
 // Whether a file is in form, whatever its bytes and however many.
+#[tactic(auto, unfolding(model::specs::Saved::file_in_form))]
 pub fn is_in_form(file: &[u8]) -> bool
     ensures { result ≡ file_in_form file.now }
 {
-    if is_in_form_of(file, OLD_VERSION) {
-        return true;
-    }
-    is_in_form_of(file, VERSION)
+    is_in_form_of(file, OLD_VERSION) || is_in_form_of(file, VERSION)
 }
 
 // Whether a file is in the form of a version.

@@ -3,6 +3,8 @@ use mathlib.Core.Path.{◌≡◌, refl}
 use Prim.Native.Nat.{ℕ, ◌+◌, ◌-◌, ◌*◌, ◌/◌, ◌%◌, ◌≤◌}
 use native.Mathlib.Omega.{arith}
 use borrow.Author.Tests.{ne_eqb, le-ltb}
+use Rattle.std.specs.declared.result.Result.{Result}
+use Rattle.std.specs.declared.result.Result.TheVariants.{Ok, Err}
 use Rattle.model.specs.declared.Refusal.{Refusal}
 use Rattle.model.specs.declared.Arrival.{Arrival}
 use Rattle.model.specs.Refusals.{number}
@@ -11,7 +13,7 @@ use Rattle.lines.specs.Packing.{OfLine, full, out_of_range, repeated, bad_line}
 use Rattle.lines.specs.Packing.{SmallValues, Packable, first, second, inside, outside, refused}
 use Rattle.lines.specs.Packing.{packed, refusal_of, outside_of, unpacked}
 
-refusal_back : {r : Refusal} → OfLine r → unpacked (number r) ≡ Arrival.Refused r
+refusal_back : {r : Refusal} → OfLine r → unpacked (number r) ≡ Err r
 unfolding unpacked refusal_of number
 refusal_back full = refl
 refusal_back out_of_range = refl
@@ -36,7 +38,7 @@ module _ {l r v : ℕ} (s : SmallValues l r v) where
   visible_back : (r + point_limit * v) / point_limit ≡ v
   visible_back = omega (arith, s.right_below)
 
-  past : (n : ℕ) → 14 ≤ n → unpacked n ≡ outside_of (n - 14)
+  past : (n : ℕ) → 14 ≤ n → unpacked n ≡ Ok (outside_of (n - 14))
   unfolding unpacked
   past n h =
       rw (
@@ -46,7 +48,7 @@ module _ {l r v : ℕ} (s : SmallValues l r v) where
         ne_eqb n 13 (λ e. omega arith),
       )
 
-  outside_back : unpacked (14 + l + point_limit * (r + point_limit * v)) ≡ Arrival.Outside l r v
+  outside_back : unpacked (14 + l + point_limit * (r + point_limit * v)) ≡ Ok (Arrival.Outside l r v)
   outside_back =
       let e : 14 + l + point_limit * (r + point_limit * v) - 14 ≡ value = omega arith in
       rw (
@@ -58,7 +60,7 @@ module _ {l r v : ℕ} (s : SmallValues l r v) where
         visible_back,
       )
 
-pub small_values : {a : Arrival} {l r v : ℕ} → a ≡ Arrival.Outside l r v → Packable a →
+pub small_values : {a : Result Arrival Refusal} {l r v : ℕ} → a ≡ Ok (Arrival.Outside l r v) → Packable a →
     SmallValues l r v
 small_values e first = absurd (let z : ◌≡◌ {A = ℕ} 0 1 = cc in omega arith)
 small_values e second = absurd (let z : ◌≡◌ {A = ℕ} 0 1 = cc in omega arith)
@@ -74,7 +76,7 @@ small_values {l = l} {r} {v} e (outside {l = i} {r = j} {v = k} s) =
     }
 small_values e (refused r) = absurd (let z : ◌≡◌ {A = ℕ} 0 1 = cc in omega arith)
 
-pub unpacked_packed : {a : Arrival} → Packable a → unpacked (packed a) ≡ a
+pub unpacked_packed : {a : Result Arrival Refusal} → Packable a → unpacked (packed a) ≡ a
 unfolding packed unpacked
 unpacked_packed first = refl
 unpacked_packed second = refl

@@ -11,8 +11,11 @@ use native.Mathlib.Omega.{arith}
 use borrow.Author.Tests.{lt-ltb, le-ltb, eq-eqb, ne_eqb}
 use lib.Dec.{ltb, eqb}
 use lib.ListN.{length, get_or, length-append}
+use Rattle.std.specs.declared.option.Option.{Option}
+use Rattle.std.specs.declared.option.Option.TheVariants.{Some, None}
 use Rattle.finite.specs.Bounded.{table, table_onto}
 use Rattle.model.specs.declared.Refusal.{Refusal}
+use Rattle.model.specs.declared.Counts.{Counts}
 use Rattle.model.specs.Spelling.{bytes}
 use Rattle.model.specs.Maps.{point_limit}
 use Rattle.model.specs.Answers.{refused}
@@ -22,7 +25,7 @@ use Rattle.printing.proofs.Values.{spaced_length}
 use Rattle.printing.proofs.Printed.{line_length, refused_most, arrival_line_most}
 use Rattle.lines.specs.declared.positions.Ends.{Ends}
 use Rattle.lines.specs.Packing.{unpacked}
-use Rattle.lines.specs.Lines.{title, answer_at, answer_lines, counts_values, report_line}
+use Rattle.lines.specs.Lines.{title, answer_at, answer_lines, counts_values, line_after, report_line}
 use Rattle.lines.specs.Lines.{lines_from, line_count}
 use Rattle.finite.specs.Bounded.{flatten_more}
 
@@ -30,7 +33,7 @@ use Rattle.finite.specs.Bounded.{flatten_more}
 abbrev pub line_most : ℕ
 line_most = 10_760
 
-module _ (answers corners : List ℕ) (ends : Ends) where
+module _ (answers corners : List ℕ) (ends : Option Ends) where
   -- ---- by position
 
   module _ (j : ℕ) where
@@ -39,40 +42,28 @@ module _ (answers corners : List ℕ) (ends : Ends) where
     title_is e = rw (eq-eqb j 0 e)
 
     module _ (later : j ≢ 0) where
-      pub long_is : ends.long ≡ true →
-          printed (refused Refusal.LongText) ≡ report_line answers corners ends j
-      unfolding report_line
+      pub long_is : ends ≡ None → printed (refused Refusal.LongText) ≡ report_line answers corners ends j
+      unfolding report_line line_after
       long_is e = rw (ne_eqb j 0 later, e)
 
-      module _ (short : ends.long ≡ false) where
-        pub answer_is : j - 1 < ends.lines →
-            answer_at answers (j - 1) ≡ report_line answers corners ends j
-        unfolding report_line
-        answer_is h = rw (ne_eqb j 0 later, short, lt-ltb (j - 1) ends.lines h)
+      module _ {e : Ends} (short : ends ≡ Some e) where
+        pub answer_is : j - 1 < e.lines → answer_at answers (j - 1) ≡ report_line answers corners ends j
+        unfolding report_line line_after
+        answer_is h = rw (ne_eqb j 0 later, short, lt-ltb (j - 1) e.lines h)
 
-        module _ (past : ends.lines ≤ j - 1) where
-          pub corners_is : j - 1 ≡ ends.lines →
+        module _ (past : e.lines ≤ j - 1) where
+          pub corners_is : j - 1 ≡ e.lines →
               answer_line (bytes "corners") corners ≡ report_line answers corners ends j
-          unfolding report_line
-          corners_is e =
-              rw (
-                ne_eqb j 0 later,
-                short,
-                le-ltb (j - 1) ends.lines past,
-                eq-eqb (j - 1) ends.lines e,
-              )
+          unfolding report_line line_after
+          corners_is l =
+              rw (ne_eqb j 0 later, short, le-ltb (j - 1) e.lines past, eq-eqb (j - 1) e.lines l)
 
-          pub counts_is : j - 1 ≢ ends.lines →
-              answer_line (bytes "counts") (counts_values ends.counts)
+          pub counts_is : j - 1 ≢ e.lines →
+              answer_line (bytes "counts") (counts_values e.counts)
               ≡ report_line answers corners ends j
-          unfolding report_line
+          unfolding report_line line_after
           counts_is n =
-              rw (
-                ne_eqb j 0 later,
-                short,
-                le-ltb (j - 1) ends.lines past,
-                ne_eqb (j - 1) ends.lines n,
-              )
+              rw (ne_eqb j 0 later, short, le-ltb (j - 1) e.lines past, ne_eqb (j - 1) e.lines n)
 
   -- ---- how long a line is
 
@@ -81,41 +72,43 @@ module _ (answers corners : List ℕ) (ends : Ends) where
   unfolding bytes
   corners_length r e = omega (arith, line_length (bytes "corners") corners)
 
-  pub counts_length : (r : ℕ) → r ≡ length (values_spaced (counts_values ends.counts)) →
-      7 + r ≡ length (answer_line (bytes "counts") (counts_values ends.counts))
+  pub counts_length : (c : Counts) (r : ℕ) → r ≡ length (values_spaced (counts_values c)) →
+      7 + r ≡ length (answer_line (bytes "counts") (counts_values c))
   unfolding bytes
-  counts_length r e = omega (arith, line_length (bytes "counts") (counts_values ends.counts))
+  counts_length c r e = omega (arith, line_length (bytes "counts") (counts_values c))
 
   corners_most : length corners ≤ point_limit →
       length (answer_line (bytes "corners") corners) ≤ line_most
   unfolding bytes
   corners_most few = omega (arith, line_length (bytes "corners") corners, spaced_length corners)
 
-  counts_most : length (answer_line (bytes "counts") (counts_values ends.counts)) ≤ line_most
+  counts_most : (c : Counts) → length (answer_line (bytes "counts") (counts_values c)) ≤ line_most
   unfolding bytes
-  counts_most =
-      omega (
-        arith,
-        line_length (bytes "counts") (counts_values ends.counts),
-        spaced_length (counts_values ends.counts),
-      )
+  counts_most c =
+      omega (arith, line_length (bytes "counts") (counts_values c), spaced_length (counts_values c))
+
+  line_after_most : length corners ≤ point_limit → (o : Option Ends) (i : ℕ) →
+      length (line_after answers corners o i) ≤ line_most
+  unfolding line_after
+  line_after_most few None i = omega (arith, refused_most Refusal.LongText)
+  line_after_most few (Some e) i = go (ltb i e.lines) (eqb i e.lines)
+    where
+      go : (b c : Bool) →
+          length (cond b (answer_at answers i)
+          (cond c (answer_line (bytes "corners") corners)
+          (answer_line (bytes "counts") (counts_values e.counts)))) ≤ line_most
+      go true c = omega (arith, arrival_line_most i (unpacked (get_or answers i 0)))
+      go false true = corners_most few
+      go false false = counts_most e.counts
 
   pub report_line_most : length corners ≤ point_limit → (j : ℕ) →
       length (report_line answers corners ends j) ≤ line_most
   unfolding report_line bytes
-  report_line_most few j =
-      go (eqb j 0) ends.long (ltb (j - 1) ends.lines) (eqb (j - 1) ends.lines)
+  report_line_most few j = go (eqb j 0)
     where
-      go : (b₀ b₁ b₂ b₃ : Bool) →
-          length (cond b₀ title (cond b₁ (printed (refused Refusal.LongText))
-          (cond b₂ (answer_at answers (j - 1)) (cond b₃ (answer_line (bytes "corners") corners)
-          (answer_line (bytes "counts") (counts_values ends.counts)))))) ≤ line_most
-      go true b₁ b₂ b₃ = omega arith
-      go false true b₂ b₃ = omega (arith, refused_most Refusal.LongText)
-      go false false true b₃ =
-          omega (arith, arrival_line_most (j - 1) (unpacked (get_or answers (j - 1) 0)))
-      go false false false true = corners_most few
-      go false false false false = counts_most
+      go : (b : Bool) → length (cond b title (line_after answers corners ends (j - 1))) ≤ line_most
+      go true = omega arith
+      go false = line_after_most few ends (j - 1)
 
   -- ---- lines from a position on
 
@@ -160,21 +153,21 @@ module _ (answers corners : List ℕ) (ends : Ends) where
 
   -- ---- the whole report
 
-  module _ (short : ends.long ≡ false) where
-    answer_next : (k : ℕ) → k < ends.lines →
+  module _ {e : Ends} (short : ends ≡ Some e) where
+    answer_next : (k : ℕ) → k < e.lines →
         answer_at answers k ≡ report_line answers corners ends (0 + suc k)
     answer_next k h =
-        let e : suc k - 1 ≡ k = omega arith in
+        let same : suc k - 1 ≡ k = omega arith in
         let i : suc k ≡ 0 + suc k = omega arith in
-        ap (answer_at answers) (sym e) ∙ answer_is (suc k) (λ z. omega arith) short (omega arith)
+        ap (answer_at answers) (sym same) ∙ answer_is (suc k) (λ z. omega arith) short (omega arith)
         ∙ ap (report_line answers corners ends) i
 
-    count_short : line_count ends ≡ suc (suc (suc ends.lines))
+    count_short : line_count ends ≡ suc (suc (suc e.lines))
     unfolding line_count
-    count_short = ap (λ (b : Bool). cond b 2 (ends.lines + 3)) short ∙ omega arith
+    count_short = rw short (omega arith)
 
     -- the first line and the answers before line k
-    lines_to : (k : ℕ) → k ≤ ends.lines →
+    lines_to : (k : ℕ) → k ≤ e.lines →
         lines_from answers corners ends 0 (suc k) ≡ title ++ answer_lines answers k
     unfolding answer_lines flatten table table_onto
     lines_to zero h =
@@ -188,11 +181,11 @@ module _ (answers corners : List ℕ) (ends : Ends) where
 
     pub report_short :
         lines_from answers corners ends 0 (line_count ends)
-        ≡ title ++ (answer_lines answers ends.lines ++
+        ≡ title ++ (answer_lines answers e.lines ++
         (answer_line (bytes "corners") corners
-        ++ answer_line (bytes "counts") (counts_values ends.counts)))
+        ++ answer_line (bytes "counts") (counts_values e.counts)))
     report_short =
-        let n = ends.lines in
+        let n = e.lines in
         ap (lines_from answers corners ends 0) count_short
         ∙ lines_more 0 (suc (suc n))
         ∙ (λ t. (lines_more 0 (suc n)
@@ -203,11 +196,11 @@ module _ (answers corners : List ℕ) (ends : Ends) where
         ∙ append_assoc (title ++ answer_lines answers n) (answer_line (bytes "corners") corners) _
         ∙ append_assoc title (answer_lines answers n) _
 
-  count_long : ends.long ≡ true → line_count ends ≡ 2
+  count_long : ends ≡ None → line_count ends ≡ 2
   unfolding line_count
-  count_long long = ap (λ (b : Bool). cond b 2 (ends.lines + 3)) long
+  count_long long = rw long
 
-  pub report_long : ends.long ≡ true →
+  pub report_long : ends ≡ None →
       lines_from answers corners ends 0 (line_count ends)
       ≡ title ++ printed (refused Refusal.LongText)
   report_long long =

@@ -2,11 +2,14 @@
 -- their lengths; the loop that writes as many of them as a list holds. Each has its invariant, with
 -- the laws of its start, of one line more and of its end.
 use mathlib.Core.Path.{◌≡◌, refl, sym, ap, ◌∙◌}
-use mathlib.Core.Bool.{Bool, true, false, cond}
 use mathlib.Core.List.{List, ◌++◌}
-use Prim.Native.Nat.{ℕ, suc, ◌+◌, ◌-◌, ◌*◌, ◌≤◌, ◌<◌}
+use mathlib.Core.Logic.{⊎_elim}
+use Prim.Native.Nat.{ℕ, suc, max, ◌+◌, ◌-◌, ◌*◌, ◌≤◌, ◌<◌}
 use native.Mathlib.Omega.{arith}
 use lib.ListN.{length, length-append}
+use Rattle.std.specs.declared.option.Option.{Option}
+use Rattle.std.specs.declared.option.Option.TheVariants.{Some, None}
+use Rattle.finite.specs.Bounded.{lt_or_ge}
 use Rattle.model.specs.Maps.{point_limit}
 use Rattle.model.specs.Report.{text_limit}
 use Rattle.printing.specs.Writing.{Room, PutAt}
@@ -19,19 +22,16 @@ use Rattle.lines.proofs.ReportLines.{line_most, lines_none, lines_more, lines_mo
 -- ---- the loop that adds up their lengths
 
 -- no report has more lines than this
-pub count_most : (ends : Ends) → Printable ends → line_count ends ≤ text_limit + 3
+pub count_most : (ends : Option Ends) → Printable ends → line_count ends ≤ text_limit + 3
 unfolding line_count
-count_most ends p = go ends.long
-  where
-    go : (b : Bool) → cond b 2 (ends.lines + 3) ≤ text_limit + 3
-    go true = omega arith
-    go false = omega (arith, p.lines_fit)
+count_most None p = omega arith
+count_most (Some e) p = omega (arith, p.lines_fit)
 
-pub record Totalled (answers corners : List ℕ) (ends : Ends) (total j : ℕ) : Type 0 where
+pub record Totalled (answers corners : List ℕ) (ends : Option Ends) (total j : ℕ) : Type 0 where
   pub is_length : total ≡ length (lines_from answers corners ends 0 j)
   pub in_order : j ≤ line_count ends
 
-module _ (answers corners : List ℕ) (ends : Ends) where
+module _ (answers corners : List ℕ) (ends : Option Ends) where
   pub none_totalled : Totalled answers corners ends 0 0
   none_totalled =
       record {
@@ -70,7 +70,7 @@ module _ (answers corners : List ℕ) (ends : Ends) where
           count_most ends p,
         )
 
-pub totalled_all : {answers corners : List ℕ} {ends : Ends} {total j count : ℕ} →
+pub totalled_all : {answers corners : List ℕ} {ends : Option Ends} {total j count : ℕ} →
     Totalled answers corners ends total j → count ≡ line_count ends → count ≤ j →
     total ≡ length (lines_from answers corners ends 0 (line_count ends))
 totalled_all {answers} {corners} {ends} {j = j} t c h =
@@ -79,15 +79,16 @@ totalled_all {answers} {corners} {ends} {j = j} t c h =
 
 -- ---- the loop that writes them
 
-pub record Putting (answers corners : List ℕ) (ends : Ends) (from : ℕ) (lent now : List ℕ)
+pub record Putting (answers corners : List ℕ) (ends : Option Ends) (from : ℕ) (lent now : List ℕ)
     (next end : ℕ) : Type 0 where
   pub wrote : PutAt lent 0 (lines_from answers corners ends from (next - from)) now end
   pub further : from ≤ next
   pub inside : end ≤ length lent
   pub long : length now ≡ length lent
   pub whole : from ≤ line_count ends → next ≤ line_count ends
+  pub past : line_count ends < from → next ≡ from
 
-module _ (answers corners : List ℕ) (ends : Ends) (from : ℕ) (lent : List ℕ) where
+module _ (answers corners : List ℕ) (ends : Option Ends) (from : ℕ) (lent : List ℕ) where
   pub none_put : Putting answers corners ends from lent lent from 0
   none_put =
       let e : from - from ≡ 0 = omega arith in
@@ -100,6 +101,7 @@ module _ (answers corners : List ℕ) (ends : Ends) (from : ℕ) (lent : List �
         inside = omega arith;
         long = refl;
         whole = λ h. h;
+        past = λ h. refl;
       }
 
   module _ {now : List ℕ} {next end : ℕ}
@@ -159,16 +161,25 @@ module _ (answers corners : List ℕ) (ends : Ends) (from : ℕ) (lent : List �
               inside = omega (arith, both.ends, room_both.room);
               long = wrote_length both room_both;
               whole = λ l. omega arith;
+              past = λ l. absurd (omega (arith, p.further));
             }
 
     -- no line is left
-    pub put_all : line_count ends ≤ next →
-        PutLines answers corners ends from lent now (record { next = next; length = end })
-    put_all h =
-        record {
+    come_to : line_count ends ≤ next → next ≡ max (line_count ends) from
+    come_to h =
+        ⊎_elim
+        (λ (l : line_count ends < from). omega (arith, p.past l))
+        (λ (l : from ≤ line_count ends). omega (arith, p.whole l))
+        (lt_or_ge (line_count ends) from)
+
+    pub put_all : {last : ℕ} → line_count ends ≤ next → last ≡ max (line_count ends) from →
+        PutLines answers corners ends from lent now (record { next = last; length = end })
+    put_all h e =
+        rw (e, ← come_to h)
+        (record {
           wrote = p.wrote;
           further = p.further;
           inside = p.inside;
           whole = p.whole;
           full = λ l. absurd (omega arith);
-        }
+        })

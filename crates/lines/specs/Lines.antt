@@ -4,6 +4,8 @@
 -- the first line; a text that is too long has one line more, and any other its arrivals, the
 -- corners and the counts.
 use Rattle.std.specs.Prelude.{cond, ℕ, ◌+◌, ◌-◌, ltb, eqb, get_or}
+use Rattle.std.specs.declared.option.Option.{Option}
+use Rattle.std.specs.declared.option.Option.TheVariants.{Some, None}
 use mathlib.Core.List.{List, [], ◌∷◌, flatten}
 use Rattle.finite.specs.Bounded.{table}
 use Rattle.model.specs.declared.Refusal.{Refusal}
@@ -29,20 +31,24 @@ counts_values c = c.darts ∷ c.vertices ∷ c.edges ∷ c.faces ∷ c.parts ∷
 abbrev pub title : List ℕ
 title = bytes "OUTLINE 1\n"
 
-module _ (answers corners : List ℕ) (ends : Ends) where
+module _ (answers corners : List ℕ) where
+  -- the printed line i places after the title; none are the ends of a text that is too long
+  unfoldable pub line_after : Option Ends → ℕ → List ℕ
+  line_after None i = printed (refused Refusal.LongText)
+  line_after (Some e) i =
+      cond (ltb i e.lines) (answer_at answers i)
+      (cond (eqb i e.lines) (answer_line (bytes "corners") corners)
+      (answer_line (bytes "counts") (counts_values e.counts)))
+
   -- the printed line at position j
-  unfoldable pub report_line : ℕ → List ℕ
-  report_line j =
-      cond (eqb j 0) title
-      (cond ends.long (printed (refused Refusal.LongText))
-      (cond (ltb (j - 1) ends.lines) (answer_at answers (j - 1))
-      (cond (eqb (j - 1) ends.lines) (answer_line (bytes "corners") corners)
-      (answer_line (bytes "counts") (counts_values ends.counts)))))
+  unfoldable pub report_line : Option Ends → ℕ → List ℕ
+  report_line ends j = cond (eqb j 0) title (line_after ends (j - 1))
 
   -- the k printed lines from position j on
-  unfoldable pub lines_from : ℕ → ℕ → List ℕ
-  lines_from j k = flatten (table k (λ i. report_line (j + i)))
+  unfoldable pub lines_from : Option Ends → ℕ → ℕ → List ℕ
+  lines_from ends j k = flatten (table k (λ i. report_line ends (j + i)))
 
 -- how many printed lines there are
-unfoldable pub line_count : Ends → ℕ
-line_count ends = cond ends.long 2 (ends.lines + 3)
+unfoldable pub line_count : Option Ends → ℕ
+line_count None = 2
+line_count (Some e) = e.lines + 3

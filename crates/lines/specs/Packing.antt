@@ -3,6 +3,8 @@
 -- document 01, and all that a line can get are below 11, where the arrivals begin; an outside
 -- arrival's number holds left corner, right corner and visible edges.
 use Rattle.std.specs.Prelude.{cond, ℕ, ◌+◌, ◌-◌, ◌*◌, ◌/◌, ◌%◌, ◌≤◌, ◌<◌, ltb, eqb}
+use Rattle.std.specs.declared.result.Result.{Result}
+use Rattle.std.specs.declared.result.Result.TheVariants.{Ok, Err}
 use Rattle.model.specs.declared.Refusal.{Refusal}
 use Rattle.model.specs.declared.Arrival.{Arrival}
 use Rattle.model.specs.Refusals.{number}
@@ -21,19 +23,19 @@ pub record SmallValues (left right visible : ℕ) : Type 0 where
   pub right_below : right < point_limit
   pub visible_most : visible ≤ point_limit
 
-pub data Packable : Arrival → Type 0 where
-  first : Packable Arrival.First
-  second : Packable Arrival.Second
-  inside : Packable Arrival.Inside
-  outside : {l r v : ℕ} → SmallValues l r v → Packable (Arrival.Outside l r v)
-  refused : {r : Refusal} → OfLine r → Packable (Arrival.Refused r)
+pub data Packable : Result Arrival Refusal → Type 0 where
+  first : Packable (Ok Arrival.First)
+  second : Packable (Ok Arrival.Second)
+  inside : Packable (Ok Arrival.Inside)
+  outside : {l r v : ℕ} → SmallValues l r v → Packable (Ok (Arrival.Outside l r v))
+  refused : {r : Refusal} → OfLine r → Packable (Err r)
 
-unfoldable pub packed : Arrival → ℕ
-packed (Arrival.Refused r) = number r
-packed Arrival.First = 11
-packed Arrival.Second = 12
-packed Arrival.Inside = 13
-packed (Arrival.Outside l r v) = 14 + l + point_limit * (r + point_limit * v)
+unfoldable pub packed : Result Arrival Refusal → ℕ
+packed (Err r) = number r
+packed (Ok Arrival.First) = 11
+packed (Ok Arrival.Second) = 12
+packed (Ok Arrival.Inside) = 13
+packed (Ok (Arrival.Outside l r v)) = 14 + l + point_limit * (r + point_limit * v)
 
 -- what a line is refused for; a number that no line gets stands for the last
 unfoldable pub refusal_of : ℕ → Refusal
@@ -47,8 +49,8 @@ outside_of n =
     Arrival.Outside (n % point_limit) (n / point_limit % point_limit)
     (n / point_limit / point_limit)
 
-unfoldable pub unpacked : ℕ → Arrival
+unfoldable pub unpacked : ℕ → Result Arrival Refusal
 unpacked n =
-    cond (ltb n 11) (Arrival.Refused (refusal_of n))
-    (cond (eqb n 11) Arrival.First
-    (cond (eqb n 12) Arrival.Second (cond (eqb n 13) Arrival.Inside (outside_of (n - 14)))))
+    cond (ltb n 11) (Err (refusal_of n))
+    (cond (eqb n 11) (Ok Arrival.First)
+    (cond (eqb n 12) (Ok Arrival.Second) (cond (eqb n 13) (Ok Arrival.Inside) (Ok (outside_of (n - 14))))))

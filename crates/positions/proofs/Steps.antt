@@ -12,14 +12,16 @@ use lib.Dec.{T, T_not, eqb}
 use lib.IntN.{ℤ}
 use lib.ListN.{length, get_or, take, drop, length-append, length-drop, length-take}
 use lib.Seq.{take_all, drop-drop}
+use Rattle.std.specs.declared.option.Option.TheVariants.{Some, None}
 use Rattle.finite.specs.Tests.{decide, is_true, is_false, of_true}
+use Rattle.model.specs.declared.Point.{Point}
+use Rattle.model.specs.Plane.{at}
 use Rattle.model.specs.Spelling.{bytes, space}
 use Rattle.model.specs.Text.{is_number, number_value, front}
-use Rattle.survey.specs.declared.numbers.Front.{Front}
 use Rattle.survey.specs.Numbers.{front_number}
+use Rattle.survey.proofs.Digits.{some_same}
 use Rattle.survey.proofs.Fronts.{Leads, leads, front_part, space_inside}
 use Rattle.positions.specs.declared.Position.{Position}
-use Rattle.positions.specs.declared.Step.{Step}
 use Rattle.model.specs.Outlines.{after_position, is_position, is_word, position, second, starts_with}
 use Rattle.positions.specs.Positions.{front_position, position_size, step}
 use Rattle.positions.proofs.WordLaws.{word_then}
@@ -27,22 +29,23 @@ use Rattle.positions.proofs.PositionLaws.{has_position}
 
 -- ---- the position at the front
 
-no_number : (s : List ℕ) → front_number s ≡ Front.Malformed → is_number (front s) ≡ false
+no_number : (s : List ℕ) → front_number s ≡ None → is_number (front s) ≡ false
 unfolding front_number
 no_number s e =
     is_false (is_number (front s))
     (λ t.
-    let has : front_number s ≡ Front.Value (number_value (front s)) (length (front s)) =
+    let n : ℕ = length (front s) in
+    let has : front_number s ≡ Some (record { value = number_value (front s); end = n }) =
     rw (is_true (is_number (front s)) t) in
     let never : ◌≡◌ {A = ℕ} 0 1 = cc in omega arith)
 
 module _ (s : List ℕ) where
-  pub no_first : front_number s ≡ Front.Malformed → Position.Malformed ≡ front_position s
+  pub no_first : front_number s ≡ None → None ≡ front_position s
   unfolding front_position is_position
   no_first e = sym (rw (no_number s e))
 
   module _ {x : ℤ} {n : ℕ} (w : Leads s x n) where
-    pub no_space : get_or s n 0 ≢ space → Position.Malformed ≡ front_position s
+    pub no_space : get_or s n 0 ≢ space → None ≡ front_position s
     unfolding front_position is_position
     no_space d =
         let other : eqb (get_or s (length (front s)) 0) space ≡ false =
@@ -66,13 +69,14 @@ module _ (s : List ℕ) where
       spaced : eqb (get_or s (length (front s)) 0) space ≡ true
       spaced = eq-eqb (get_or s (length (front s)) 0) space (rw w.ends at gap)
 
-      pub no_second : front_number lent ≡ Front.Malformed → Position.Malformed ≡ front_position s
+      pub no_second : front_number lent ≡ None → None ≡ front_position s
       unfolding front_position is_position
       no_second e =
-          let none : is_number (front (second s)) ≡ false = no_number (second s) (ap front_number (sym is_second) ∙ e) in
+          let none : is_number (front (second s)) ≡ false =
+          no_number (second s) (ap front_number (sym is_second) ∙ e) in
           sym (rw (is_true (is_number (front s)) w.passes, spaced, none))
 
-      module _ {y : ℤ} {m : ℕ} (e : front_number lent ≡ Front.Value y m) where
+      module _ {y : ℤ} {m : ℕ} (e : front_number lent ≡ Some (record { value = y; end = m })) where
         other : Leads (second s) y m
         other = leads (second s) (ap front_number (sym is_second) ∙ e)
 
@@ -87,48 +91,63 @@ module _ (s : List ℕ) where
               inside,
             )
 
-        pub both_read : Position.Value x y (n + 1 + m) ≡ front_position s
+        pub both_read : Some (record { point = at x y; size = n + 1 + m }) ≡ front_position s
         unfolding front_position is_position position position_size
         both_read =
-            sym (rw (is_true (is_number (front s)) w.passes, spaced, is_true (is_number (front (second s))) other.passes, ← w.value, ← w.ends, ← other.value, ← other.ends))
+            sym (rw (
+              is_true (is_number (front s)) w.passes,
+              spaced,
+              is_true (is_number (front (second s))) other.passes,
+              ← w.value,
+              ← w.ends,
+              ← other.value,
+              ← other.ends,
+            ))
 
 -- ---- by what stands after it
 
--- a position of n bytes stands at the front
-pub record Found (s : List ℕ) (x y : ℤ) (n : ℕ) : Type 0 where
+-- a position p of n bytes stands at the front
+pub record Found (s : List ℕ) (p : Point) (n : ℕ) : Type 0 where
   pub passes : T (is_position s)
-  pub first : x ≡ (position s).x
-  pub other : y ≡ (position s).y
+  pub point : p ≡ position s
   pub size : n ≡ position_size s
 
-pub found : (s : List ℕ) {x y : ℤ} {n : ℕ} → front_position s ≡ Position.Value x y n → Found s x y n
+has_front : (s : List ℕ) → T (is_position s) →
+    front_position s ≡ Some (record { point = position s; size = position_size s })
 unfolding front_position
-found s {x} {y} {n} e =
+has_front s t = rw (is_true (is_position s) t)
+
+no_front : (s : List ℕ) → is_position s ≡ false → front_position s ≡ None
+unfolding front_position
+no_front s e = rw e
+
+pub found : (s : List ℕ) {q : Position} → front_position s ≡ Some q → Found s q.point q.size
+found s {q} e =
     ⊎_elim
     (λ (t : T (is_position s)).
-    let has : front_position s ≡ Position.Value (position s).x (position s).y (position_size s) =
-    rw (is_true (is_position s) t) in
-    record { passes = t; first = cc; other = cc; size = cc })
+    let same = some_same _ _ (sym e ∙ has_front s t) in
+    record {
+      passes = t;
+      point = ap (λ (r : Position). r.point) same;
+      size = ap (λ (r : Position). r.size) same;
+    })
     (λ (t : T (not (is_position s))).
-    let has : front_position s ≡ Position.Malformed = rw (is_false (is_position s) (T_not (is_position s) t)) in
+    let has = no_front s (is_false (is_position s) (T_not (is_position s) t)) in
     let never : ◌≡◌ {A = ℕ} 0 1 = cc in absurd (omega arith))
     (decide (is_position s))
 
-pub step_none : (closing s : List ℕ) → front_position s ≡ Position.Malformed → Step.Malformed ≡ step closing s
-unfolding front_position step
+pub step_none : (closing s : List ℕ) → front_position s ≡ None → None ≡ step closing s
+unfolding step
 step_none closing s e =
     let fails : is_position s ≡ false =
     is_false (is_position s)
-    (λ t.
-    let has : front_position s ≡ Position.Value (position s).x (position s).y (position_size s) =
-    rw (is_true (is_position s) t) in
-    let never : ◌≡◌ {A = ℕ} 0 1 = cc in omega arith) in
+    (λ t. let has = has_front s t in let never : ◌≡◌ {A = ℕ} 0 1 = cc in omega arith) in
     sym (rw fails)
 
 front_short : (s : List ℕ) → length (front s) ≤ length s
 front_short s = omega (arith, ap length (front_part s) ∙ length-take (length (front s)) s)
 
-module _ {s : List ℕ} {x y : ℤ} {n : ℕ} (w : Found s x y n) where
+module _ {s : List ℕ} {p : Point} {n : ℕ} (w : Found s p n) where
   pub rest_is : drop n s ≡ after_position s
   unfolding after_position second position_size
   rest_is =
@@ -157,25 +176,34 @@ module _ {s : List ℕ} {x y : ℤ} {n : ℕ} (w : Found s x y n) where
   is_rest = take_all (length s - n) (drop n s) (omega (arith, length-drop n s)) ∙ rest_is
 
   module _ (closing : List ℕ) where
-    pub step_more : starts_with (bytes ", ") rest ≡ true → Step.More x y (n + 2) ≡ step closing s
+    pub step_more : starts_with (bytes ", ") rest ≡ true →
+        Some (record { point = p; more = Some (n + 2) }) ≡ step closing s
     unfolding step
     step_more e =
-        sym (rw (is_true (is_position s) w.passes, ap (starts_with (bytes ", ")) (sym is_rest) ∙ e, ← w.first, ← w.other, ← w.size))
+        let comma = ap (starts_with (bytes ", ")) (sym is_rest) ∙ e in
+        sym (rw (is_true (is_position s) w.passes, comma, ← w.point, ← w.size))
 
-    pub step_last : starts_with (bytes ", ") rest ≡ false → is_word closing rest ≡ true → Step.Last x y ≡ step closing s
+    pub step_last : starts_with (bytes ", ") rest ≡ false → is_word closing rest ≡ true →
+        Some (record { point = p; more = None }) ≡ step closing s
     unfolding step
     step_last e f =
-        sym (rw (is_true (is_position s) w.passes, ap (starts_with (bytes ", ")) (sym is_rest) ∙ e, ap (is_word closing) (sym is_rest) ∙ f, ← w.first, ← w.other))
+        let comma = ap (starts_with (bytes ", ")) (sym is_rest) ∙ e in
+        let closed = ap (is_word closing) (sym is_rest) ∙ f in
+        sym (rw (is_true (is_position s) w.passes, comma, closed, ← w.point))
 
-    pub step_bad : starts_with (bytes ", ") rest ≡ false → is_word closing rest ≡ false → Step.Malformed ≡ step closing s
+    pub step_bad : starts_with (bytes ", ") rest ≡ false → is_word closing rest ≡ false →
+        None ≡ step closing s
     unfolding step
     step_bad e f =
-        sym (rw (is_true (is_position s) w.passes, ap (starts_with (bytes ", ")) (sym is_rest) ∙ e, ap (is_word closing) (sym is_rest) ∙ f))
+        let comma = ap (starts_with (bytes ", ")) (sym is_rest) ∙ e in
+        let closed = ap (is_word closing) (sym is_rest) ∙ f in
+        sym (rw (is_true (is_position s) w.passes, comma, closed))
 
   -- a comma and a space stand within the list
   pub more_inside : starts_with (bytes ", ") rest ≡ true → n + 2 ≤ length s
   unfolding bytes
   more_inside e =
-      let long : length rest ≡ length s - n = omega (arith, length-take (length s - n) (drop n s), length-drop n s) in
+      let long : length rest ≡ length s - n =
+      omega (arith, length-take (length s - n) (drop n s), length-drop n s) in
       let two = ap length (word_then (bytes ", ") rest (of_true (starts_with (bytes ", ") rest) e)) in
       omega (arith, length-append (bytes ", ") (drop 2 rest), position_inside)

@@ -1,14 +1,16 @@
 -- A word at the front of a text, in the order of this page: what the test says of the text, and
 -- that it passes where the word was put; the same for a whole text; the test place by place.
-use mathlib.Core.Path.{◌≡◌, refl, sym, ap, subst, ◌∙◌}
-use mathlib.Core.Bool.{Bool, false, ◌&&◌}
+use mathlib.Core.Path.{◌≡◌, refl, sym, ap, ◌∙◌}
+use mathlib.Core.Bool.{Bool, ◌&&◌}
 use mathlib.Core.List.{List, [], ◌∷◌, ◌++◌, append-nil}
-use Prim.Native.Nat.{ℕ, zero, suc, ◌≤◌, ◌<◌}
+use Prim.Native.Nat.{ℕ, ◌≤◌}
 use native.Mathlib.Omega.{arith}
-use lib.Dec.{T, eqb, eqb→eq, eqb_refl}
-use lib.ListN.{length, get_or, drop, drop_of_length-le, length-append}
-use Rattle.finite.specs.Tests.{and_left, and_right, and_both, is_false}
-use Rattle.finite.specs.Loops.{Tests}
+use lib.Dec.{T, T_not, eqb, eqb→eq, eqb_refl}
+use lib.ListN.{length, drop, drop_of_length-le, length-append}
+use Rattle.finite.specs.Tests.{and_left, and_right, and_both, is_true, is_false, not_not, same_test}
+use lib.Pointwise.{pointwise}
+use Rattle.std.specs.Cmp.Lexicographic.{same_text, other_text}
+use Rattle.std.specs.List as L
 use Rattle.model.specs.Outlines.{starts_with, is_word}
 
 pub word_then : (w t : List ℕ) → T (starts_with w t) → t ≡ w ++ drop (length w) t
@@ -40,37 +42,22 @@ whole_by w =
     and_both (starts_with w w) (eqb (length w) (length w)) (rw append-nil at (starts_by w []))
     (eqb_refl (length w))
 
--- ---- the loop that compares byte by byte
+-- ---- as the library compares
 
--- the bytes at one place are the same
-abbrev pub same_at : List ℕ → List ℕ → ℕ → Bool
-same_at w t k = eqb (get_or w k 0) (get_or t k 0)
-
-starts_each : (w t : List ℕ) → T (starts_with w t) → (k : ℕ) → k < length w → T (same_at w t k)
+pub word_tested : (w t : List ℕ) → L.starts_with eqb t w ≡ starts_with w t
 unfolding starts_with
-starts_each [] t h k l = absurd (omega arith)
-starts_each (b ∷ w) [] h k l = absurd h
-starts_each (b ∷ w) (c ∷ t) h zero l = and_left (eqb b c) (starts_with w t) h
-starts_each (b ∷ w) (c ∷ t) h (suc k) l = starts_each w t (and_right (eqb b c) (starts_with w t) h) k (omega arith)
+word_tested [] t = refl
+word_tested (b ∷ w) [] = refl
+word_tested (b ∷ w) (c ∷ t) = ap (λ (r : Bool). eqb b c && r) (word_tested w t)
 
-starts_whole : (w t : List ℕ) → length w ≤ length t → ((k : ℕ) → k < length w → T (same_at w t k)) → T (starts_with w t)
-unfolding starts_with
-starts_whole [] t h f = tt
-starts_whole (b ∷ w) [] h f = absurd (omega arith)
-starts_whole (b ∷ w) (c ∷ t) h f =
-    and_both (eqb b c) (starts_with w t) (f 0 (omega arith)) (starts_whole w t (omega arith) (λ k l. f (suc k) (omega arith)))
-
-pub starts_tests : (w t : List ℕ) → length w ≤ length t → Tests (starts_with w t) (same_at w t) 0 (length w)
-starts_tests w t h =
-    record { each = λ a k l m. starts_each w t a k m; whole = λ f. starts_whole w t h (λ k l. f k (omega arith) l) }
-
-pub too_short : (w t : List ℕ) → length t < length w → false ≡ starts_with w t
-unfolding starts_with
-too_short [] t h = absurd (omega arith)
-too_short (b ∷ w) [] h = refl
-too_short (b ∷ w) (c ∷ t) h =
-    sym (is_false (eqb b c && starts_with w t)
-    (λ a. subst T (sym (too_short w t (omega arith))) (and_right (eqb b c) (starts_with w t) a)))
+pub text_tested : (w t : List ℕ) → pointwise eqb t w ≡ is_word w t
+text_tested w t =
+    let same = pointwise eqb t w in
+    same_test same (is_word w t)
+    (λ (h : T same).
+    let e : t ≡ w = same_text t w (sym (is_true same h)) in rw e (whole_by w))
+    (λ (h : T (is_word w t)).
+    not_not same (λ n. other_text t w (sym (is_false same (T_not same n))) (word_whole w t h)))
 
 -- the word takes no more bytes than there are
 pub word_inside : (w t : List ℕ) → T (starts_with w t) → length w ≤ length t

@@ -1,4 +1,4 @@
-// Words in a text: fixed byte strings, compared byte by byte.
+// Words in a text: fixed byte strings.
 
 ghost use Rattle.std.specs.Prelude.{◌≡◌};
 ghost use Rattle.model.specs.Outlines.{starts_with, is_word};
@@ -7,20 +7,12 @@ ghost use Rattle.model.specs.Outlines.{starts_with, is_word};
 pub fn starts_with(text: &[u8], word: &[u8]) -> bool
     ensures { result ≡ starts_with word.now text.now }
 {
-    if text.len() < word.len() {
-        return false;
-    }
-    for i in 0..word.len() {
-        if word[i] != text[i] {
-            return false;
-        }
-    }
-    true
+    text.starts_with(word)
 }
 
 // Whether a text is a word.
 pub fn is_word(text: &[u8], word: &[u8]) -> bool
     ensures { result ≡ is_word word.now text.now }
 {
-    starts_with(text, word) && word.len() == text.len()
+    text == word
 }

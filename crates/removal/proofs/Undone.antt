@@ -10,7 +10,6 @@ use mathlib.Core.List.{List, [], ◌∷◌}
 use Prim.Native.Nat.{ℕ, zero, suc, ◌-◌, ◌≤◌, ◌<◌}
 use native.Mathlib.Omega.{arith}
 use lib.Dec.{T}
-use lib.IntN.{ℤ, pos}
 use lib.ListN.{get_or, set, replicate, length-replicate}
 use lib.Seq.{ext_get_or, set-set}
 use Rattle.finite.specs.Tests.{is_false}
@@ -21,7 +20,8 @@ use Rattle.model.specs.declared.Point.{Point}
 use Rattle.model.specs.declared.Note.{Note}
 use Rattle.model.specs.declared.Map.{Map}
 use Rattle.model.specs.declared.Offered.{Offered}
-use Rattle.model.specs.Maps.{point_limit, no_dart, point, has_helper, edge_link, note, no_note, empty_map, map_of}
+use Rattle.model.specs.Plane.{origin}
+use Rattle.model.specs.Maps.{point_limit, no_dart, point, has_helper, edge_link, note, no_note, empty_map}
 use Rattle.model.specs.Outline.{visible_edges}
 use Rattle.model.specs.Shape.{Shaped}
 use Rattle.model.specs.Sound.{sound}
@@ -73,12 +73,9 @@ module _ {b : Map} {p : Point} (a : Accepted b p) (noted : Note) (helpers : List
       let vacant = a.is_sound.points.vacant k (omega arith) in
       let unnoted = a.is_sound.notes.unnoted k (omega arith) in
       same_fields
-      (cleared b.xs k (suc k - 1) p.x (pos 0) (pos 0) (less k) (ap (λ (q : Point). q.x) vacant))
-      (cleared b.ys k (suc k - 1) p.y (pos 0) (pos 0) (less k) (ap (λ (q : Point). q.y) vacant))
+      (cleared b.points k (suc k - 1) p origin origin (less k) vacant)
       h e
-      (cleared b.arrivals k (suc k - 1) noted.arrival 0 0 (less k) (ap (λ (n : Note). n.arrival) unnoted))
-      (cleared b.lefts k (suc k - 1) noted.left no_dart no_dart (less k) (ap (λ (n : Note). n.left) unnoted))
-      (cleared b.rights k (suc k - 1) noted.right no_dart no_dart (less k) (ap (λ (n : Note). n.right) unnoted))
+      (cleared b.notes k (suc k - 1) noted no_note no_note (less k) unnoted)
       (less k) f
 
   -- what is noted of the last point
@@ -110,7 +107,7 @@ abbrev pub outside_left : Map → Map
 outside_left m =
     without_last m (set m.helpers (last m) false)
     (unspliced (last m) (note m (last m)).left (note m (last m)).right m.edge)
-    (latest (set m.arrivals (last m) 0) (last m))
+    (latest m.notes (last m))
 
 abbrev pub alone_left : Map → Map
 alone_left m = without_last m m.helpers m.edge m.reference
@@ -168,13 +165,12 @@ module _ {b : Map} {p : Point} (t : T (sound b)) (a : Accepted b p) where
         ∙ (ap (λ (k : ℕ). unspliced k (freeing b l r).left (freeing b l r).right put.edge) last_put
         ∙ unspliced_back a.is_sound two a.room (outside_links a two some) on.0 on.1)
 
-    reference_back : latest (set put.arrivals (last put) 0) (last put) ≡ b.reference
+    reference_back : latest put.notes (last put) ≡ b.reference
     unfolding spliced with_point
     reference_back =
-        latest_below put.arrivals (last put) 0 (last put) (omega arith)
-        ∙ (ap (latest put.arrivals) last_put
-        ∙ (latest_below b.arrivals b.count outside_kind b.count (omega arith)
-        ∙ sym (reference_latest b t)))
+        ap (latest put.notes) last_put
+        ∙ (latest_below b.notes b.count (freeing b l r) b.count (omega arith)
+        ∙ sym (reference_latest b t))
 
     spliced_undone : outside_left put ≡ b
     unfolding spliced
@@ -187,7 +183,6 @@ module _ {b : Map} {p : Point} (t : T (sound b)) (a : Accepted b p) where
         let on = corners_on a two some in
         record {
           room = omega (arith, last_put, a.room);
-          whole = s.links.edge_whole;
           links_below = link_below s;
           left_below = λ n. omega (arith, (s.notes.fitting (last put)).left_small);
           right_below = λ n.
@@ -251,14 +246,19 @@ module _ (m : Map) (t : T (sound m)) (some : 0 < m.count) where
       (λ n. Shaped n → (note n (last n)).arrival ≡ outside_kind → Unspliceable n.edge (last n) (note n (last n)).left (note n (last n)).right)
       (outside_unspliceable grown.is_sound grown.accepted) (sound_shaped m t)
 
--- ---- the arrays that the code wrote
+-- ---- the map that the code wrote
 
-pub left_behind : (m : Map) {noted : Note} {xs ys : List ℤ} {helpers helpers' : List Bool} {edge edge' : List ℕ}
-    {arrivals lefts rights : List ℕ} {reference reference' : ℕ} →
-    (xs ≡ set m.xs (last m) (pos 0)) × (ys ≡ set m.ys (last m) (pos 0)) → noted ≡ no_note →
-    (arrivals ≡ set m.arrivals (last m) noted.arrival) × (lefts ≡ set m.lefts (last m) noted.left)
-    × (rights ≡ set m.rights (last m) noted.right) →
-    helpers ≡ helpers' → edge ≡ edge' → reference ≡ reference' →
-    map_of xs ys helpers edge arrivals lefts rights (last m) reference ≡ without_last m helpers' edge' reference'
+pub left_behind : (m : Map) {noted : Note} {helpers helpers' : List Bool} {edge edge' : List ℕ}
+    {reference reference' : ℕ} →
+    noted ≡ no_note → helpers ≡ helpers' → edge ≡ edge' → reference ≡ reference' →
+    record {
+      points = set m.points (last m) origin;
+      helpers = helpers;
+      edge = edge;
+      notes = set m.notes (last m) noted;
+      count = last m;
+      reference = reference;
+    }
+    ≡ without_last m helpers' edge' reference'
 unfolding without_last
-left_behind m put same noting h e f = rw (put.0, put.1, noting.0, noting.1, noting.2, same, h, e, f)
+left_behind m same h e f = rw (same, h, e, f)

@@ -13,6 +13,8 @@ use borrow.Author.Tests.{ltb-false}
 use lib.Dec.{T, ltb, eqb}
 use lib.IntN.{pos}
 use lib.ListN.{length, length-append}
+use Rattle.std.specs.declared.result.Result.{Result}
+use Rattle.std.specs.declared.result.Result.TheVariants.{Err}
 use Rattle.finite.specs.Tests.{same_or_not}
 use Rattle.finite.specs.Bounded.{lt_or_ge}
 use Rattle.finite.specs.Counting.{count_small}
@@ -22,10 +24,13 @@ use Rattle.finite.specs.Distinct.{length_distinct}
 use Rattle.model.specs.declared.Refusal.{Refusal}
 use Rattle.model.specs.declared.Map.{Map}
 use Rattle.model.specs.declared.Arrival.{Arrival}
-use Rattle.model.specs.declared.Line.{Line}
+use Rattle.model.specs.declared.Point.{Point}
+use Rattle.model.specs.declared.Offered.{Offered}
 use Rattle.model.specs.Spelling.{bytes, line_feed, spelt}
 use Rattle.model.specs.Refusals.{number}
-use Rattle.model.specs.Answers.{refused, arrival_answer}
+use Rattle.model.specs.Answers as answers
+use Rattle.model.specs.Answers.{arrival_answer, arrival_of}
+use Rattle.model.specs.Offers.{map_after}
 use Rattle.model.specs.Maps.{point_limit, empty_map}
 use Rattle.model.specs.Shape.{Shaped}
 use Rattle.model.specs.Sound.{sound}
@@ -38,16 +43,14 @@ use Rattle.survey.proofs.Texts.{blank_refused}
 use Rattle.printing.specs.Printing.{answer_line, arrival_line, values_spaced}
 use Rattle.printing.proofs.Decimals.{length_one, length_between}
 use Rattle.printing.proofs.Values.{spaced_length}
-use Rattle.printing.proofs.Printed.{line_length, first_line, second_line, inside_line, outside_line, refused_line, refused_arrival, refused_most, arrival_line_length}
+use Rattle.printing.proofs.Printed.{line_length, first_as, second_as, inside_as, outside_as, refused_line, refused_answer, refused_most, arrival_line_length}
 use Rattle.printing.proofs.Reports.{closing_lines}
 use Rattle.hull.proofs.Sound.{sound_shaped, sound_grows, empty_is_sound}
 use Rattle.corners.proofs.Corners.{corners_circuit, one_listed, none_listed}
-use Rattle.deciding.specs.declared.Verdict.{Verdict}
 use Rattle.lines.specs.Packing as packing
 use Rattle.lines.specs.Packing.{Packable}
 use Rattle.lines.specs.Lines.{counts_values}
-use Rattle.deciding.specs.Verdicts.{verdict_by}
-use Rattle.deciding.proofs.Verdicts.{line_refused, line_accepted, arrive_packable}
+use Rattle.deciding.proofs.Verdicts.{Decides, taken, refused, line_decides, arrive_packable}
 
 -- ---- numbers
 
@@ -86,30 +89,30 @@ spaced_most (v ∷ values) below =
 
 -- ---- the line of an answer
 
-refused_answer_most : (r : Refusal) → length (printed (arrival_answer (Arrival.Refused r))) ≤ 20
+refused_answer_most : (r : Refusal) → length (printed (arrival_answer (Err r))) ≤ 20
 unfolding bytes
 refused_answer_most r =
     omega (
       arith,
-      ap length (refused_arrival r),
+      ap length (refused_answer {r = r} refl),
       ap length (refused_line r),
       line_length (bytes "refused") (number r ∷ []),
       spaced_one (number r) [] (omega (arith, number_most r)),
       spaced_length [],
     )
 
-answer_most : {a : Arrival} → Packable a → length (printed (arrival_answer a)) ≤ 20
+answer_most : {a : Result Arrival Refusal} → Packable a → length (printed (arrival_answer a)) ≤ 20
 unfolding bytes
 answer_most packing.first =
-    omega (arith, ap length first_line, line_length (bytes "first") [], spaced_length [])
+    omega (arith, ap length (first_as refl refl), line_length (bytes "first") [], spaced_length [])
 answer_most packing.second =
-    omega (arith, ap length second_line, line_length (bytes "second") [], spaced_length [])
+    omega (arith, ap length (second_as refl refl), line_length (bytes "second") [], spaced_length [])
 answer_most packing.inside =
-    omega (arith, ap length inside_line, line_length (bytes "inside") [], spaced_length [])
+    omega (arith, ap length (inside_as refl refl), line_length (bytes "inside") [], spaced_length [])
 answer_most (packing.outside {l} {r} {v} small) =
     omega (
       arith,
-      ap length (outside_line l r v),
+      ap length (outside_as {l = l} {r = r} {v = v} refl refl),
       line_length (bytes "outside") (l ∷ r ∷ v ∷ []),
       spaced_one l (r ∷ v ∷ []) (omega (arith, small.left_below)),
       spaced_one r (v ∷ []) (omega (arith, small.right_below)),
@@ -118,12 +121,12 @@ answer_most (packing.outside {l} {r} {v} small) =
     )
 answer_most (packing.refused {r} o) = refused_answer_most r
 
-blank_most : length (printed (arrival_answer (Arrival.Refused Refusal.BadLine))) ≤ 10
+blank_most : length (printed (arrival_answer (Err Refusal.BadLine))) ≤ 10
 unfolding bytes number spaced
 blank_most =
     omega (
       arith,
-      ap length (refused_arrival Refusal.BadLine),
+      ap length (refused_answer {r = Refusal.BadLine} refl),
       ap length (refused_line Refusal.BadLine),
       line_length (bytes "refused") (8 ∷ []),
       length-append (spelt (pos 8)) [],
@@ -131,32 +134,31 @@ blank_most =
     )
 
 -- what a line comes to on a sound map
-offered_small : (m : Map) → T (sound m) → (line : Line) →
-    (length (printed (arrival_answer (offer_line m line).arrival)) ≤ 20) × T (sound (offer_line m line).map)
-offered_small m s line = go (verdict_by m.xs m.ys m.count line) refl
+offered_small : (m : Map) → T (sound m) → (line : Result Point Refusal) →
+    (length (printed (arrival_answer (arrival_of (offer_line m line)))) ≤ 20)
+    × T (sound (map_after m (offer_line m line)))
+unfolding arrival_of map_after
+offered_small m s line = go (line_decides m s line)
   where
-    go : (v : Verdict) → v ≡ verdict_by m.xs m.ys m.count line →
-        (length (printed (arrival_answer (offer_line m line).arrival)) ≤ 20)
-        × T (sound (offer_line m line).map)
-    go (Verdict.Taken q) e =
-        let a = line_accepted m s line q e in
-        rw a.0 (answer_most (arrive_packable a.1), sound_grows s a.1)
-    go (Verdict.Refused r) e = rw (line_refused m s line r e) (refused_answer_most r, s)
+    go : {o : Result Offered Refusal} → Decides m line o →
+        (length (printed (arrival_answer (arrival_of o))) ≤ 20) × T (sound (map_after m o))
+    go (taken named a) = (answer_most (arrive_packable a), sound_grows s a)
+    go (refused {r}) = (refused_answer_most r, s)
 
 -- its line takes 16 bytes at most for each byte of it and its feed
 line_most : (m : Map) → T (sound m) → (n : ℕ) → n < text_limit → (l : List ℕ) →
-    length (arrival_line n (offer_line m (line_read l)).arrival) ≤ 16 * (length l + 1)
-unfolding offer_line
+    length (arrival_line n (arrival_of (offer_line m (line_read l)))) ≤ 16 * (length l + 1)
+unfolding offer_line arrival_of
 line_most m s n h [] =
     rw blank_refused
     (omega (
       arith,
-      arrival_line_length n (Arrival.Refused Refusal.BadLine),
+      arrival_line_length n (Err Refusal.BadLine),
       spelt_most 4 n (omega arith) (omega arith),
       blank_most,
     ))
 line_most m s n h (b ∷ l) =
-    let a = (offer_line m (line_read (b ∷ l))).arrival in
+    let a = arrival_of (offer_line m (line_read (b ∷ l))) in
     omega (
       arith,
       arrival_line_length n a,
@@ -247,11 +249,11 @@ lines_few (b ∷ s) = go (eqb b line_feed) (lines s) (lines_few s)
 arrivals_more : (m : Map) (n : ℕ) (l : List ℕ) (ls : List (List ℕ)) →
     let o = offer_line m (line_read l) in
     length (arrivals m n (l ∷ ls))
-    ≡ length (arrival_line n o.arrival) + length (arrivals o.map (suc n) ls)
+    ≡ length (arrival_line n (arrival_of o)) + length (arrivals (map_after m o) (suc n) ls)
 unfolding arrivals arrival_line
 arrivals_more m n l ls =
     let o = offer_line m (line_read l) in
-    length-append (arrival_line n o.arrival) (arrivals o.map (suc n) ls)
+    length-append (arrival_line n (arrival_of o)) (arrivals (map_after m o) (suc n) ls)
 
 arrivals_most : (m : Map) → T (sound m) → (n : ℕ) (ls : List (List ℕ)) →
     n + length ls ≤ text_limit → length (arrivals m n ls) ≤ 16 * spent ls + 2_168
@@ -262,7 +264,7 @@ arrivals_most m s n (l ∷ ls) few =
       arith,
       arrivals_more m n l ls,
       line_most m s n (omega arith) l,
-      arrivals_most (offer_line m (line_read l)).map (offered_small m s (line_read l)).1 (suc n) ls
+      arrivals_most (map_after m (offer_line m (line_read l))) (offered_small m s (line_read l)).1 (suc n) ls
           (omega arith),
     )
 
@@ -274,7 +276,7 @@ report_most text = go (ltb text_limit (length text)) refl
   where
     go : (long : Bool) → ltb text_limit (length text) ≡ long →
         length (bytes "OUTLINE 1\n"
-        ++ cond long (printed (refused Refusal.LongText)) (arrivals empty_map 0 (lines text)))
+        ++ cond long (printed (answers.refused Refusal.LongText)) (arrivals empty_map 0 (lines text)))
         ≤ 16 * length text + 4_096
     go true e = omega (arith, refused_most Refusal.LongText)
     go false e =

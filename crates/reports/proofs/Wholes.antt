@@ -10,6 +10,8 @@ use native.Mathlib.Omega.{arith}
 use lib.Dec.{ltb}
 use lib.ListN.{length, take, length-append, length-take}
 use lib.Seq.{take_at}
+use Rattle.std.specs.declared.option.Option.{Option}
+use Rattle.std.specs.declared.option.Option.TheVariants.{Some, None}
 use Rattle.finite.specs.Tests.{same_or_not}
 use Rattle.finite.specs.Bounded.{lt_or_ge}
 use Rattle.finite.specs.Overwriting.{over, over_at, over_front}
@@ -22,7 +24,7 @@ use Rattle.model.specs.Reading.{counts}
 use Rattle.model.specs.Text.{lines}
 use Rattle.model.specs.Report.{text_limit, printed, arrivals, report}
 use Rattle.corners.specs.declared.listing.CornerList.{CornerList}
-use Rattle.corners.specs.Listing.{ListsCorners}
+use Rattle.corners.specs.Listing.{ListsCorners, listed}
 use Rattle.printing.proofs.Overwriting.{wrote_length}
 use Rattle.printing.proofs.Reports.{closing_lines}
 use Rattle.reports.specs.declared.Summary.{Summary}
@@ -30,7 +32,7 @@ use Rattle.lines.specs.declared.positions.Ends.{Ends}
 use Rattle.lines.specs.declared.positions.Piece.{Piece}
 use Rattle.lines.specs.Lines.{title, report_line, lines_from, line_count}
 use Rattle.reports.specs.Summaries.{corners_in, report_of, Fits, Decides}
-use Rattle.lines.specs.Printing.{Printable, PutLines}
+use Rattle.lines.specs.Printing.{PutLines}
 use Rattle.reports.specs.Pieces.{WroteLines, line_limit, Pieces, begun, continued}
 use Rattle.deciding.specs.Deciding.{Surveys}
 use Rattle.lines.proofs.ReportLines.{report_line_most, lines_more, lines_none, lines_joined, report_short, report_long}
@@ -38,7 +40,7 @@ use Rattle.lines.proofs.ReportLines.{report_line_most, lines_more, lines_none, l
 -- ---- a text that is too long
 
 pub decides_long : {text answers : List ℕ} {d : Summary} → ltb text_limit (length text) ≡ true →
-    d.ends.long ≡ true → length answers ≡ text_limit → Fits d → Decides text answers d
+    d.ends ≡ None → length answers ≡ text_limit → Fits d → Decides text answers d
 unfolding report report_of
 decides_long {text} {answers} {d} h long whole fits =
     record {
@@ -57,12 +59,7 @@ module _ {text answers : List ℕ} {m : Map} {n : ℕ} {list : CornerList} {c : 
     (surveys : Surveys text m answers n) (lists : ListsCorners m list) (numbers : c ≡ counts m)
     (short : ltb text_limit (length text) ≡ false) where
   abbrev decided : Summary
-  decided =
-      record {
-        corners = list.points;
-        listed = list.count;
-        ends = record { lines = n; long = false; counts = c };
-      }
+  decided = record { corners = list; ends = Some (record { lines = n; counts = c }) }
 
   pub decides_short : Decides text answers decided
   unfolding report report_of
@@ -76,7 +73,7 @@ module _ {text answers : List ℕ} {m : Map} {n : ℕ} {list : CornerList} {c : 
               lines_fit = surveys.lines_fit;
             };
         is_report =
-            report_short answers (take list.count list.points) decided.ends refl
+            report_short answers (listed list) decided.ends refl
             ∙ ap (λ (l : List ℕ). title ++ l)
             (rw (lists.members, numbers, ← closing_lines m) surveys.together)
             ∙ ap (λ (b : Bool). title
@@ -86,7 +83,7 @@ module _ {text answers : List ℕ} {m : Map} {n : ℕ} {list : CornerList} {c : 
 
 -- ---- writing all of it
 
-module _ {answers corners : List ℕ} {ends : Ends} {lent after : List ℕ} {r : Piece}
+module _ {answers corners : List ℕ} {ends : Option Ends} {lent after : List ℕ} {r : Piece}
     (p : PutLines answers corners ends 0 lent after r)
     (room : length (lines_from answers corners ends 0 (line_count ends)) ≤ length lent) where
   -- with room for all of it nothing is left
@@ -125,15 +122,12 @@ module _ {answers corners : List ℕ} {ends : Ends} {lent after : List ℕ} {r :
 -- ---- what was decided, lent as lists
 
 module _ {d : Summary} (f : Fits d) where
-  pub listed_length : d.listed ≡ length (corners_in d)
+  listed_length : d.corners.count ≡ length (corners_in d)
   listed_length =
-      omega (arith, length-take d.listed d.corners, f.corners_whole, f.corners_fit)
+      omega (arith, length-take d.corners.count d.corners.points, f.corners_whole, f.corners_fit)
 
   pub corners_few : length (corners_in d) ≤ point_limit
   corners_few = omega (arith, listed_length, f.corners_fit)
-
-  pub printable : Printable d.ends
-  printable = record { lines_fit = f.lines_fit }
 
 -- ---- piece by piece
 

@@ -7,25 +7,39 @@ ghost use Rattle.std.specs.Prelude.{◌≡◌, ◌≤◌, length};
 ghost use Rattle.finite.specs.Overwriting.{over};
 ghost use Rattle.model.specs.Report.{text_limit};
 ghost use Rattle.deciding.specs.Deciding.{Readable, Surveys};
-ghost use Rattle.reports.specs.Summaries.{report_of, Decides, Fits};
+ghost use Rattle.reports.specs.Summaries.{report_of, corners_in, Decides, Fits};
 ghost use Rattle.reports.specs.Pieces.{WroteLines};
 
-use admission::hashes::no_hashes;
-use corners::listing::corners_of;
-use deciding::{Tally, survey};
-use lines::positions::{Ends, Piece, put_lines, total_length};
+use admission::hashes::Hashes;
+use corners::listing::{CornerList, corners_of};
+use deciding::survey;
+use lines::positions::{Ends, Lines, Piece};
 use maps::empty_map;
 use maps::traversal::counts_of;
-use model::{Counts, Map, POINT_LIMIT};
+use model::{Map, POINT_LIMIT};
 use survey::lines::{TEXT_LIMIT, is_too_long};
 
-// What is decided of a text beside the answers of its lines: the corners, which are the first so
-// many of a list, and the ends.
+// What is decided of a text beside the answers of its lines: the corners, and the ends, or none where
+// the text is too long to be read.
 #[derive(Clone, Copy)]
 pub struct Summary {
-    pub corners: [usize; POINT_LIMIT],
-    pub listed: usize,
-    pub ends: Ends,
+    pub corners: CornerList,
+    pub ends: Option<Ends>,
+}
+
+impl Summary {
+    // The printed lines of the report, with the answers of the text's lines.
+    fn lines<'a>(&'a self, answers: &'a [u32]) -> Lines<'a>
+        ensures answers { result.answers.now ≡ answers.now }
+        ensures corners { result.corners.now ≡ corners_in self.now }
+        ensures ends { result.ends ≡ self.now.ends }
+    {
+        Lines {
+            answers,
+            corners: self.corners.as_slice(),
+            ends: self.ends,
+        }
+    }
 }
 
 // The map at the end of a text, and how many lines the text has.
@@ -47,49 +61,10 @@ fn decide_lines(text: &[u8], answers: &mut [u32; TEXT_LIMIT]) -> Surveyed
     requires { Readable text.now answers.old }
     ensures { Surveys text.now result.map answers.new result.lines }
 {
-    let empty = empty_map();
-    let mut xs = empty.xs;
-    let mut ys = empty.ys;
-    let mut helpers = empty.helpers;
-    let mut edge = empty.edge;
-    let mut arrivals = empty.arrivals;
-    let mut lefts = empty.lefts;
-    let mut rights = empty.rights;
-    let mut hashes = no_hashes();
-    let begun = Tally {
-        count: empty.count,
-        reference: empty.reference,
-        lines: 0,
-    };
-    let tally = survey(
-        text,
-        &mut xs,
-        &mut ys,
-        &mut helpers,
-        &mut edge,
-        &mut arrivals,
-        &mut lefts,
-        &mut rights,
-        &mut hashes,
-        answers,
-        begun,
-    );
-    let count = tally.count;
-    let reference = tally.reference;
-    Surveyed {
-        map: Map {
-            xs,
-            ys,
-            helpers,
-            edge,
-            arrivals,
-            lefts,
-            rights,
-            count,
-            reference,
-        },
-        lines: tally.lines,
-    }
+    let mut map = empty_map();
+    let mut hashes = Hashes::empty();
+    let lines = survey(text, &mut map, &mut hashes, answers);
+    Surveyed { map, lines }
 }
 
 // Decides a text, whatever its bytes are, and leaves the answers of its lines in a lent array. One
@@ -99,75 +74,47 @@ pub fn decide(text: &[u8], answers: &mut [u32; TEXT_LIMIT]) -> Summary
     ensures { Decides text.now answers.new result }
 {
     if is_too_long(text) {
-        let counts = Counts {
-            darts: 0,
-            vertices: 0,
-            edges: 0,
-            faces: 0,
-            parts: 0,
-        };
-        let ends = Ends {
-            lines: 0,
-            long: true,
-            counts,
-        };
-        let corners = [0usize; POINT_LIMIT];
         return Summary {
-            corners,
-            listed: 0,
-            ends,
+            corners: CornerList {
+                points: [0; POINT_LIMIT],
+                count: 0,
+            },
+            ends: None,
         };
     }
-    let surveyed = decide_lines(text, answers);
-    let map = surveyed.map;
-    let list = corners_of(map);
-    let corners = list.points;
-    let counts = counts_of(map);
-    let ends = Ends {
-        lines: surveyed.lines,
-        long: false,
-        counts,
-    };
+    let Surveyed { map, lines } = decide_lines(text, answers);
+    let corners = corners_of(&map);
+    let counts = counts_of(&map);
     Summary {
         corners,
-        listed: list.count,
-        ends,
+        ends: Some(Ends { lines, counts }),
     }
 }
 
 // How many bytes the report takes.
-pub fn length_of(answers: &[u32], decided: Summary) -> usize
-    requires { Fits decided }
-    ensures { result ≡ length (report_of answers.now decided) }
+pub fn length_of(answers: &[u32], decided: &Summary) -> usize
+    requires { Fits decided.now }
+    ensures { result ≡ length (report_of answers.now decided.now) }
 {
-    let corners = decided.corners;
-    let listed = decided.listed;
-    let ends = decided.ends;
-    total_length(answers, &corners[..listed], ends)
+    decided.lines(answers).total_length()
 }
 
 // Writes the report into a lent list that has room for it; the rest of it stays as it is.
-pub fn write_report(answers: &[u32], decided: Summary, lent: &mut [u8])
-    requires fits { Fits decided }
-    requires decided_in_bounds { length (report_of answers.now decided) ≤ length lent.old }
+pub fn write_report(answers: &[u32], decided: &Summary, lent: &mut [u8])
+    requires fits { Fits decided.now }
+    requires decided_in_bounds { length (report_of answers.now decided.now) ≤ length lent.old }
     ensures { lent.new ≡
-        over (report_of answers.now decided) lent.old }
+        over (report_of answers.now decided.now) lent.old }
 {
-    let corners = decided.corners;
-    let listed = decided.listed;
-    let ends = decided.ends;
-    put_lines(lent, answers, &corners[..listed], ends, 0);
+    decided.lines(answers).put_lines(lent, 0);
 }
 
 // Writes the printed lines from a position on, as many whole ones as the lent list holds, and says
 // where to go on. Position 0 is the report's first line.
-pub fn write_lines(answers: &[u32], decided: Summary, from: usize, lent: &mut [u8]) -> Piece
-    requires { Fits decided }
-    ensures { WroteLines answers.now decided from
+pub fn write_lines(answers: &[u32], decided: &Summary, from: usize, lent: &mut [u8]) -> Piece
+    requires { Fits decided.now }
+    ensures { WroteLines answers.now decided.now from
         lent.old lent.new result }
 {
-    let corners = decided.corners;
-    let listed = decided.listed;
-    let ends = decided.ends;
-    put_lines(lent, answers, &corners[..listed], ends, from)
+    decided.lines(answers).put_lines(lent, from)
 }

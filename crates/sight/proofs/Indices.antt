@@ -1,27 +1,27 @@
 -- What the code reads from a sound map and takes for an index lies within the arrays, in the order of
--- this page: edge links, also where one of them was cut; the points, also past the last one; the
--- corners; the left and the right corner.
-use mathlib.Core.Path.{sym, subst}
+-- this page: edge links; points in range; the corners; the left and the right corner.
+use mathlib.Core.Path.{◌≡◌, sym, ap, subst}
 use mathlib.Core.Logic.{⊎_elim}
-use mathlib.Core.Bool.{Bool, true, false, cond}
+use mathlib.Core.Bool.{Bool, true, false, cond, ◌&&◌}
 use mathlib.Core.List.{List, [], ◌∷◌}
-use Prim.Native.Nat.{ℕ, ◌+◌, ◌≤◌, ◌<◌}
+use Prim.Native.Nat.{ℕ, ◌≤◌, ◌<◌}
 use native.Mathlib.Omega.{arith}
 use lib.Dec.{T, T_not}
-use lib.ListN.{length}
-use Rattle.finite.specs.Tests.{decide}
+use lib.ListN.{get_or}
+use Rattle.finite.specs.Tests.{decide, and_both}
 use Rattle.finite.specs.Lists.{elem, first_in}
 use Rattle.finite.specs.ListLaws.{elem_head, elem_tail}
+use Rattle.finite.specs.ListLaws.{get_d_any}
 use Rattle.orbits.specs.Sets.{dart_limit}
 use Rattle.model.specs.declared.Point.{Point}
 use Rattle.model.specs.declared.Map.{Map}
-use Rattle.model.specs.Maps.{point_limit, own, point, is_present, edge_link}
-use Rattle.model.specs.Outline.{outline}
+use Rattle.model.specs.Plane.{in_range}
+use Rattle.model.specs.Maps.{point_limit, own, owner, point, is_present, edge_link}
+use Rattle.model.specs.Outline.{next_corner, outline}
 use Rattle.model.specs.Shape.{Shaped}
 use Rattle.model.specs.Arrival.{turning_left, turning_right, farther, left_corner, right_corner}
 use Rattle.model.proofs.Shape.{place_ranged, present_below}
-use Rattle.maps.proofs.Outline.{outline_circuit}
-use Rattle.maps.specs.Places.{PlacesFor, RangedQuery}
+use Rattle.maps.proofs.Outline.{outline_circuit, outline_next}
 use Rattle.linking.specs.Requires.{Spliceable}
 use Rattle.sight.specs.Requires.{Accepted, OutlineFor}
 use Rattle.sight.proofs.Beyond.{by_beyond}
@@ -39,28 +39,33 @@ module _ {m : Map} (s : Shaped m) where
 
 -- ---- points
 
--- the arrays of a map with an outline may be read at every place
-pub ranged : {m : Map} {p : Point} → OutlineFor m p → RangedQuery m.xs m.ys p
-unfolding point
-ranged o = record { places = place_ranged o.accepted.is_sound; offered = o.accepted.ranged }
+-- three points that are in range
+pub three_ranged : {m : Map} {p : Point} → OutlineFor m p → (a b : ℕ) →
+    T (in_range (point m a) && in_range (point m b) && in_range p)
+three_ranged {m} {p} o a b =
+    let ta = place_ranged o.accepted.is_sound a in
+    let tb = place_ranged o.accepted.is_sound b in
+    let tp = o.accepted.ranged in
+    search and_both
 
 -- ---- corners
 
 -- a corner has its places: its own dart among the edge links, and its point
 module _ {m : Map} {p : Point} (o : OutlineFor m p) (a : ℕ) (on : T (elem a (outline m))) where
-  abbrev s : Shaped m
-  s = o.accepted.is_sound
+  pub corner_below : a < point_limit
+  corner_below =
+      let s = o.accepted.is_sound in
+      omega (arith, (outline_circuit s o.two).below a on, s.links.fits)
 
-  pub corner_linked : own a < length m.edge
-  corner_linked = omega (arith, (outline_circuit s o.two).below a on, s.links.fits, s.links.edge_whole)
+  -- the corner after it, as it is read
+  pub next_read : owner (get_or m.edge (own a) 0) ≡ next_corner m a
+  unfolding next_corner edge_link
+  next_read =
+      ap owner
+      (get_d_any m.edge (own a) 0 (own a) (omega (arith, corner_below, o.accepted.is_sound.links.edge_whole)))
 
-  pub corner_held : PlacesFor m.xs m.ys (a + 1)
-  corner_held =
-      let below = (outline_circuit s o.two).below a on in
-      record {
-        xs_hold = omega (arith, s.links.fits, s.points.xs_whole);
-        ys_hold = omega (arith, s.links.fits, s.points.ys_whole);
-      }
+  pub next_on : T (elem (next_corner m a) (outline m))
+  next_on = (outline_next o.accepted.is_sound o.two a on).1
 
 -- the first member that passes, or else 0, is below a bound of all
 first_below : (n : ℕ) (test : ℕ → Bool) (t : List ℕ) → 0 < n → ((a : ℕ) → T (elem a t) → a < n) →
@@ -75,7 +80,7 @@ first_below n test (a ∷ t) h below = go (test a) (first_below n test t h (λ x
 
 -- an accepted point may be put between its left and its right corner
 pub spliceable : {m : Map} {p : Point} → Accepted m p → 2 ≤ m.count →
-    Spliceable m.edge m.count (left_corner m p) (right_corner m p)
+    Spliceable m (left_corner m p) (right_corner m p)
 unfolding farther turning_left turning_right edge_link
 spliceable {m} {p} a two =
     let below = (outline_circuit a.is_sound two).below in
@@ -85,8 +90,6 @@ spliceable {m} {p} a two =
     by_beyond a two (λ l r. (l < point_limit) × (r < point_limit)) (λ beyond. (corner _, corner _)) (λ n. (corner _, corner _)) in
     record {
       room = a.room;
-      left_below = corners.0;
-      right_below = corners.1;
-      whole = a.is_sound.links.edge_whole;
-      links_below = link_below a.is_sound;
+      linked =
+          record { left_below = corners.0; right_below = corners.1; links_below = link_below a.is_sound };
     }

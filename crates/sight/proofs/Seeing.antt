@@ -1,72 +1,56 @@
 -- The way round an outline on which a point looks for the corners where what it sees turns and counts the
--- edges that it sees, in the order of this page: what is seen, by the arrays of the map; a corner that is
--- sought; the corners still ahead; the invariant; the laws of its start, of a corner passed and of the end.
+-- edges that it sees, in the order of this page: a corner that is sought; the corners still ahead; the invariant; the laws of its start, of a corner passed and of the end.
 -- What is found and what is still ahead make up the answer together. So nothing has to be said of the
 -- corners that were passed.
 use mathlib.Core.Path.{◌≡◌, refl, sym, ap, subst, ◌∙◌}
 use mathlib.Core.Logic.{◌≢◌}
-use mathlib.Core.Bool.{Bool, true, false, not, cond, ◌&&◌, and_comm}
+use mathlib.Core.Bool.{Bool, true, false, beq, not, cond, ◌&&◌, and_comm}
 use mathlib.Core.List.{List, [], ◌∷◌}
 use Prim.Native.Nat.{ℕ, ◌+◌, ◌-◌, ◌≤◌, ◌<◌}
 use native.Mathlib.Omega.{arith}
 use lib.Dec.{T}
 use borrow.Author.Tests.{le-ltb}
-use Rattle.finite.specs.Tests.{either_way}
+use Rattle.std.specs.declared.option.Option.{Option}
+use Rattle.std.specs.declared.option.Option.TheVariants.{Some, None}
+use Rattle.std.specs.Option.{unwrap_or}
 use Rattle.finite.specs.Bounded.{one_if}
 use Rattle.finite.specs.Counting.{one_if_small}
 use Rattle.finite.specs.Lists.{elem, count_in, first_in, ring}
 use Rattle.finite.specs.Rings.{ring_last, ring_more}
 use Rattle.model.specs.declared.Point.{Point}
 use Rattle.model.specs.declared.Map.{Map}
+use Rattle.model.specs.Plane.{sees_edge}
 use Rattle.model.specs.Maps.{own, helper, owner, point, edge_link}
 use Rattle.model.specs.Outline.{next_corner, previous_corner, corners_from, outline, sees, visible_edges}
 use Rattle.model.specs.Shape.{Shaped}
-use Rattle.model.specs.Arrival.{turning_left, turning_right, is_farther, is_beyond, farther, left_corner, right_corner}
+use Rattle.model.specs.Arrival.{turning_left, turning_right}
 use Rattle.maps.proofs.Links.{sound_linked}
 use Rattle.maps.proofs.Circuits.{edge_next, edge_previous}
 use Rattle.maps.proofs.Outline.{outline_first, outline_next, outline_previous}
-use Rattle.sight.specs.declared.Sought.{Sought}
-use Rattle.sight.specs.Requires.{OutlineFor, visible_at}
-use Rattle.sight.specs.Sight.{sought_at, outlined, turning, seen}
-
--- what else the map holds does not matter
-module _ (m : Map) (p : Point) where
-  abbrev pub by_arrays : Map
-  by_arrays = outlined m.xs m.ys m.edge m.count m.reference
-
-  pub turning_by_arrays : turning m p ≡ turning by_arrays p
-  unfolding turning_left turning_right visible_edges sees outline corners_from next_corner previous_corner edge_link point
-  turning_by_arrays = refl
-
-  pub farther_by_arrays : farther m p ≡ farther by_arrays p
-  unfolding farther is_farther outline corners_from next_corner edge_link point
-  farther_by_arrays = refl
-
-  pub seen_by_arrays : seen m p ≡ seen by_arrays p
-  unfolding left_corner right_corner is_beyond farther is_farther turning_left turning_right visible_edges sees
-      outline corners_from next_corner previous_corner edge_link point
-  seen_by_arrays = refl
+use Rattle.sight.specs.Requires.{OutlineFor}
+use Rattle.sight.specs.Sight.{sought_at, turning}
 
 -- ---- a corner that is sought
 
 -- the corner sought if it is found, else the first ahead that passes
-abbrev settled : Sought → (ℕ → Bool) → List ℕ → ℕ
-settled s test ahead = cond s.found s.corner (first_in test s.corner ahead)
+abbrev settled : Option ℕ → (ℕ → Bool) → List ℕ → ℕ
+settled (Some k) test ahead = k
+settled None test ahead = first_in test 0 ahead
 
-sought_settles : (test : ℕ → Bool) (s : Sought) (before after : Bool) (a : ℕ) (ahead : List ℕ) →
+sought_settles : (test : ℕ → Bool) (s : Option ℕ) (before after : Bool) (a : ℕ) (ahead : List ℕ) →
     test a ≡ (not before && after) → settled (sought_at s before after a) test ahead ≡ settled s test (a ∷ ahead)
 unfolding first_in
-sought_settles test s before after a ahead is = go s.found (not before && after) refl refl
+sought_settles test (Some k) before after a ahead is = refl
+sought_settles test None before after a ahead is = go (not before && after) is
   where
-    go : (f t : Bool) → s.found ≡ f → (not before && after) ≡ t →
-        settled (sought_at s before after a) test ahead ≡ settled s test (a ∷ ahead)
-    go true t e d = rw e
-    go false true e d = rw (is, e, d)
-    go false false e d = rw (is, e, d)
+    go : (t : Bool) → test a ≡ t → settled (cond t (Some a) None) test ahead ≡ settled None test (a ∷ ahead)
+    go true e = rw e
+    go false e = rw e
 
-settled_end : (s : Sought) (test : ℕ → Bool) → settled s test [] ≡ s.corner
+settled_end : (s : Option ℕ) (test : ℕ → Bool) → settled s test [] ≡ unwrap_or s 0
 unfolding first_in
-settled_end s test = either_way s.found s.corner
+settled_end (Some k) test = refl
+settled_end None test = refl
 
 -- ---- the corners ahead
 
@@ -77,18 +61,18 @@ module _ (m : Map) where
 
 -- ---- a corner whose two edges are both visible, or both hidden, is not sought
 
-pub tests_agree : (b c : Bool) → cond b (not c) c ≡ false → b ≡ c
-tests_agree true true e = refl
-tests_agree true false e = e
-tests_agree false true e = sym e
-tests_agree false false e = refl
+module _ (a : ℕ) where
+  pub unsought : (s : Option ℕ) (b c : Bool) → not (beq b c) ≡ false → s ≡ sought_at s b c a
+  unsought (Some k) b c e = refl
+  unsought None true c e = refl
+  unsought None false true e = absurd (subst T e tt)
+  unsought None false false e = refl
 
-not_sought : (s : Sought) (b : Bool) (a : ℕ) → s ≡ sought_at s b b a
-not_sought s true a = sym (either_way s.found s)
-not_sought s false a = sym (either_way s.found s)
-
-pub unsought : (s : Sought) (a : ℕ) {b c : Bool} → b ≡ c → s ≡ sought_at s b c a
-unsought s a {b} {c} e = subst (λ (t : Bool). s ≡ sought_at s b t a) e (not_sought s b a)
+  pub unsought_back : (s : Option ℕ) (b c : Bool) → not (beq c b) ≡ false → s ≡ sought_at s b c a
+  unsought_back (Some k) b c e = refl
+  unsought_back None true c e = refl
+  unsought_back None false true e = absurd (subst T e tt)
+  unsought_back None false false e = refl
 
 -- ---- the invariant
 
@@ -100,7 +84,7 @@ module _ (m : Map) (p : Point) where
   is_right a = sees m p (previous_corner m a) && not (sees m p a)
 
   -- a is the first corner ahead, and `entering` says whether its entering edge is visible
-  pub record SightAhead (entering : Bool) (left right : Sought) (visible a ahead : ℕ) : Type 0 where
+  pub record SightAhead (entering : Bool) (left right : Option ℕ) (visible a ahead : ℕ) : Type 0 where
     pub on : T (elem a (outline m))
     pub few : visible + ahead ≤ m.count
     pub entered : entering ≡ sees m p (previous_corner m a)
@@ -110,8 +94,8 @@ module _ (m : Map) (p : Point) where
 
   -- what the code tests of an edge
   leaves : {leaving : Bool} (a b : ℕ) → b ≡ next_corner m a →
-      leaving ≡ visible_at m.xs m.ys a b p → leaving ≡ sees m p a
-  unfolding sees point
+      leaving ≡ sees_edge (point m a) (point m b) p → leaving ≡ sees m p a
+  unfolding sees
   leaves a b to e = rw to at e
 
   module _ (o : OutlineFor m p) where
@@ -120,9 +104,8 @@ module _ (m : Map) (p : Point) where
 
     -- nothing is found at first, and all of the outline is ahead
     pub at_first : {last ahead : ℕ} {entering : Bool} → ahead ≡ m.count → last ≡ previous_corner m (owner m.reference) →
-        entering ≡ visible_at m.xs m.ys last (owner m.reference) p →
-        SightAhead entering (record { corner = 0; found = false }) (record { corner = 0; found = false }) 0
-        (owner m.reference) ahead
+        entering ≡ sees_edge (point m last) (point m (owner m.reference)) p →
+        SightAhead entering None None 0 (owner m.reference) ahead
     unfolding outline corners_from turning_left turning_right visible_edges
     at_first {last} {ahead} {entering} all from e =
         rw all
@@ -140,9 +123,9 @@ module _ (m : Map) (p : Point) where
           visible_is = rw (le-ltb m.count 2 o.two) (omega arith);
         })
 
-    module _ {entering leaving : Bool} {left right left' right' : Sought} {visible visible' a b ahead : ℕ}
+    module _ {entering leaving : Bool} {left right left' right' : Option ℕ} {visible visible' a b ahead : ℕ}
         (u : SightAhead entering left right visible a ahead) (more : 0 < ahead)
-        (to : b ≡ next_corner m a) (edge : leaving ≡ visible_at m.xs m.ys a b p)
+        (to : b ≡ next_corner m a) (edge : leaving ≡ sees_edge (point m a) (point m b) p)
         (l : left' ≡ sought_at left entering leaving a) (r : right' ≡ sought_at right leaving entering a)
         (v : visible' ≡ visible + one_if leaving) where
       -- corner a is passed, and so many are ahead then
@@ -182,10 +165,9 @@ module _ (m : Map) (p : Point) where
           (rw to (ring_more (next_corner m) (owner m.reference) ahead a more (λ e. n (to ∙ e)))))
 
     -- none is ahead, and all is found
-    pub at_end : {entering : Bool} {left right : Sought} {visible a ahead : ℕ} →
+    pub at_end : {entering : Bool} {left right : Option ℕ} {visible a ahead : ℕ} →
         SightAhead entering left right visible a ahead → ahead ≤ 0 →
-        record { left = left.corner; right = right.corner; visible = visible }
-        ≡ turning (by_arrays m p) p
+        record { left = unwrap_or left 0; right = unwrap_or right 0; visible = visible } ≡ turning m p
     unfolding ring count_in
     at_end {entering} {left} {right} {visible} {a} {ahead} u h =
         let none : ahead ≡ 0 = omega arith in
@@ -193,4 +175,4 @@ module _ (m : Map) (p : Point) where
         let l = sym (settled_end left is_left) ∙ w.left_is in
         let r = sym (settled_end right is_right) ∙ w.right_is in
         let v : visible ≡ visible_edges m p = omega (arith, w.visible_is) in
-        (λ i. record { left = l i; right = r i; visible = v i }) ∙ turning_by_arrays m p
+        λ i. record { left = l i; right = r i; visible = v i }

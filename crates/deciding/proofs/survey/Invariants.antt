@@ -1,17 +1,9 @@
--- `deciding::survey` goes on while the text has lines: those decided and those ahead make up the
--- report, and each turn brings the reader further in the text that it began with.
-use Rattle.std.proofs.Common.{◌≡◌, ◌-◌, length}
-use Rattle.model.specs.Maps.{map_of}
+-- The loop of `deciding::survey`: the lines before the reader's place are decided.
+use mathlib.Core.Path.{◌≡◌}
 use Rattle.deciding.specs.Deciding.{Surveying}
 use Rattle.deciding.proofs.survey.Given as goal
 
-abbrev pub invariant-loop-reader : goal.invariant-loop-reader
-invariant-loop-reader l = record {
-  same_text : l.reader.text.now ≡ l.text;
-  surveying : Surveying l.text
-      (map_of l.xs l.ys l.helpers l.edge l.arrivals l.lefts l.rights l.tally.count l.tally.reference)
-      l.hashes l.answers l.tally.lines l.reader.at;
-}
-
-abbrev pub decreases-loop-reader : goal.decreases-loop-reader
-decreases-loop-reader l = length l.reader.text.now - l.reader.at
+abbrev pub invariant-loop-line : goal.invariant-loop-line
+invariant-loop-line l =
+    (l.line-iterator.text.now ≡ l.fn.text)
+    × Surveying l.fn.text l.map l.hashes l.answers l.lines l.line-iterator.at

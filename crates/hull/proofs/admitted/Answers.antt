@@ -1,26 +1,17 @@
--- `hull::admitted` meets its contract: the rules are asked of the map's coordinates, and then the point
--- arrives.
-use mathlib.Core.Path.{◌∙◌}
-use Rattle.model.specs.Maps.{point}
-use Rattle.model.specs.Arrival.{arrive, refusing, admission_rules, is_repeated, admitted}
-use Rattle.model.proofs.Answers.{outcome_refuses, outcome_serves}
-use Rattle.admission.specs.Admission.{admission_by}
-use Rattle.hull.proofs.Admissions.{admission_accepted}
+-- `hull::admitted` meets its contract: the rules are asked of the map's points, and then the point arrives.
+use mathlib.Core.Path.{◌∙◌, ap}
+use Rattle.std.specs.declared.result.Result.TheVariants.{Ok}
+use Rattle.std.proofs.lemmas.Result.{err_from_is_err_and}
+use Rattle.hull.proofs.Admissions.{admission_accepted, admitted_refused, admitted_served}
 use Rattle.hull.proofs.admitted.Goals as goal
 
-pub arrive-requires : goal.arrive-requires
-arrive-requires c = admission_accepted c.requires c.args.p c.in-Served.ensures
+pub returns-in_err-admission : goal.returns-in_err-admission
+returns-in_err-admission c =
+    let p = err_from_is_err_and c.from_residual.result c.from_residual.ensures.1 in
+    rw (p.1, p.2) (admitted_refused c.requires c.args.p _ c.in_err-admission.ensures)
 
-pub returns-in-Refused : goal.returns-in-Refused
-unfolding admission_by is_repeated point admitted
-returns-in-Refused c =
-    let m = c.args.map in
-    let p = c.args.p in
-    c.refused.ensures ∙ outcome_refuses (refusing m) (arrive m p) (admission_rules m p) _ c.in-Refused.ensures
+pub grow-arrival-requires : goal.grow-arrival-requires
+grow-arrival-requires c = admission_accepted c.requires c.args.p c.in_ok-admission.ensures
 
-pub returns-in-Served : goal.returns-in-Served
-unfolding admission_by is_repeated point admitted
-returns-in-Served c =
-    let m = c.args.map in
-    let p = c.args.p in
-    c.arrive.ensures ∙ outcome_serves (refusing m) (arrive m p) (admission_rules m p) c.in-Served.ensures
+pub returns : goal.returns
+returns c = ap Ok c.grow-arrival.ensures ∙ admitted_served c.requires c.args.p c.in_ok-admission.ensures

@@ -7,6 +7,6 @@ pub returns-then-version-eq-OLD_VERSION : goal.returns-then-version-eq-OLD_VERSI
 returns-then-version-eq-OLD_VERSION c = let a = c.args in
     omega (arith, old_notes a.version a.count c.if-version-eq-OLD_VERSION.true)
 
-pub returns : goal.returns
-returns c = let a = c.args in
+pub returns-else-version-eq-OLD_VERSION : goal.returns-else-version-eq-OLD_VERSION
+returns-else-version-eq-OLD_VERSION c = let a = c.args in
     omega (arith, new_notes a.version a.count c.if-version-eq-OLD_VERSION.false)

@@ -1,90 +1,88 @@
 -- `removal::taken_back` meets its contract: by what is noted of the last point the code makes the map
 -- before it.
-use mathlib.Core.Path.{◌≡◌, refl, sym, ap, subst, ◌∙◌}
-use mathlib.Core.List.{List}
-use Prim.Native.Nat.{ℕ, ◌<◌}
+use mathlib.Core.Path.{◌≡◌, refl, sym, ap, ◌∙◌}
+use Prim.Native.Nat.{◌<◌}
 use native.Mathlib.Omega.{arith}
 use lib.Dec.{T}
-use lib.ListN.{get_or}
+use lib.ListN.{length, get_or, take}
+use Rattle.std.proofs.lemmas.List.{length-take-le}
 use Rattle.finite.specs.ListLaws.{get_d_any}
+use Rattle.model.specs.declared.Note.{Note}
 use Rattle.model.specs.declared.Map.{Map}
-use Rattle.model.specs.Shape.{Shaped, Fitting}
-use Rattle.model.specs.Maps.{point_limit, no_dart, note}
+use Rattle.model.specs.Maps.{point_limit, note, no_note}
 use Rattle.model.specs.Sound.{sound}
 use Rattle.model.specs.Removal.{last}
-use Rattle.maps.proofs.Points.{freeing_none_fits}
 use Rattle.hull.proofs.Sound.{sound_shaped}
-use Rattle.removal.specs.Unlinking.{latest}
+use Rattle.removal.specs.Unlinking.{latest, unspliced}
+use Rattle.removal.proofs.References.{latest_taken}
 use Rattle.removal.proofs.Undone.{second_undone, outside_undone, alone_undone, last_unspliceable, left_behind}
 use Rattle.removal.proofs.taken_back.Goals as goal
 
--- a map with a last point, and what is noted of that
+-- a map with a last point
 module _ (m : Map) (q : T (sound m) × (0 < m.count)) where
-  shaped : Shaped m
-  shaped = sound_shaped m q.0
-
   below : last m < point_limit
-  below = omega (arith, shaped.links.fits, q.1)
+  below = omega (arith, (sound_shaped m q.0).links.fits, q.1)
 
-  left_is : get_or m.lefts (last m) 0 ≡ (note m (last m)).left
+  -- what is read of it is what is noted of it
+  note_is : (d : Note) → get_or m.notes (last m) d ≡ note m (last m)
   unfolding note
-  left_is = get_d_any m.lefts (last m) 0 no_dart (omega (arith, below, shaped.notes.lefts_whole))
+  note_is d =
+      get_d_any m.notes (last m) d no_note (omega (arith, below, (sound_shaped m q.0).notes.notes_whole))
 
-  right_is : get_or m.rights (last m) 0 ≡ (note m (last m)).right
-  unfolding note
-  right_is = get_d_any m.rights (last m) 0 no_dart (omega (arith, below, shaped.notes.rights_whole))
+  arrival_is : (d : Note) → (get_or m.notes (last m) d).arrival ≡ (note m (last m)).arrival
+  arrival_is d = ap (λ (n : Note). n.arrival) (note_is d)
 
-pub bounds-arrivals-count : goal.bounds-arrivals-count
-bounds-arrivals-count c = below c.args.map c.requires
+  -- the notes before it are the map's
+  latest_is : latest (take (last m) m.notes) (length (take (last m) m.notes)) ≡ latest m.notes (last m)
+  latest_is =
+      ap (latest (take (last m) m.notes))
+      (length-take-le (last m) m.notes (omega (arith, below, (sound_shaped m q.0).notes.notes_whole)))
+      ∙ latest_taken m.notes (last m) (last m) (omega arith)
 
-pub offset_bounds-lefts-count : goal.offset_bounds-lefts-count
-offset_bounds-lefts-count c = omega (arith, below c.args.map c.requires)
+pub bounds-map-k : goal.bounds-map-k
+bounds-map-k c = below c.args.map.now c.requires
 
-pub bounds-lefts-count : goal.bounds-lefts-count
-bounds-lefts-count c = below c.args.map c.requires
+pub offset_bounds-map-k : goal.offset_bounds-map-k
+offset_bounds-map-k c = omega (arith, below c.args.map.now c.requires)
 
-pub offset_bounds-rights-count : goal.offset_bounds-rights-count
-offset_bounds-rights-count c = omega (arith, below c.args.map c.requires)
+pub bounds-before-k : goal.bounds-before-k
+bounds-before-k c = below c.args.map.now c.requires
 
-pub bounds-rights-count : goal.bounds-rights-count
-bounds-rights-count c = below c.args.map c.requires
+pub offset_bounds-before-k : goal.offset_bounds-before-k
+offset_bounds-before-k c = omega (arith, below c.args.map.now c.requires)
 
-pub put_point-requires : goal.put_point-requires
-put_point-requires c = below c.args.map c.requires
+pub bounds-before-k-2 : goal.bounds-before-k-2
+bounds-before-k-2 c = below c.args.map.now c.requires
 
-pub put_note-requires : goal.put_note-requires
-put_note-requires c =
-    let fits = subst Fitting (sym c.freeing_none.ensures) (freeing_none_fits _ (omega arith)) in
-    (below c.args.map c.requires, fits)
+pub offset_bounds-before-k-2 : goal.offset_bounds-before-k-2
+offset_bounds-before-k-2 c = omega (arith, below c.args.map.now c.requires)
 
-pub returns-then-arrival-eq-SECOND : goal.returns-then-arrival-eq-SECOND
-unfolding note
-returns-then-arrival-eq-SECOND c =
-    let m = c.args.map in
-    left_behind m c.put_point.ensures c.freeing_none.ensures c.put_note.ensures refl c.fixed_links.ensures
-    refl
-    ∙ second_undone m c.requires.0 c.requires.1 c.if-arrival-eq-SECOND.true
+pub returns-then-note-eq-SECOND : goal.returns-then-note-eq-SECOND
+returns-then-note-eq-SECOND c =
+    let m = c.args.map.now in
+    let q = c.requires in
+    left_behind m c.freeing_none.ensures refl c.fixed_links-before.ensures refl
+    ∙ second_undone m q.0 q.1 (sym (arrival_is m q _) ∙ c.if-note-eq-SECOND.true)
 
 pub unsplice-requires : goal.unsplice-requires
-unfolding note
 unsplice-requires c =
-    rw (left_is c.args.map c.requires, right_is c.args.map c.requires)
-    (last_unspliceable c.args.map c.requires.0 c.requires.1 c.if-arrival-eq-OUTSIDE.true)
-
-pub returns-then-arrival-eq-OUTSIDE : goal.returns-then-arrival-eq-OUTSIDE
-unfolding note
-returns-then-arrival-eq-OUTSIDE c =
-    let m = c.args.map in
+    let m = c.args.map.now in
     let q = c.requires in
-    left_behind m c.put_point.ensures c.freeing_none.ensures c.put_note.ensures c.unsplice.ensures.0
-    (c.unsplice.ensures.1 ∙ rw (left_is m q, right_is m q))
-    (c.latest-earlier.ensures
-    ∙ ap (λ (t : List ℕ). latest t (last m)) (c.put_note.ensures.0 ∙ rw c.freeing_none.ensures))
-    ∙ outside_undone m q.0 q.1 c.if-arrival-eq-OUTSIDE.true
+    rw (note_is m q _) (last_unspliceable m q.0 q.1 (sym (arrival_is m q _) ∙ c.if-note-eq-OUTSIDE.true))
+
+pub returns-then-note-eq-OUTSIDE : goal.returns-then-note-eq-OUTSIDE
+returns-then-note-eq-OUTSIDE c =
+    let m = c.args.map.now in
+    let q = c.requires in
+    left_behind m c.freeing_none.ensures refl
+    (c.unsplice.ensures ∙ ap (λ (n : Note). unspliced (last m) n.left n.right m.edge) (note_is m q _))
+    (c.latest.ensures ∙ latest_is m q)
+    ∙ outside_undone m q.0 q.1 (sym (arrival_is m q _) ∙ c.if-note-eq-OUTSIDE.true)
 
 pub returns : goal.returns
-unfolding note
 returns c =
-    let m = c.args.map in
-    left_behind m c.put_point.ensures c.freeing_none.ensures c.put_note.ensures refl refl refl
-    ∙ alone_undone m c.requires.0 c.requires.1 c.if-arrival-eq-SECOND.false c.if-arrival-eq-OUTSIDE.false
+    let m = c.args.map.now in
+    let q = c.requires in
+    left_behind m c.freeing_none.ensures refl refl refl
+    ∙ alone_undone m q.0 q.1 (λ e. c.if-note-eq-SECOND.false (arrival_is m q _ ∙ e))
+    (λ e. c.if-note-eq-OUTSIDE.false (arrival_is m q _ ∙ e))

@@ -9,10 +9,10 @@ use Rattle.reports.proofs.decide.Goals as goal
 pub returns-then-is_too_long : goal.returns-then-is_too_long
 returns-then-is_too_long c =
     decides_long (sym c.is_too_long.ensures ∙ c.if-is_too_long.true) refl c.requires
-    (record { corners_whole = refl; corners_fit = omega arith; lines_fit = omega arith })
+    (record { corners_whole = refl; corners_fit = omega arith; lines_fit = tt })
 
-pub decide_lines-surveyed-requires : goal.decide_lines-surveyed-requires
-decide_lines-surveyed-requires c =
+pub decide_lines-lines-requires : goal.decide_lines-lines-requires
+decide_lines-lines-requires c =
     record {
       short = ltb-false _ _ (sym c.is_too_long.ensures ∙ c.if-is_too_long.false);
       whole = c.requires;
@@ -20,5 +20,5 @@ decide_lines-surveyed-requires c =
 
 pub returns : goal.returns
 returns c =
-    decides_short c.decide_lines-surveyed.ensures c.corners_of-list.ensures
+    decides_short c.decide_lines-lines.ensures c.corners_of-corners.ensures
     c.counts_of-counts.ensures (sym c.is_too_long.ensures ∙ c.if-is_too_long.false)

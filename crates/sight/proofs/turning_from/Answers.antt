@@ -1,152 +1,120 @@
--- `sight::turning_from` meets its contract: what is found before the corner at hand and what is still ahead
--- make up the answer, and an iteration passes one corner of the outline.
-use mathlib.Core.Path.{◌≡◌, refl, sym, ap, subst, ◌∙◌}
-use mathlib.Core.Bool.{false, ◌&&◌}
-use mathlib.Core.List.{List}
-use Prim.Native.Nat.{ℕ}
+-- `sight::turning_from` meets its contract: an iteration passes one corner of the outline.
+use mathlib.Core.Path.{◌≡◌, refl, ap, ◌∙◌}
 use native.Mathlib.Nat.{sub-zero}
 use native.Mathlib.Omega.{arith}
-use lib.Dec.{T}
-use lib.IntN.{ℤ}
-use Rattle.finite.specs.Tests.{and_both}
-use Rattle.finite.specs.Lists.{elem}
+use lib.ListN.{get_or}
+use Rattle.orbits.proofs.Counts.{one_if_byte}
 use Rattle.model.specs.declared.Point.{Point}
-use Rattle.model.specs.declared.Map.{Map}
-use Rattle.model.specs.Plane.{in_range, sees_edge}
-use Rattle.model.specs.Maps.{own, helper, owner, edge_link, with_outline}
-use Rattle.model.specs.Outline.{next_corner, previous_corner, outline}
-use Rattle.maps.proofs.Outline.{outline_next}
-use Rattle.sight.specs.Requires.{OutlineIn, visible_at}
+use Rattle.model.specs.Plane.{sees_edge}
+use Rattle.model.specs.Maps.{own, owner, point}
+use Rattle.model.specs.Outline.{next_corner}
 use Rattle.sight.specs.Sight.{sought_at}
-use Rattle.sight.proofs.Indices.{ranged, corner_linked, corner_held}
-use Rattle.sight.proofs.Seeing.{tests_agree, unsought, at_first, passed_last, passed_one, at_end}
+use Rattle.sight.proofs.Indices.{three_ranged, corner_below, next_read, next_on}
+use Rattle.sight.proofs.Seeing.{unsought, unsought_back, at_first, passed_last, passed_one, at_end}
 use Rattle.sight.proofs.turning_from.Goals as goal
-use Rattle.sight.proofs.turning_from.Goals.{then-differ, else-differ}
-use Rattle.sight.proofs.turning_from.Goals.{After-partner-helper, After-sees_edge-leaving, Joined-differ}
+use Rattle.sight.proofs.turning_from.Goals.{Joined-entering-leaving, then-entering-leaving, else-entering-leaving, else-loop-test, then-loop-test+then-b-start}
 
--- the map whose arrays are lent
-abbrev lent : {xs ys : List ℤ} {edge : List ℕ} {count reference : ℕ} {p : Point} →
-    OutlineIn xs ys edge count reference p → Map
-lent {xs} {ys} {edge} {count} {reference} q = with_outline q.rest xs ys edge count reference
-
-pub is_visible-entering-requires : goal.is_visible-entering-requires
-is_visible-entering-requires c = ranged c.requires.outline
+pub sees_edge-entering-requires : goal.sees_edge-entering-requires
+sees_edge-entering-requires c =
+    rw (c.point.ensures, c.point-2.ensures) (three_ranged c.requires _ _)
 
 pub loop-init : goal.loop-init
-unfolding previous_corner edge_link
 loop-init c = (
-  c.requires,
-  at_first (lent c.requires) c.args.p c.requires.outline (sub-zero _) c.previous_corner-last.ensures
-      c.is_visible-entering.ensures,
-  c.point_at-from.ensures,
-  refl,
+  at_first c.args.map.now c.args.p c.requires (sub-zero _) c.previous_corner-last.ensures
+      (c.sees_edge-entering.ensures ∙ (λ i. sees_edge (c.point.ensures i) (c.point-2.ensures i) c.args.p)),
+  c.point-from.ensures,
 )
 
-pub partner-helper-requires : goal.partner-helper-requires
-partner-helper-requires c = let inv = c.loop.invariant in rw inv.3 (corner_linked inv.0.outline _ inv.1.on)
+pub overflow_mul-b : goal.overflow_mul-b
+overflow_mul-b c = omega (arith, corner_below c.requires c.loop.a c.loop.invariant.0.on)
 
--- the dart that is read is the helper of the next corner
-module _ (c : After-partner-helper) where
-  abbrev m : Map
-  m = lent c.loop.invariant.0
+pub offset_bounds-map-a : goal.offset_bounds-map-a
+offset_bounds-map-a c = omega (arith, corner_below c.requires c.loop.a c.loop.invariant.0.on)
 
-  linked_is : c.partner-helper.result ≡ edge_link m (own c.loop.a)
-  unfolding edge_link
-  linked_is = c.partner-helper.ensures ∙ ap (edge_link m) c.loop.invariant.3
+pub bounds-map-a : goal.bounds-map-a
+bounds-map-a c = omega (arith, corner_below c.requires c.loop.a c.loop.invariant.0.on)
 
-  next_is : owner c.partner-helper.result ≡ next_corner m c.loop.a
-  unfolding next_corner
-  next_is = ap owner linked_is
+pub offset_bounds-map-b : goal.offset_bounds-map-b
+offset_bounds-map-b c =
+    let on = c.loop.invariant.0.on in
+    omega (
+      arith,
+      next_read c.requires c.loop.a on,
+      corner_below c.requires (next_corner c.args.map.now c.loop.a) (next_on c.requires c.loop.a on),
+    )
 
-  next_on : (edge_link m (own c.loop.a) ≡ helper (next_corner m c.loop.a))
-      × T (elem (next_corner m c.loop.a) (outline m))
-  next_on =
-      let o = c.loop.invariant.0.outline in
-      outline_next o.accepted.is_sound o.two c.loop.a c.loop.invariant.1.on
-
-  helper_is : c.partner-helper.result ≡ helper (next_corner m c.loop.a)
-  helper_is = linked_is ∙ next_on.0
-
-pub point_held-to-requires : goal.point_held-to-requires
-point_held-to-requires c =
-    let d = (goal.at.point_held-to-requires c).After-partner-helper in
-    rw (next_is d) (corner_held c.loop.invariant.0.outline _ (next_on d).1)
+pub bounds-map-b : goal.bounds-map-b
+bounds-map-b c =
+    let on = c.loop.invariant.0.on in
+    omega (
+      arith,
+      next_read c.requires c.loop.a on,
+      corner_below c.requires (next_corner c.args.map.now c.loop.a) (next_on c.requires c.loop.a on),
+    )
 
 pub sees_edge-leaving-requires : goal.sees_edge-leaving-requires
-sees_edge-leaving-requires c =
-    let at = c.loop in
-    let r = ranged at.invariant.0.outline in
-    let from : T (in_range at.from) = subst (λ q. T (in_range q)) (sym at.invariant.2) (r.places at.a) in
-    let to : T (in_range c.point_held-to.result) =
-    subst (λ q. T (in_range q)) (sym c.point_held-to.ensures) (r.places (owner c.partner-helper.result)) in
-    and_both (in_range at.from && in_range c.point_held-to.result) (in_range c.args.p)
-    (and_both (in_range at.from) (in_range c.point_held-to.result) from to) r.offered
+unfolding point
+sees_edge-leaving-requires c = rw c.loop.invariant.1 (three_ranged c.requires c.loop.a _)
 
--- where the edge that leaves corner a was looked at, and where it is settled whether a is sought
-module _ (e : After-sees_edge-leaving) where
-  leaving_is : e.sees_edge-leaving.result
-      ≡ visible_at e.args.xs.now e.args.ys.now e.loop.a (owner e.partner-helper.result) e.args.p
-  leaving_is =
-      e.sees_edge-leaving.ensures
-      ∙ (λ i. sees_edge (e.loop.invariant.2 i) (e.point_held-to.ensures i) e.args.p)
-
-module _ (c : Joined-differ) where
-  agree : c.differ.result ≡ false → c.loop.entering ≡ c.sees_edge-leaving.result
-  agree e = tests_agree _ _ (sym c.differ.ensures ∙ e)
-
-  left_sought : c.if-differ.left ≡ sought_at c.loop.left c.loop.entering c.sees_edge-leaving.result c.loop.a
+module _ (c : Joined-entering-leaving) where
+  left_sought : c.if-entering-leaving.left
+      ≡ sought_at c.loop.left c.loop.entering c.sees_edge-leaving.result c.loop.a
   left_sought =
-      elim c.if-differ.branch [
-        | then-differ w ↦ w.left-is ∙ w.sought_at-left.ensures
-        | else-differ w ↦ w.left-is ∙ unsought c.loop.left c.loop.a (agree w.if-differ.false)
+      elim c.if-entering-leaving.branch [
+        | then-entering-leaving w ↦ w.left-is ∙ w.sought_at-left.ensures
+        | else-entering-leaving w ↦ w.left-is ∙ unsought c.loop.a _ _ _ w.if-entering-leaving.false
       ]
 
-  right_sought : c.if-differ.right
+  right_sought : c.if-entering-leaving.right
       ≡ sought_at c.loop.right c.sees_edge-leaving.result c.loop.entering c.loop.a
   right_sought =
-      elim c.if-differ.branch [
-        | then-differ w ↦ w.right-is ∙ w.sought_at-right.ensures
-        | else-differ w ↦ w.right-is ∙ unsought c.loop.right c.loop.a (sym (agree w.if-differ.false))
+      elim c.if-entering-leaving.branch [
+        | then-entering-leaving w ↦ w.right-is ∙ w.sought_at-right.ensures
+        | else-entering-leaving w ↦ w.right-is ∙ unsought_back c.loop.a _ _ _ w.if-entering-leaving.false
       ]
-
-pub plus_one_if-visible-requires : goal.plus_one_if-visible-requires
-plus_one_if-visible-requires c =
-    let inv = c.loop.invariant in
-    omega (arith, inv.1.few, inv.0.outline.accepted.is_sound.links.fits, c.loop-test.true)
-
-pub overflow_sub-own : goal.overflow_sub-own
-overflow_sub-own c = omega (arith, helper_is (goal.at.overflow_sub-own c).After-partner-helper)
 
 -- a corner was passed: the next one is not the first ..
 pub loop-preserved : goal.loop-preserved
-unfolding next_corner edge_link
+unfolding point
 loop-preserved c =
     let inv = c.loop.invariant in
-    let d = goal.at.loop-preserved c in
-    let n = d.After-partner-helper in
-    let j = d.Joined-differ in (
-      inv.0,
-      passed_one (lent inv.0) c.args.p inv.0.outline inv.1 (omega (arith, c.loop-test.true)) (next_is n)
-          (leaving_is d.After-sees_edge-leaving) (left_sought j) (right_sought j)
-          c.plus_one_if-visible.ensures (omega arith) c.if-b-start.false,
-      c.point_held-to.ensures,
-      omega (arith, helper_is n),
+    let m = c.args.map.now in
+    let j = (goal.at.loop-preserved c).Joined-entering-leaving in (
+      passed_one m c.args.p c.requires inv.0 (omega (arith, c.loop-test.true))
+          (next_read c.requires c.loop.a inv.0.on)
+          (c.sees_edge-leaving.ensures
+          ∙ ap (λ (q : Point). sees_edge q (point m (owner (get_or m.edge (own c.loop.a) 0))) c.args.p) inv.1)
+          (left_sought j) (right_sought j) (omega (arith, one_if_byte c.sees_edge-leaving.result)) (omega arith)
+          (λ e. c.if-b-start.false e),
+      refl,
     )
 
-pub returns-after-loop : goal.returns-after-loop
-returns-after-loop c =
-    let inv = c.loop.invariant in
-    at_end (lent inv.0) c.args.p inv.0.outline inv.1 (omega (arith, c.loop-test.false))
-
 -- .. or it is, and all is found
-pub returns-then-b-start : goal.returns-then-b-start
-unfolding next_corner edge_link
-returns-then-b-start c =
+pub returns : goal.returns
+unfolding point
+returns c =
     let inv = c.loop.invariant in
-    let d = goal.at.returns-then-b-start c in
-    let j = d.Joined-differ in
-    at_end (lent inv.0) c.args.p inv.0.outline
-    (passed_last (lent inv.0) c.args.p inv.0.outline inv.1 (omega (arith, c.loop-test.true))
-    (next_is d.After-partner-helper) (leaving_is d.After-sees_edge-leaving) (left_sought j) (right_sought j)
-    c.plus_one_if-visible.ensures c.if-b-start.true)
-    (omega arith)
+    let m = c.args.map.now in
+    (λ i. record { left = c.unwrap_or.ensures i; right = c.unwrap_or-2.ensures i; visible = c.loop-test.visible })
+    ∙ elim c.loop-test.branch [
+      | else-loop-test w ↦ rw (w.left-is, w.right-is, w.visible-is) (at_end m c.args.p c.requires inv.0 (omega (arith, w.loop-test.false)))
+      | then-loop-test+then-b-start w ↦
+          let left : w.if-entering-leaving.left ≡ sought_at c.loop.left c.loop.entering w.sees_edge-leaving.result c.loop.a =
+          elim w.if-entering-leaving.branch [
+            | then-entering-leaving v ↦ v.left-is ∙ v.sought_at-left.ensures
+            | else-entering-leaving v ↦ v.left-is ∙ unsought c.loop.a _ _ _ v.if-entering-leaving.false
+          ] in
+          let right : w.if-entering-leaving.right ≡ sought_at c.loop.right w.sees_edge-leaving.result c.loop.entering c.loop.a =
+          elim w.if-entering-leaving.branch [
+            | then-entering-leaving v ↦ v.right-is ∙ v.sought_at-right.ensures
+            | else-entering-leaving v ↦ v.right-is ∙ unsought_back c.loop.a _ _ _ v.if-entering-leaving.false
+          ] in
+          rw (w.left-is, w.right-is, w.visible-is)
+          (at_end m c.args.p c.requires
+          (passed_last m c.args.p c.requires inv.0 (omega (arith, w.loop-test.true))
+          (next_read c.requires c.loop.a inv.0.on)
+          (w.sees_edge-leaving.ensures
+          ∙ ap (λ (q : Point). sees_edge q (point m (owner (get_or m.edge (own c.loop.a) 0))) c.args.p) inv.1)
+          left right (omega (arith, one_if_byte w.sees_edge-leaving.result)) w.if-b-start.true)
+          (omega arith))
+    ]

@@ -1,64 +1,62 @@
--- `soundness::agree` meets its contract: each test that fails is one of the definition's, and with all others
--- passed the last decides.
-use mathlib.Core.Path.{◌≡◌, sym, ap, subst, ◌∙◌}
-use mathlib.Core.Bool.{Bool, true, false, not}
-use lib.Dec.{T, eqb→eq}
-use Rattle.finite.specs.Tests.{of_true, is_false, equal_by, same_test}
-use Rattle.finite.specs.Loops.{passes, fails}
+-- `soundness::agree` meets its contract: each test is one of the definition's, and stands after those before it.
+use mathlib.Core.Path.{◌≡◌, ◌∙◌}
+use mathlib.Core.Bool.{Bool, beq, ◌&&◌}
+use lib.Dec.{eqb}
+use borrow.Author.Tests.{eq-eqb, ne_eqb}
+use Rattle.finite.specs.Loops.{both_asked, one_asked}
+use Rattle.finite.specs.Lists.{same_by, same_list}
 use Rattle.model.specs.declared.Map.{Map}
+use Rattle.model.specs.Plane.{same_point}
 use Rattle.model.specs.Sound.{agree}
-use Rattle.model.proofs.Sound.{Agrees, agrees, agrees_by}
+use Rattle.soundness.proofs.Agreeing.{same_points, same_notes}
 use Rattle.soundness.proofs.agree.Goals as goal
+use Rattle.soundness.proofs.agree.Goals.{Joined-same-2, then-m-n, else-m-n, then-m-n-2, else-m-n-2, then-same, else-same, then-same-2, else-same-2}
 
--- the code found r for a test that agreeing maps pass
-refuted : (m n : Map) {r t : Bool} → r ≡ t → not r ≡ true → (Agrees m n → T t) → false ≡ agree m n
-refuted m n e fail f = sym (is_false (agree m n) (λ a. subst T (fails e fail) (f (agrees m n a))))
+module _ (m n : Map) where
+  abbrev numbers : Bool
+  numbers = eqb m.count n.count && eqb m.reference n.reference
 
-pub returns-then-m-n : goal.returns-then-m-n
-returns-then-m-n c = sym (is_false _ (λ t. c.if-m-n.true (eqb→eq _ _ (agrees _ _ t).counts)))
+  abbrev points : Bool
+  points = same_by same_point m.points n.points
 
-pub returns-then-m-n-2 : goal.returns-then-m-n-2
-returns-then-m-n-2 c = sym (is_false _ (λ t. c.if-m-n-2.true (eqb→eq _ _ (agrees _ _ t).references)))
+  abbrev helpers : Bool
+  helpers = same_by beq m.helpers n.helpers
 
-pub returns-then-not-same_coordinates : goal.returns-then-not-same_coordinates
-returns-then-not-same_coordinates c =
-    refuted _ _ c.same_coordinates.ensures (ap not c.if-not-same_coordinates.true) (λ a. a.xs)
+  abbrev edges : Bool
+  edges = same_list m.edge n.edge
 
-pub returns-then-not-same_coordinates-2 : goal.returns-then-not-same_coordinates-2
-returns-then-not-same_coordinates-2 c =
-    refuted _ _ c.same_coordinates-2.ensures (ap not c.if-not-same_coordinates-2.true) (λ a. a.ys)
+-- what is found before the notes are compared
+before : (c : Joined-same-2) → c.if-same-2.value ≡ (numbers c.args.m.now c.args.n.now && points c.args.m.now c.args.n.now && helpers c.args.m.now c.args.n.now && edges c.args.m.now c.args.n.now)
+before c =
+    let m = c.args.m.now in
+    let n = c.args.n.now in
+    let two : c.if-m-n.value ≡ numbers m n =
+    elim c.if-m-n.branch [
+      | then-m-n w ↦ rw (eq-eqb _ _ w.if-m-n.true) w.value-is
+      | else-m-n w ↦ one_asked _ w.value-is (w.value-is ∙ ne_eqb _ _ w.if-m-n.false)
+    ] in
+    let three : c.if-m-n-2.value ≡ (numbers m n && points m n) =
+    elim c.if-m-n-2.branch [
+      | then-m-n-2 w ↦ w.value-is ∙ both_asked two w.if-m-n-2.true (w.same.ensures ∙ same_points _ _)
+      | else-m-n-2 w ↦ w.value-is ∙ one_asked (points m n) two w.if-m-n-2.false
+    ] in
+    let four : c.if-same.value ≡ (numbers m n && points m n && helpers m n) =
+    elim c.if-same.branch [
+      | then-same w ↦ w.value-is ∙ both_asked three w.if-same.true w.same-then-same.ensures
+      | else-same w ↦ w.value-is ∙ one_asked (helpers m n) three w.if-same.false
+    ] in
+    elim c.if-same-2.branch [
+      | then-same-2 w ↦ w.value-is ∙ both_asked four w.if-same-2.true w.same-then-same-2.ensures
+      | else-same-2 w ↦ w.value-is ∙ one_asked (edges m n) four w.if-same-2.false
+    ]
 
-pub returns-then-not-same_tests : goal.returns-then-not-same_tests
-returns-then-not-same_tests c =
-    refuted _ _ c.same_tests.ensures (ap not c.if-not-same_tests.true) (λ a. a.helpers)
+pub returns-then-same-3 : goal.returns-then-same-3
+unfolding agree
+returns-then-same-3 c =
+    both_asked (before (goal.at.returns-then-same-3 c).Joined-same-2) c.if-same-3.true
+    (c.same-then-same-3.ensures ∙ same_notes _ _)
 
-pub returns-then-not-same_numbers : goal.returns-then-not-same_numbers
-returns-then-not-same_numbers c =
-    refuted _ _ c.same_numbers.ensures (ap not c.if-not-same_numbers.true) (λ a. a.edges)
-
-pub returns-then-not-same_bytes : goal.returns-then-not-same_bytes
-returns-then-not-same_bytes c =
-    refuted _ _ c.same_bytes.ensures (ap not c.if-not-same_bytes.true) (λ a. a.arrivals)
-
-pub returns-then-not-same_words : goal.returns-then-not-same_words
-returns-then-not-same_words c =
-    refuted _ _ c.same_words.ensures (ap not c.if-not-same_words.true) (λ a. a.lefts)
-
-pub returns : goal.returns
-returns c =
-    c.same_words-2.ensures
-    ∙ same_test _ _
-    (λ t.
-    agrees_by _ _
-    (record {
-      counts = equal_by _ _ c.if-m-n.false;
-      references = equal_by _ _ c.if-m-n-2.false;
-      xs = of_true _ (passes c.same_coordinates.ensures (ap not c.if-not-same_coordinates.false));
-      ys = of_true _ (passes c.same_coordinates-2.ensures (ap not c.if-not-same_coordinates-2.false));
-      helpers = of_true _ (passes c.same_tests.ensures (ap not c.if-not-same_tests.false));
-      edges = of_true _ (passes c.same_numbers.ensures (ap not c.if-not-same_numbers.false));
-      arrivals = of_true _ (passes c.same_bytes.ensures (ap not c.if-not-same_bytes.false));
-      lefts = of_true _ (passes c.same_words.ensures (ap not c.if-not-same_words.false));
-      rights = t;
-    }))
-    (λ t. (agrees _ _ t).rights)
+pub returns-else-same-3 : goal.returns-else-same-3
+unfolding agree
+returns-else-same-3 c =
+    one_asked _ (before (goal.at.returns-else-same-3 c).Joined-same-2) c.if-same-3.false

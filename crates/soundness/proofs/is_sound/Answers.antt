@@ -1,33 +1,35 @@
 -- `soundness::is_sound` meets its contract, for every map: where a point is refused the map is not sound, and
 -- else it is where it agrees with what its points build.
-use borrow.Author.Tests.{not-true, not-false}
-use mathlib.Core.Path.{sym, ap, ◌∙◌}
-use mathlib.Core.Bool.{false}
-use Rattle.finite.specs.Tests.{is_false}
+use mathlib.Core.Path.{◌≡◌, refl, sym, ap, ◌∙◌}
+use mathlib.Core.Bool.{Bool, false}
+use Rattle.std.specs.Prelude.{Option, Some, None}
+use Rattle.model.specs.declared.Map.{Map}
 use Rattle.model.specs.Maps.{point, empty_map, map_points}
-use Rattle.model.specs.Building.{built}
+use Rattle.model.specs.Building.{building_rules, built}
 use Rattle.model.specs.Sound.{agree, sound}
-use Rattle.model.proofs.Sound.{sound_is}
-use Rattle.model.proofs.Answers.{unless_none}
-use Rattle.soundness.proofs.Rebuilding.{empty_arrays}
+use Rattle.model.proofs.Answers.{unless_made}
+use Rattle.soundness.specs.Rebuilding.{rebuilt}
 use Rattle.soundness.proofs.is_sound.Goals as goal
 
-pub rebuild-anew-requires : goal.rebuild-anew-requires
-rebuild-anew-requires c = empty_arrays c.fixed_links-edge.ensures
+-- whether a map is what its points build
+agrees_with : Map → Option Map → Bool
+agrees_with m (Some n) = agree m n
+agrees_with m None = false
 
-pub returns-then-not-anew : goal.returns-then-not-anew
-unfolding point
-returns-then-not-anew c =
-    let m = c.args.map in
-    let part = not-true _ c.if-not-anew.true in
-    sym (is_false (sound m) (λ t. c.rebuild-anew.ensures.some_refused part (sound_is m t).free))
+decided : (m : Map) → agrees_with m (rebuilt (map_points m)) ≡ sound m
+unfolding agrees_with sound
+decided m =
+    unless_made (agrees_with m) (λ r. None) (λ r. false) (λ r. refl) (building_rules empty_map (map_points m))
+    (Some (built empty_map (map_points m)))
 
-pub returns : goal.returns
-unfolding sound point
-returns c =
-    let m = c.args.map in
-    let whole = not-false _ c.if-not-anew.false in
-    let anew = c.rebuild-anew.ensures in
-    c.agree.ensures
-    ∙ ap (agree m) (anew.is_built whole)
-    ∙ sym (unless_none (λ r. false) (agree m (built empty_map (map_points m))) (anew.all_free whole))
+pub returns-in-Some : goal.returns-in-Some
+unfolding agrees_with point
+returns-in-Some c =
+    let m = c.args.map.now in
+    c.agree.ensures ∙ ap (agrees_with m) (sym c.in-Some.is ∙ c.rebuild.ensures) ∙ decided m
+
+pub returns-in-None : goal.returns-in-None
+unfolding agrees_with point
+returns-in-None c =
+    let m = c.args.map.now in
+    ap (agrees_with m) (sym c.in-None.is ∙ c.rebuild.ensures) ∙ decided m

@@ -3,5 +3,5 @@ use Prim.Native.Nat.{◌-◌}
 use Rattle.corners.proofs.CornerLoops.{Listing}
 use Rattle.corners.proofs.listing.corners_of.Given as goal
 
-abbrev pub invariant-loop : goal.invariant-loop
-invariant-loop l = Listing l.map l.first l.points l.listed l.a (l.map.count - l.counter)
+abbrev pub invariant-loop-i : goal.invariant-loop-i
+invariant-loop-i l = Listing l.map l.first l.points l.i l.a (l.count - l.i)

@@ -4,4 +4,4 @@ use Rattle.corners.proofs.CornerLoops.{Seeking}
 use Rattle.corners.proofs.listing.lowest_corner.Given as goal
 
 abbrev pub invariant-loop : goal.invariant-loop
-invariant-loop l = Seeking l.xs l.ys l.edge l.count l.start l.lowest l.a (l.count - l.counter)
+invariant-loop l = Seeking l.map l.start l.lowest l.a (l.map.count - l.counter)

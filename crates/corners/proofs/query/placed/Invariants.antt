@@ -2,5 +2,5 @@
 use Rattle.corners.proofs.Views.{Scanning}
 use Rattle.corners.proofs.query.placed.Given as goal
 
-abbrev pub invariant-loop-i : goal.invariant-loop-i
-invariant-loop-i l = Scanning l.map l.p l.view l.i
+abbrev pub invariant-loop-a : goal.invariant-loop-a
+invariant-loop-a l = Scanning l.map l.p l.view l.a-index

@@ -1,12 +1,6 @@
--- `layout::numbers::put_number` meets its contract: the loop has written the bytes from `left` on.
-use mathlib.Core.Path.{◌≡◌}
-use lib.ListN.{length}
+-- `layout::numbers::put_number` meets its contract: the loop has written the bytes from `place` on.
 use Rattle.layout.proofs.Loops.{NumberPut}
 use Rattle.layout.proofs.numbers.put_number.Given as goal
 
-abbrev pub invariant-loop-left : goal.invariant-loop-left
-invariant-loop-left l =
-    NumberPut l.initial.lent l.width l.value l.left l.rest l.lent × (length l.lent ≡ length l.initial.lent)
-
-abbrev pub decreases-loop-left : goal.decreases-loop-left
-decreases-loop-left l = l.left
+abbrev pub invariant-loop-place : goal.invariant-loop-place
+invariant-loop-place l = NumberPut l.initial.lent l.width l.value l.place l.rest l.lent

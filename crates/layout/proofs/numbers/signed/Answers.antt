@@ -1,31 +1,19 @@
--- `layout::numbers::signed` meets its contract: by the half in which the number lies.
-use mathlib.Core.Path.{sym, ◌∙◌}
-use lib.IntN.{pos, ◌-ℤ◌}
-use Prim.Native.Nat.{◌+◌, ◌^◌}
-use native.Mathlib.Omega.{arith}
-use mir.Syntax.{w64}
-use Rattle.integers.specs.Range.{Number, literal, natural, sub}
-use Rattle.integers.proofs.Range.{back, fits}
-use Rattle.layout.proofs.Digits.{signed_low, signed_high}
+-- `layout::numbers::signed` meets its contract: the library reads the bits in two's complement.
+use Rattle.std.proofs.Common.{◌≡◌, refl, rules, ℕ, w32, w64}
+use Rattle.std.proofs.lemmas.Int.{to_z-of_z}
+use mir.Val.{to_z}
+use Rattle.model.specs.Saved.{signed}
 use Rattle.layout.proofs.numbers.signed.Goals as goal
-use Rattle.layout.proofs.numbers.signed.Goals.{Start}
 
-abbrev here : (c : Start) → Number (256 ^ 4) (pos c.args.number)
-here c = back w64 tt (natural c.args.number (omega arith))
+bits_are : (n : ℕ) → to_z w32 n ≡ signed n
+unfolding signed
+bits_are n = refl
 
-abbrev difference : (c : Start) →
-    Number (256 ^ 4 + 2 ^ 32) (pos c.args.number -ℤ pos (2 ^ 32))
-difference c = sub (here c) (literal (pos (2 ^ 32)))
-
-pub overflow_sub-result : goal.overflow_sub-result
-overflow_sub-result c = fits w64 tt (difference (goal.at.overflow_sub-result c).Start)
-
-pub returns-then-number-lt-HALF_WORD : goal.returns-then-number-lt-HALF_WORD
-returns-then-number-lt-HALF_WORD c =
-    (here (goal.at.returns-then-number-lt-HALF_WORD c).Start).is
-    ∙ sym (signed_low c.args.number (omega arith))
-
-pub returns-else-number-lt-HALF_WORD : goal.returns-else-number-lt-HALF_WORD
-returns-else-number-lt-HALF_WORD c =
-    (back w64 tt (difference (goal.at.returns-else-number-lt-HALF_WORD c).Start)).is
-    ∙ sym (signed_high c.args.number (omega arith) (omega arith))
+pub returns : goal.returns
+returns c =
+    rw (
+      to_z-of_z w64 c.from.result (search rules),
+      c.from.ensures,
+      to_z-of_z w32 c.cast_signed.result (search rules),
+      c.cast_signed.ensures,
+    ) (bits_are c.args.number)

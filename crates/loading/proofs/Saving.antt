@@ -16,10 +16,9 @@ use lib.Dec.{T, T_not}
 use Rattle.finite.specs.Tests.{decide, is_true, is_false, same_test}
 use Rattle.finite.specs.Lists.{same_list}
 use Rattle.finite.specs.ListLaws.{same_list_eq, same_list_refl}
+use Rattle.std.specs.declared.result.Result.TheVariants.{Ok}
 use Rattle.model.specs.declared.Point.{Point}
 use Rattle.model.specs.declared.Map.{Map}
-use Rattle.model.specs.declared.Outcome.{Outcome}
-use Rattle.model.specs.declared.Loaded.{Loaded}
 use Rattle.model.specs.Refusals.{unless, NoneApplies}
 use Rattle.model.specs.Maps.{empty_map}
 use Rattle.model.specs.Shape.{Shaped}
@@ -31,7 +30,6 @@ use Rattle.maps.proofs.Empty.{empty_sound}
 use Rattle.layout.proofs.Form.{IsVersion, version_small, version_in_file, in_form_is}
 use Rattle.saved.proofs.Places.{version_read}
 use Rattle.saved.proofs.Files.{saved_in_form, map_back, file_back, points_in}
-use Rattle.loading.specs.Opening.{served}
 use Rattle.hull.proofs.Building.{built_shaped}
 use Rattle.hull.proofs.Sound.{built_sound, sound_shaped}
 
@@ -81,18 +79,19 @@ module _ (s : List ℕ) where
 
 -- ---- saving and loading
 
-abbrev pub Accepted : List ℕ → Type 0
-Accepted s = (loaded s).outcome ≡ Outcome.Served
+-- the file is accepted, and its map is m
+abbrev pub Loads : List ℕ → Map → Type 0
+Loads s m = loaded s ≡ Ok m
 
 -- what an accepted file is
-pub record Taken (s : List ℕ) : Type 0 where
+pub record Taken (s : List ℕ) (m : Map) : Type 0 where
   pub in_form : T (file_in_form s)
   pub is_sound : T (sound (map_in s))
-  pub map_is : (loaded s).map ≡ map_in s
+  pub map_is : m ≡ map_in s
 
-accepted_is : (s : List ℕ) → Accepted s → Taken s
+accepted_is : (s : List ℕ) (m : Map) → Loads s m → Taken s m
 unfolding loaded unless
-accepted_is s a =
+accepted_is s m a =
     ⊎_elim
     (λ (t : T (file_in_form s)).
     ⊎_elim
@@ -100,7 +99,7 @@ accepted_is s a =
     record {
       in_form = t;
       is_sound = u;
-      map_is = rw (is_true (file_in_form s) t, is_true (sound (map_in s)) u);
+      map_is = let e = rw (is_true (file_in_form s) t, is_true (sound (map_in s)) u) at a in cc;
     })
     (λ (u : T (not (sound (map_in s)))).
     let e =
@@ -114,33 +113,31 @@ accepted_is s a =
     (decide (file_in_form s))
 
 -- "a saved map reads back as itself"
-pub load_of_save : {v : ℕ} → IsVersion v → (m : Map) → T (sound m) → loaded (saved_in v m) ≡ served m
+pub load_of_save : {v : ℕ} → IsVersion v → (m : Map) → T (sound m) → loaded (saved_in v m) ≡ Ok m
 unfolding loaded unless
 load_of_save {v} is m t =
     rw (saved_map is m t, is_true (file_in_form (saved_in v m)) (saved_form is m t), is_true (sound m) t)
 
 -- "an accepted file is the only file that its map writes", in its version
-pub save_of_load : (s : List ℕ) → Bytes s → Accepted s → saved_in (version_in_file s) (loaded s).map ≡ s
-save_of_load s b a =
-    let taken = accepted_is s a in
+pub save_of_load : (s : List ℕ) → Bytes s → (m : Map) → Loads s m → saved_in (version_in_file s) m ≡ s
+save_of_load s b m a =
+    let taken = accepted_is s m a in
     ap (saved_in (version_in_file s)) taken.map_is ∙ file_back b (in_form_is s taken.in_form).1
 
 -- no two accepted files of a version have the same map
-pub one_file_for_a_map : (s t : List ℕ) → Bytes s → Bytes t → Accepted s → Accepted t →
-    version_in_file s ≡ version_in_file t → (loaded s).map ≡ (loaded t).map → s ≡ t
-one_file_for_a_map s t b c p q v e =
-    sym (save_of_load s b p) ∙ (λ i. saved_in (v i) (e i)) ∙ save_of_load t c q
+pub one_file_for_a_map : (s t : List ℕ) → Bytes s → Bytes t → (m n : Map) → Loads s m → Loads t n →
+    version_in_file s ≡ version_in_file t → m ≡ n → s ≡ t
+one_file_for_a_map s t b c m n p q v e =
+    sym (save_of_load s b m p) ∙ (λ i. saved_in (v i) (e i)) ∙ save_of_load t c n q
 
 -- "each version's accepted files are the ones its own writer gives for maps sound in this new sense"
 pub files_of_version : {v : ℕ} → IsVersion v → (s : List ℕ) → Bytes s → (m : Map) →
-    ((loaded s ≡ served m) × (version_in_file s ≡ v)) ↔ (T (sound m) × (s ≡ saved_in v m))
+    (Loads s m × (version_in_file s ≡ v)) ↔ (T (sound m) × (s ≡ saved_in v m))
 files_of_version {v} is s b m = (
   λ h.
-      let a : Accepted s = ap (λ (l : Loaded). l.outcome) h.0 in
-      let map_is : (loaded s).map ≡ m = ap (λ (l : Loaded). l.map) h.0 in
-      let taken = accepted_is s a in (
-        subst (λ (n : Map). T (sound n)) (sym taken.map_is ∙ map_is) taken.is_sound,
-        sym (save_of_load s b a) ∙ (λ i. saved_in (h.1 i) (map_is i)),
+      let taken = accepted_is s m h.0 in (
+        subst (λ (n : Map). T (sound n)) (sym taken.map_is) taken.is_sound,
+        sym (save_of_load s b m h.0) ∙ (λ i. saved_in (h.1 i) m),
       ),
   λ h. (ap loaded h.1 ∙ load_of_save is m h.0, ap version_in_file h.1 ∙ version_read v m (version_small is)),
 )

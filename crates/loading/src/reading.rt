@@ -1,33 +1,32 @@
-// Reading the coordinates of a file that is long enough to hold them, in either version.
+// Reading the points of a file that is long enough to hold them, in either version.
 
-ghost use Rattle.std.specs.Prelude.{◌≡◌, ◌+◌, ◌*◌, ◌≤◌, ◌<◌, pos, length, replicate};
+ghost use Rattle.std.specs.Prelude.{◌≡◌, ◌+◌, ◌*◌, ◌≤◌, ◌<◌, length};
 ghost use Rattle.model.specs.Maps.{point_limit};
-ghost use Rattle.model.specs.Saved.{coordinate_in_file, coordinates_in_file, notes_place};
+ghost use Rattle.model.specs.Saved.{coordinate_in_file, header_length, notes_place, places_in_file};
 
 use layout::HEADER_LENGTH;
 use layout::numbers::{number_at, signed};
-use model::POINT_LIMIT;
+use model::{POINT_LIMIT, Point};
 
-// Writes the coordinates of all places in one direction, 0 for x and 1 for y, into an array that holds 0 everywhere.
-pub(crate) fn put_coordinates(
-    file: &[u8],
-    count: usize,
-    direction: usize,
-    coordinates: &mut [i64; POINT_LIMIT],
-)
-    requires count_le_point_limit { (count ≤ point_limit) × (notes_place count ≤ length file.now) × (direction ≤ 1) }
-    requires coordinates_value { coordinates.old ≡ replicate point_limit (pos 0) }
-    ensures { coordinates.new ≡ coordinates_in_file file.now count direction }
+// The points of a file of so many, and 0, 0 at every other place.
+pub(crate) fn points_in(file: &[u8], count: usize) -> [Point; POINT_LIMIT]
+    requires { (count ≤ point_limit) × (notes_place count ≤ length file.now) }
+    ensures { result ≡ places_in_file file.now count }
 {
+    let mut points = [Point { x: 0, y: 0 }; POINT_LIMIT];
     for k in 0..count {
-        coordinates[k] = coordinate_in(file, direction, k);
+        points[k] = Point {
+            x: coordinate_in(file, 2 * k),
+            y: coordinate_in(file, 2 * k + 1),
+        };
     }
+    points
 }
 
-// The coordinate of point k.
-fn coordinate_in(file: &[u8], direction: usize, k: usize) -> i64
-    requires { (k < point_limit) × (notes_place (k + 1) ≤ length file.now) × (direction ≤ 1) }
-    ensures { result ≡ coordinate_in_file file.now (2 * k + direction) }
+// Coordinate i of the points.
+fn coordinate_in(file: &[u8], i: usize) -> i64
+    requires { header_length + 4 * (i + 1) ≤ length file.now }
+    ensures { result ≡ coordinate_in_file file.now i }
 {
-    signed(number_at(file, HEADER_LENGTH + 4 * (2 * k + direction), 4))
+    signed(number_at(file, HEADER_LENGTH + 4 * i, 4))
 }

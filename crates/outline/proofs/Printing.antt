@@ -2,18 +2,20 @@
 -- not the last, and one that has none is; the report on a text.
 use mathlib.Core.Path.{◌≡◌, ◌∙◌}
 use mathlib.Core.Logic.{◌≢◌}
-use mathlib.Core.Bool.{true, false}
 use mathlib.Core.List.{List, []}
 use Prim.Native.Nat.{ℕ, ◌≤◌, ◌<◌}
 use native.Mathlib.Omega.{arith}
 use lib.ListN.{length}
+use Rattle.std.specs.declared.result.Result.{Result}
+use Rattle.std.specs.declared.result.Result.TheVariants.{Ok, Err}
+use Rattle.std.specs.Result.{IsErr, OnOk}
 use Rattle.reports.specs.declared.Summary.{Summary}
 use Rattle.lines.specs.declared.positions.Piece.{Piece}
 use Rattle.lines.specs.Lines.{line_count}
 use Rattle.reports.specs.Summaries.{Fits, Decides}
 use Rattle.reports.specs.Pieces.{WroteLines, Pieces, begun, continued}
 use Rattle.reports.proofs.Wholes.{piece_whole, piece_last, piece_further, pieces_are_the_report}
-use Rattle.outline.specs.declared.Printed.{Printed}
+use Rattle.model.specs.Report.{report}
 use Rattle.outline.specs.Printing.{PrintsLines, PrintsReport}
 
 -- as many bytes as the buffer of `print_lines` has
@@ -51,35 +53,42 @@ module _ {answers : List ℕ} {d : Summary} {buffer after : List ℕ} {from : �
   goes_further some = (piece_further answers d w some, one_printed.inside)
 
   -- a piece that has no bytes is the last
-  pub all_printed : Fits d → r.length ≡ 0 →
-      PrintsLines answers d (record { next = r.next; failed = false })
-  all_printed f none =
+  pub all_printed : {A E : Type 0} (a : A) → Fits d → r.length ≡ 0 → PrintsLines {E = E} answers d (Ok a)
+  all_printed a f none =
       record {
+        next = r.next;
         bytes = one_printed.bytes;
         pieces = one_printed.pieces;
-        whole = λ e. piece_last answers d w f (omega (arith, p.long)) p.inside none;
+        whole = piece_last answers d w f (omega (arith, p.long)) p.inside none;
       }
 
+-- nothing is said of the end where a call failed
+failed : {A E : Type 0} (P : Type 0) (r : Result A E) → IsErr r → OnOk r P
+failed P (Ok a) e = absurd (let z : ◌≡◌ {A = ℕ} 0 1 = cc in omega arith)
+failed P (Err x) e = tt
+
 -- a piece that cannot be written is not counted
-pub print_failed : {answers : List ℕ} {d : Summary} {buffer : List ℕ} {from : ℕ} →
-    Printing answers d buffer from →
-    PrintsLines answers d (record { next = from; failed = true })
-print_failed p =
+pub print_failed : {A E : Type 0} {answers : List ℕ} {d : Summary} {buffer : List ℕ} {from : ℕ} →
+    Printing answers d buffer from → (r : Result A E) → IsErr r → PrintsLines answers d r
+print_failed {d = d} {from = from} p r e =
     record {
+      next = from;
       bytes = p.bytes;
       pieces = p.pieces;
-      whole = λ e. absurd (let z : ◌≡◌ {A = ℕ} 0 1 = cc in omega arith);
+      whole = failed (from ≡ line_count d.ends) r e;
     }
 
 -- pieces to the end are the report
-pub report_printed : {text answers : List ℕ} {d : Summary} {r : Printed} →
+pub report_printed : {A E : Type 0} {text answers : List ℕ} {d : Summary} {r : Result A E} →
     Decides text answers d → PrintsLines answers d r → PrintsReport text r
-report_printed {text} {answers} {d} decides p =
+report_printed {A} {E} {text} {answers} {d} {r} decides p =
     record {
       answers = answers;
       decided = d;
       prints = p;
-      is_report =
-          λ e. pieces_are_the_report decides
-          (rw (p.whole e) at p.pieces);
+      is_report = go r p.whole;
     }
+  where
+    go : (r : Result A E) → OnOk r (p.next ≡ line_count d.ends) → OnOk r (p.bytes ≡ report text)
+    go (Ok a) e = pieces_are_the_report decides (rw e at p.pieces)
+    go (Err x) e = tt

@@ -1,22 +1,22 @@
 -- How far printing came, in the order of this page: by pieces of what was decided; by those of the
 -- report on a text. The logic keeps no trace of what is written: these are the pieces that were made.
-use Rattle.std.specs.Prelude.{◌≡◌, false, List, ℕ}
+use Rattle.std.specs.Prelude.{◌≡◌, List, ℕ, Result, OnOk}
 use Rattle.model.specs.Report.{report}
 use Rattle.reports.specs.declared.Summary.{Summary}
 use Rattle.lines.specs.Lines.{line_count}
 use Rattle.reports.specs.Pieces.{Pieces}
-use Rattle.outline.specs.declared.Printed.{Printed}
 
 -- pieces lead up to the position that was reached, with these bytes, and where nothing failed that is
 -- the end
-pub record PrintsLines (answers : List ℕ) (d : Summary) (r : Printed) : Type 0 where
+pub record PrintsLines {A E : Type 0} (answers : List ℕ) (d : Summary) (r : Result A E) : Type 0 where
+  pub next : ℕ
   pub bytes : List ℕ
-  pub pieces : Pieces answers d r.next bytes
-  pub whole : r.failed ≡ false → r.next ≡ line_count d.ends
+  pub pieces : Pieces answers d next bytes
+  pub whole : OnOk r (next ≡ line_count d.ends)
 
 -- so where nothing failed their bytes are the report on the text
-pub record PrintsReport (text : List ℕ) (r : Printed) : Type 0 where
+pub record PrintsReport {A E : Type 0} (text : List ℕ) (r : Result A E) : Type 0 where
   pub answers : List ℕ
   pub decided : Summary
   pub prints : PrintsLines answers decided r
-  pub is_report : r.failed ≡ false → prints.bytes ≡ report text
+  pub is_report : OnOk r (prints.bytes ≡ report text)

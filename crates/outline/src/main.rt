@@ -11,45 +11,28 @@
 // standard error, is a failure. Arguments are ignored.
 #![tactic(auto)]
 
-ghost use Rattle.std.specs.Prelude.{◌≡◌, ◌+◌, ◌≤◌, length};
+ghost use Rattle.std.specs.Prelude.{◌≡◌, ◌+◌, length};
 ghost use Rattle.model.specs.Report.{text_limit};
 ghost use Rattle.reports.specs.Summaries.{Fits};
-ghost use Rattle.outline.specs.Reading.{ReadMore, ReadText};
+ghost use Rattle.outline.specs.Reading.{ReadText};
 ghost use Rattle.outline.specs.Printing.{PrintsLines, PrintsReport};
 
 use reports::{Summary, decide, no_answers, write_lines};
+use std::io;
 use std::io::Read;
 use survey::lines::TEXT_LIMIT;
 
 // One byte more than a text may have: who has read so many knows that the text is too long.
 const READ_LIMIT: usize = TEXT_LIMIT + 1;
 
-// How many bytes of standard input were read, whether it ended there, and whether reading failed.
-#[derive(Clone, Copy)]
-struct Input {
-    length: usize,
-    ended: bool,
-    failed: bool,
-}
-
-// The position up to which the printed lines were written, and whether writing failed there.
-#[derive(Clone, Copy)]
-struct Printed {
-    next: usize,
-    failed: bool,
-}
-
 fn main(rt: HostRuntime) {
     let mut text = empty_text();
     let mut stdin = rt.stdin();
-    let input = read_text(&mut stdin, &mut text);
-    if input.failed {
+    let Ok(length) = read_text(&mut stdin, &mut text) else {
         let _ = rt.eprintln("outline: standard input cannot be read");
         return;
-    }
-    let length = input.length;
-    let printed = print_report(&rt, &text[..length]);
-    if printed.failed {
+    };
+    if print_report(&rt, &text[..length]).is_err() {
         let _ = rt.eprintln("outline: standard output cannot be written");
     }
 }
@@ -60,79 +43,44 @@ fn empty_text() -> [u8; READ_LIMIT]
     [0u8; READ_LIMIT]
 }
 
-// Reads standard input until it ends or the list is full.
-fn read_text(stdin: &mut impl Read, text: &mut [u8]) -> Input
-    ensures { ReadText text.old text.new result }
+// Reads standard input until it ends or the list is full: how many bytes were read. Each read is given
+// the rest of the list, so that what was read before it is kept.
+fn read_text<R: Read>(stdin: &mut R, text: &mut [u8]) -> io::Result<usize>
+    ensures { ReadText (R.remaining stdin.old) (R.remaining stdin.new) text.old text.new result }
 {
     let mut filled = 0;
     while filled < text.len() {
-        let read = read_more(stdin, text, filled);
-        if read.failed {
-            return read;
+        let more = stdin.read(&mut text[filled..])?;
+        filled += more;
+        if more == 0 {
+            break;
         }
-        if read.ended {
-            return read;
-        }
-        filled = read.length;
     }
-    Input {
-        length: filled,
-        ended: false,
-        failed: false,
-    }
-}
-
-// One read into the rest of the list: what was read before it is kept.
-fn read_more(stdin: &mut impl Read, text: &mut [u8], filled: usize) -> Input
-    requires { filled ≤ length text.old }
-    ensures { ReadMore text.old filled text.new result }
-{
-    let got = stdin.read(&mut text[filled..]);
-    match got {
-        Ok(more) => Input {
-            length: filled + more,
-            ended: more == 0,
-            failed: false,
-        },
-        Err(_) => Input {
-            length: filled,
-            ended: false,
-            failed: true,
-        },
-    }
+    Ok(filled)
 }
 
 // Prints the report on a text.
-fn print_report(rt: &impl Print, text: &[u8]) -> Printed
+fn print_report(rt: &impl Print, text: &[u8]) -> io::Result<()>
     ensures { PrintsReport text.now result }
 {
     let mut answers = no_answers();
     let decided = decide(text, &mut answers);
-    print_lines(rt, &answers, decided)
+    print_lines(rt, &answers, &decided)
 }
 
 // Prints what was decided piece by piece, each of whole lines.
-fn print_lines(rt: &impl Print, answers: &[u32], decided: Summary) -> Printed
-    requires { Fits decided }
-    ensures { PrintsLines answers.now decided result }
+fn print_lines(rt: &impl Print, answers: &[u32], decided: &Summary) -> io::Result<()>
+    requires { Fits decided.now }
+    ensures { PrintsLines answers.now decided.now result }
 {
     let mut buffer = empty_buffer();
     let mut from = 0;
     loop {
         let piece = write_lines(answers, decided, from, &mut buffer);
-        let length = piece.length;
-        if length == 0 {
-            return Printed {
-                next: piece.next,
-                failed: false,
-            };
+        if piece.length == 0 {
+            return Ok(());
         }
-        if rt.write_all(&buffer[..length]).is_err() {
-            return Printed {
-                next: from,
-                failed: true,
-            };
-        }
+        rt.write_all(&buffer[..piece.length])?;
         from = piece.next;
     }
 }

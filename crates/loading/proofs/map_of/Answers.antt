@@ -1,35 +1,118 @@
--- `loading::map_of` meets its contract: one map is made of the arrays, where it is the file's.
-use borrow.Author.Tests.{not-true, not-false}
-use mathlib.Core.Path.{sym, ap, ◌∙◌}
+-- `loading::map_of` meets its contract: where a point is refused the file's map is not sound, and else it is where
+-- what the points build writes the file.
+use mathlib.Core.Path.{◌≡◌, sym, ap, subst, ◌∙◌}
+use mathlib.Core.Bool.{Bool, true, false}
+use mathlib.Core.List.{List}
+use Prim.Native.Nat.{ℕ}
 use native.Mathlib.Omega.{arith}
+use Rattle.std.specs.Prelude.{Option, Some, None, ok_or}
+use Rattle.std.specs.Result.{result_ok}
+use Rattle.std.proofs.lemmas.Result.{err_from_is_err_and}
+use Rattle.std.specs.declared.result.Result.TheVariants.{Ok}
+use Rattle.finite.specs.Tests.{of_true, is_false}
+use Rattle.finite.specs.Lists.{same_list}
+use Rattle.finite.specs.Bounded.{table, length_table}
 use Rattle.model.specs.declared.Refusal.{Refusal}
-use Rattle.model.specs.declared.Outcome.{Outcome}
 use Rattle.model.specs.declared.Map.{Map}
-use Rattle.model.specs.declared.Loaded.{Loaded}
-use Rattle.layout.proofs.Form.{in_form_is}
-use Rattle.loading.specs.Opening.{served}
-use Rattle.soundness.proofs.Rebuilding.{empty_arrays}
+use Rattle.model.specs.Refusals.{NoneApplies}
+use Rattle.model.specs.Maps.{point_in, empty_map}
+use Rattle.model.specs.Shape.{Shaped}
+use Rattle.model.specs.Building.{building_rules}
+use Rattle.model.specs.Sound.{sound}
+use Rattle.model.specs.Saved.{Bytes, count_in_file, places_in_file, points_in_file, built_in_file, saved_in, saved_length, map_in}
+use Rattle.layout.proofs.Form.{Form, version_in_file, in_form_is}
+use Rattle.hull.proofs.Building.{built_points}
+use Rattle.soundness.specs.Rebuilding.{rebuilt}
+use Rattle.soundness.proofs.Rebuilding.{rebuilt_some, rebuilt_none}
 use Rattle.loading.proofs.Opening.{opened_sound, opened_unsound}
+use Rattle.loading.proofs.Saving.{points_free, map_built, anew_shaped, writes_decides}
 use Rattle.loading.proofs.map_of.Goals as goal
+use Rattle.loading.proofs.map_of.Goals.{After-rebuild, Start}
+
+form : (s : Start) → Form (version_in_file s.args.file.now) s.args.file.now
+form s = (in_form_is s.args.file.now s.requires).1
 
 pub number_at-count-requires : goal.number_at-count-requires
-number_at-count-requires c = let f = (in_form_is c.args.file.now c.requires).1 in
+number_at-count-requires c = let f = form (goal.at.number_at-count-requires c).Start in
     (omega (arith, f.whole), omega arith)
 
-pub read-anew-requires : goal.read-anew-requires
-read-anew-requires c = record {
-  t = (c.requires, c.number_at-count.ensures.0);
-  no_dart_value = empty_arrays c.fixed_links-edge.ensures;
-}
+pub points_in-points-requires : goal.points_in-points-requires
+points_in-points-requires c = let f = form (goal.at.points_in-points-requires c).Start in
+    (omega (arith, c.number_at-count.ensures.0, f.few), omega (arith, c.number_at-count.ensures.0, f.whole))
 
--- the refusal beside a map
-abbrev beside : Map → Loaded
-beside m = record { outcome = Outcome.Refused Refusal.NotSound; map = m }
+pub number_at-version-requires : goal.number_at-version-requires
+number_at-version-requires c = let f = form (goal.at.number_at-version-requires c).Start in
+    (omega (arith, f.whole), omega arith)
 
-pub returns-then-not-anew : goal.returns-then-not-anew
-returns-then-not-anew c = ap beside c.empty_map.ensures
-    ∙ opened_unsound _ (sym c.read-anew.ensures.decided ∙ not-true _ c.if-not-anew.true)
+-- the points of the file were offered anew
+module _ (c : After-rebuild) where
+  abbrev file : List ℕ
+  file = c.args.file.now
+
+  bytes : Bytes file
+  bytes = record { small = λ i. (c.type_inv.file i).fits }
+
+  made : c.rebuild.result ≡ rebuilt (points_in_file file)
+  made =
+      let counted = c.number_at-count.ensures.0 in
+      let points = c.points_in-points.ensures ∙ ap (places_in_file file) counted in
+      c.rebuild.ensures ∙ (λ i. rebuilt (table (counted i) (point_in (points i))))
+
+  -- where one of them was refused
+  stopped : c.rebuild.result ≡ None → sound (map_in file) ≡ false
+  stopped e = is_false (sound (map_in file)) (λ t. rebuilt_none (points_in_file file) (sym made ∙ e) (points_free file t))
+
+  -- where all of them were accepted
+  module _ {m : Map} (e : c.rebuild.result ≡ Some m) where
+    both : NoneApplies (building_rules empty_map (points_in_file file)) × (m ≡ built_in_file file)
+    both = rebuilt_some (points_in_file file) m (sym made ∙ e)
+
+    counted : m.count ≡ count_in_file file
+    counted =
+        ap (λ (n : Map). n.count) both.1 ∙ built_points (points_in_file file)
+        ∙ length_table (count_in_file file) (point_in (places_in_file file (count_in_file file)))
+
+    shaped : Shaped m
+    shaped = subst Shaped (sym both.1) (anew_shaped file bytes c.requires both.0)
+
+    decided : {v : ℕ} → v ≡ version_in_file file → {r : Bool} → r ≡ same_list (saved_in v m) file → r ≡ sound (map_in file)
+    decided is found =
+        found ∙ (λ i. same_list (saved_in (is i) (both.1 i)) file)
+        ∙ writes_decides file bytes c.requires both.0
+
+    map_is : sound (map_in file) ≡ true → m ≡ map_in file
+    map_is t = both.1 ∙ sym (map_built file (of_true (sound (map_in file)) t))
+
+pub returns-in_err-map : goal.returns-in_err-map
+returns-in_err-map c =
+    let d = (goal.at.returns-in_err-map c).After-rebuild in
+    let none : c.rebuild.result ≡ None = c.ok_or.ensures.ok_part ∙ ap result_ok c.in_err-map.was in
+    let p = err_from_is_err_and c.from_residual.result c.from_residual.ensures.1 in
+    rw (p.1, p.2)
+    (c.in_err-map.ensures.value ∙ ap (λ (o : Option Map). ok_or o Refusal.NotSound) none
+    ∙ opened_unsound (file d) (stopped d none))
+
+pub writes-requires-clause-shaped : goal.writes-requires-clause-shaped
+writes-requires-clause-shaped c =
+    shaped (goal.at.writes-requires-clause-shaped c).After-rebuild
+    (c.ok_or.ensures.ok_part ∙ ap result_ok c.in_ok-map.was)
+
+pub writes-requires-clause-file_len : goal.writes-requires-clause-file_len
+writes-requires-clause-file_len c =
+    let d = (goal.at.writes-requires-clause-file_len c).After-rebuild in
+    let n = counted d (c.ok_or.ensures.ok_part ∙ ap result_ok c.in_ok-map.was) in
+    (form (goal.at.writes-requires-clause-file_len c).Start).whole
+    ∙ (λ i. saved_length (sym c.number_at-version.ensures.0 i) (sym n i))
+
+pub returns-then-not-writes : goal.returns-then-not-writes
+returns-then-not-writes c =
+    let d = (goal.at.returns-then-not-writes c).After-rebuild in
+    let some = c.ok_or.ensures.ok_part ∙ ap result_ok c.in_ok-map.was in
+    opened_unsound (file d) (sym (decided d some c.number_at-version.ensures.0 c.writes.ensures) ∙ c.if-not-writes.true)
 
 pub returns : goal.returns
-returns c = let whole = not-false _ c.if-not-anew.false in
-    ap served (c.read-anew.ensures.map_is whole) ∙ opened_sound _ (sym c.read-anew.ensures.decided ∙ whole)
+returns c =
+    let d = (goal.at.returns c).After-rebuild in
+    let some = c.ok_or.ensures.ok_part ∙ ap result_ok c.in_ok-map.was in
+    let whole = sym (decided d some c.number_at-version.ensures.0 c.writes.ensures) ∙ c.if-not-writes.false in
+    ap Ok (map_is d some whole) ∙ opened_sound (file d) whole

@@ -5,8 +5,8 @@ use Rattle.lines.specs.Lines.{line_count}
 use Rattle.outline.proofs.Printing.{Printing}
 use Rattle.outline.proofs.print_lines.Given as goal
 
-abbrev pub invariant-loop-decided : goal.invariant-loop-decided
-invariant-loop-decided g l = Printing l.answers l.decided l.buffer l.from
+abbrev pub invariant-loop-buffer : goal.invariant-loop-buffer
+invariant-loop-buffer g l = Printing l.answers l.decided l.buffer l.from
 
-abbrev pub decreases-loop-decided : goal.decreases-loop-decided
-decreases-loop-decided g l = line_count l.decided.ends - l.from
+abbrev pub decreases-loop-buffer : goal.decreases-loop-buffer
+decreases-loop-buffer g l = line_count l.decided.ends - l.from

@@ -1,38 +1,25 @@
--- `outline::read_text` meets its contract: a read that fails or that comes to the end of the input is
--- the last, any other brings further, and after the loop the list is full.
-use mathlib.Core.Path.{◌≡◌}
-use Prim.Native.Nat.{ℕ}
+-- `outline::read_text` meets its contract: a read that fails or that brings nothing is the last, any other
+-- brings further, and after the loop the list is full.
 use native.Mathlib.Omega.{arith}
-use Rattle.outline.proofs.Reading.{none_read, one_read, read_ends, all_read}
+use Rattle.outline.proofs.Reading.{none_read, one_read, none_more, read_failed}
 use Rattle.outline.proofs.read_text.Goals as goal
 
 pub loop-filled-init : goal.loop-filled-init
-loop-filled-init g c = none_read _
+loop-filled-init g c = none_read _ _
 
-pub read_more-read-requires : goal.read_more-read-requires
-read_more-read-requires g c = omega (arith, c.loop-filled-test.true)
-
-pub returns-then-read : goal.returns-then-read
-returns-then-read g c =
-    read_ends c.loop-filled.invariant c.read_more-read.ensures
-    (λ e h. let z : ◌≡◌ {A = ℕ} 0 1 = cc c.if-read.true in omega arith)
-
-pub returns-then-read-2 : goal.returns-then-read-2
-returns-then-read-2 g c =
-    read_ends c.loop-filled.invariant c.read_more-read.ensures
-    (λ e h. let z : ◌≡◌ {A = ℕ} 0 1 = cc c.if-read-2.true in omega arith)
-
-pub loop-filled-smaller : goal.loop-filled-smaller
-loop-filled-smaller g c =
-    let r = c.read_more-read.ensures in
-    omega (
-      arith,
-      r.goes_on c.if-read.false c.if-read-2.false,
-      (one_read c.loop-filled.invariant r).inside,
-    )
+pub returns-in_err-more : goal.returns-in_err-more
+returns-in_err-more g c =
+    read_failed c.loop-filled.invariant c.read.new.buf (omega arith) c.from_residual.result c.from_residual.ensures.0
 
 pub loop-filled-preserved : goal.loop-filled-preserved
-loop-filled-preserved g c = one_read c.loop-filled.invariant c.read_more-read.ensures
+loop-filled-preserved g c =
+    one_read c.loop-filled.invariant c.read.new.buf (omega arith) c.in_ok-more.more
+    (omega (arith, c.in_ok-more.ensures.bound)) (omega (arith, c.in_ok-more.ensures.bound))
+    c.in_ok-more.ensures.bytes.0
 
-pub returns : goal.returns
-returns g c = all_read c.loop-filled.invariant c.loop-filled-test.false
+pub returns-then-more-eq0 : goal.returns-then-more-eq0
+returns-then-more-eq0 g c =
+    none_more c.loop-filled.invariant c.read.new.buf (omega arith) c.in_ok-more.more
+    (omega (arith, c.in_ok-more.ensures.bound)) (omega (arith, c.in_ok-more.ensures.bound))
+    c.in_ok-more.ensures.bytes.0 c.if-more-eq0.true
+    (c.in_ok-more.ensures.bytes.1 c.if-more-eq0.true (omega arith))

@@ -1,10 +1,7 @@
 -- `polygons::read_corners` meets its contract, by the word at the front of the text.
-use mathlib.Core.Path.{◌≡◌, sym, ◌∙◌}
-use mathlib.Core.Bool.{Bool}
-use Rattle.finite.specs.Tests.{of_true}
+use Rattle.std.proofs.Common.{◌≡◌, refl, sym, ◌∙◌, Bool}
 use Rattle.model.specs.Spelling.{bytes}
-use Rattle.polygons.proofs.Held.{counted_read, ring_read, none_read, other_read, spells_none, spells_point}
-use Rattle.polygons.proofs.Held.{spells_line, spells_ring, spells_other}
+use Rattle.polygons.proofs.Held.{counted_read, ring_read, none_read, other_read, spells_none, spells_point, spells_line, spells_ring, spells_other}
 use Rattle.polygons.proofs.read_corners.Goals as goal
 
 -- what a test told of a word that was sought
@@ -15,41 +12,26 @@ pub returns-then-is_word : goal.returns-then-is_word
 unfolding bytes
 returns-then-is_word c = none_read c.requires (spells_none _ (told c.is_word.ensures c.if-is_word.true))
 
-pub read_between-listed-requires : goal.read_between-listed-requires
-unfolding bytes
-read_between-listed-requires c =
-    record { t = of_true _ (told c.starts_with.ensures c.if-starts_with.true); ready = c.requires }
-
 pub returns-then-starts_with : goal.returns-then-starts_with
 unfolding bytes
 returns-then-starts_with c =
-    counted_read c.requires c.read_between-listed.ensures 1 c.counted.ensures
+    counted_read c.requires c.read_between.ensures 1 c.counted.ensures
     (spells_point _ (told c.is_word.ensures c.if-is_word.false)
     (told c.starts_with.ensures c.if-starts_with.true))
-
-pub read_between-listed-requires-then-starts_with-2 : goal.read_between-listed-requires-then-starts_with-2
-unfolding bytes
-read_between-listed-requires-then-starts_with-2 c =
-    record { t = of_true _ (told c.starts_with-2.ensures c.if-starts_with-2.true); ready = c.requires }
 
 pub returns-then-starts_with-2 : goal.returns-then-starts_with-2
 unfolding bytes
 returns-then-starts_with-2 c =
-    counted_read c.requires c.read_between-listed-then-starts_with-2.ensures 2
+    counted_read c.requires c.read_between-then-starts_with-2.ensures 2
     c.counted-then-starts_with-2.ensures
     (spells_line _ (told c.is_word.ensures c.if-is_word.false)
     (told c.starts_with.ensures c.if-starts_with.false)
     (told c.starts_with-2.ensures c.if-starts_with-2.true))
 
-pub read_between-listed-requires-then-starts_with-3 : goal.read_between-listed-requires-then-starts_with-3
-unfolding bytes
-read_between-listed-requires-then-starts_with-3 c =
-    record { t = of_true _ (told c.starts_with-3.ensures c.if-starts_with-3.true); ready = c.requires }
-
 pub returns-then-starts_with-3 : goal.returns-then-starts_with-3
 unfolding bytes
 returns-then-starts_with-3 c =
-    ring_read c.requires c.read_between-listed-then-starts_with-3.ensures c.point_at.ensures c.ring.ensures
+    ring_read c.requires c.read_between-listed.ensures refl c.ring.ensures
     (spells_ring _ (told c.is_word.ensures c.if-is_word.false)
     (told c.starts_with.ensures c.if-starts_with.false)
     (told c.starts_with-2.ensures c.if-starts_with-2.false)

@@ -2,14 +2,13 @@
 #![tactic(auto)]
 
 ghost use Rattle.std.specs.Prelude.{◌≡◌};
-ghost use Rattle.model.specs.Shape.{Shaped};
 ghost use Rattle.model.specs.Arrival.{admitted, arrive, arrived, later_point};
 ghost use Rattle.sight.specs.Requires.{Accepted, OutlineFor};
 
 use admission::admission;
 use linking::{pair, put_alone, splice};
-use model::{Arrival, Map, Offered, Point, Refusal};
-use sight::seen_from;
+use model::{Arrival, Map, Offered, Point, Refusal, SoundMap};
+use sight::{Outlook, seen_from};
 
 // How a point that frees no dart arrives, as it is noted.
 const FIRST: u8 = 0;
@@ -17,10 +16,10 @@ const FIRST: u8 = 0;
 const INSIDE: u8 = 2;
 
 // A point offered to a sound map: the map after it and how the point arrived, or why it is refused.
-pub fn admitted(map: &Map, p: Point) -> Result<Offered, Refusal>
-    requires { Shaped map.now }
-    ensures { result ≡ admitted map.now p }
+pub fn admitted(sound: SoundMap<'_>, p: Point) -> Result<Offered, Refusal>
+    ensures { result ≡ admitted sound.entry.map.now p }
 {
+    let map = sound.map;
     admission(&map.points[..map.count], p)?;
     let mut grown = *map;
     let arrival = grow(&mut grown, p);
@@ -51,7 +50,7 @@ fn grow_later(map: &mut Map, p: Point) -> Arrival
     requires { OutlineFor map.old p }
     ensures { arrived result map.new ≡ later_point map.old p }
 {
-    let seen = seen_from(map, p);
+    let seen = seen_from(Outlook { map, point: p });
     if seen.visible == 0 {
         put_alone(map, INSIDE, p);
         return Arrival::Inside;

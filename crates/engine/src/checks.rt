@@ -1,23 +1,29 @@
 // What entries check before they call an inner function.
 
-ghost use Rattle.std.specs.Prelude.{◌≡◌};
+ghost use Rattle.std.specs.Prelude.{◌≡◌, [], ◌∷◌};
 ghost use Rattle.model.specs.Answers.{outcome_by};
-ghost use Rattle.model.specs.Reading.{dart_rules};
+ghost use Rattle.model.specs.Reading.{dart_rules, unsound};
 
-use maps::reading::is_present;
-use model::{Map, Outcome, Refusal};
+use model::{Map, Refusal};
 use soundness::is_sound;
 
-// Whether a map is sound and a dart of it present.
-pub(crate) fn check_dart(map: Map, dart: usize) -> Outcome
-    ensures { result ≡ outcome_by (dart_rules map dart) }
+// A map that is not sound is refused: number 1.
+pub fn check_map(map: &Map) -> Result<(), Refusal>
+    ensures { result ≡ outcome_by (unsound map.now ∷ []) }
 {
     if !is_sound(map) {
-        return Outcome::Refused(Refusal::NotSound);
+        return Err(Refusal::NotSound);
     }
-    let count = map.count;
-    if !is_present(&map.helpers, count, dart) {
-        return Outcome::Refused(Refusal::NoDart);
+    Ok(())
+}
+
+// And so is a dart that is absent: numbers 1 and 6.
+pub fn check_dart(map: &Map, dart: usize) -> Result<(), Refusal>
+    ensures { result ≡ outcome_by (dart_rules map.now dart) }
+{
+    check_map(map)?;
+    if !map.is_present(dart) {
+        return Err(Refusal::NoDart);
     }
-    Outcome::Served
+    Ok(())
 }

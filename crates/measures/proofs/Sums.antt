@@ -1,25 +1,26 @@
 -- A fan summed up triangle by triangle, in the order of this page: what is summed up and what is still ahead
 -- make up the whole, and neither is negative; the start, at the last corner, whose edge leads to the first;
--- one triangle more; the end; the same over corners that are read from arrays.
+-- one triangle more; the end; the same over the corners of a map.
 use mathlib.Core.Path.{◌≡◌, sym, ap, subst, ◌∙◌}
 use mathlib.Core.List.{List, [], ◌∷◌, ◌++◌, map, map-append}
 use Prim.Native.Nat.{ℕ, suc, ◌+◌, ◌-◌, ◌≤◌, ◌<◌}
 use native.Mathlib.Numerals.{add-one}
 use native.Mathlib.Omega.{arith}
 use lib.IntN.{ℤ, pos, ◌+ℤ◌, +ℤ_idl, +ℤ_idr, +ℤ_assoc}
-use lib.ListN.{get_or, take, drop, drop_of_length-le}
-use lib.Seq.{take-suc, drop-cons, get_or-take, length-take-le}
+use lib.ListN.{length, get_or, take, drop, drop_of_length-le}
+use lib.Seq.{take-suc, take_all, drop-cons}
 use lib.Signed.{◌≤ℤ◌, ≤ℤ_refl}
 use Rattle.integers.specs.Order.{order, +ℤ_splits}
 use Rattle.integers.specs.Sign.{sum_nonneg}
 use Rattle.integers.specs.Range.{Bounded, splits_bounded}
 use Rattle.finite.specs.Cycles.{Chain, Cycle, cycle_rotate}
 use Rattle.model.specs.declared.Point.{Point}
+use Rattle.model.specs.declared.Map.{Map}
 use Rattle.model.specs.Plane.{orientation}
-use Rattle.model.specs.Maps.{point_at}
+use Rattle.model.specs.Maps.{point}
 use Rattle.model.specs.Area.{path_sum, fan, area_limit}
 use Rattle.plane.proofs.Fan.{fan_swap, path_sum_nonneg}
-use Rattle.measures.specs.Areas.{corners_at, Fanned}
+use Rattle.measures.specs.Areas.{Fanned}
 
 -- q sees no right turn from a to b
 abbrev NotRight : Point → Point → Point → Type 0
@@ -72,57 +73,53 @@ module _ (q : Point) where
           limit,
         )
 
--- ---- corners read from arrays
+-- ---- the corners of a map
 
 -- the way is at corner a, with the corners from place i on ahead
-pub record SummingAt (xs ys : List ℤ) (corners : List ℕ) (n : ℕ) (q : Point) (total : ℤ) (a i : ℕ) : Type 0 where
-  way : Summing q (corners_at xs ys corners n) total (point_at xs ys a) (map (point_at xs ys) (drop i (take n corners)))
+pub record SummingAt (m : Map) (corners : List ℕ) (q : Point) (total : ℤ) (a i : ℕ) : Type 0 where
+  way : Summing q (map (point m) corners) total (point m a) (map (point m) (drop i corners))
 
-module _ {xs ys : List ℤ} {corners : List ℕ} {n : ℕ} {q : Point} (f : Fanned xs ys corners n q) where
+module _ {m : Map} {corners : List ℕ} {q : Point} (f : Fanned m corners q) where
   -- the corners up to the last one, and the last one
-  last_apart : corners_at xs ys corners n ≡
-      map (point_at xs ys) (take (n - 1) corners) ++ point_at xs ys (get_or corners (n - 1) 0) ∷ []
+  last_apart : map (point m) corners ≡
+      map (point m) (take (length corners - 1) corners) ++ point m (get_or corners (length corners - 1) 0) ∷ []
   last_apart =
+      let n = length corners in
       let count : n ≡ suc (n - 1) = omega (arith, f.some) in
-      ap (λ (k : ℕ). corners_at xs ys corners k) count
-      ∙ (ap (map (point_at xs ys)) (take-suc corners (n - 1) 0 (omega (arith, f.some, f.fits)))
-      ∙ map-append (point_at xs ys) (take (n - 1) corners) (get_or corners (n - 1) 0 ∷ []))
+      ap (map (point m))
+      (sym (take_all n corners (omega arith)) ∙ ap (λ (k : ℕ). take k corners) count
+      ∙ take-suc corners (n - 1) 0 (omega (arith, f.some)))
+      ∙ map-append (point m) (take (n - 1) corners) (get_or corners (n - 1) 0 ∷ [])
 
-  pub at_first : SummingAt xs ys corners n q (pos 0) (get_or corners (n - 1) 0) 0
+  pub at_first : SummingAt m corners q (pos 0) (get_or corners (length corners - 1) 0) 0
   at_first =
+      let last = point m (get_or corners (length corners - 1) 0) in
       record {
         way =
-            subst (λ (s : List Point). Summing q s (pos 0) (point_at xs ys (get_or corners (n - 1) 0)) s) (sym last_apart)
-            (summing_first q (map (point_at xs ys) (take (n - 1) corners)) (point_at xs ys (get_or corners (n - 1) 0))
+            subst (λ (s : List Point). Summing q s (pos 0) last s) (sym last_apart)
+            (summing_first q (map (point m) (take (length corners - 1) corners)) last
             (subst (Cycle (NotRight q)) last_apart f.terms));
       }
 
-  module _ {total : ℤ} {a i : ℕ} (h : SummingAt xs ys corners n q total a i) where
+  module _ {total : ℤ} {a i : ℕ} (h : SummingAt m corners q total a i) where
     pub within : Bounded area_limit total
     within = summing_bounded q h.way f.limit
 
     -- the corners ahead are these
-    ahead_are : (t : List ℕ) → drop i (take n corners) ≡ t →
-        Summing q (corners_at xs ys corners n) total (point_at xs ys a) (map (point_at xs ys) t)
+    ahead_are : (t : List ℕ) → drop i corners ≡ t →
+        Summing q (map (point m) corners) total (point m a) (map (point m) t)
     ahead_are t e =
-        subst
-        (λ (u : List ℕ). Summing q (corners_at xs ys corners n) total (point_at xs ys a) (map (point_at xs ys) u)) e
-        h.way
+        subst (λ (u : List ℕ). Summing q (map (point m) corners) total (point m a) (map (point m) u)) e h.way
 
-    pub one_more : i < n →
-        SummingAt xs ys corners n q
-        (total +ℤ orientation q (point_at xs ys a) (point_at xs ys (get_or corners i 0))) (get_or corners i 0) (i + 1)
+    pub one_more : i < length corners →
+        SummingAt m corners q (total +ℤ orientation q (point m a) (point m (get_or corners i 0))) (get_or corners i 0)
+        (i + 1)
     one_more l =
         record {
           way =
               rw add-one
-              (summing_more q
-              (ahead_are (get_or corners i 0 ∷ drop (suc i) (take n corners))
-              (drop-cons (take n corners) i 0 (omega (arith, length-take-le n corners f.fits))
-              ∙ ap (λ (b : ℕ). b ∷ drop (suc i) (take n corners)) (get_or-take n corners i 0 l))));
+              (summing_more q (ahead_are (get_or corners i 0 ∷ drop (suc i) corners) (drop-cons corners i 0 l)));
         }
 
-    pub at_end : n ≤ i → total ≡ fan q (corners_at xs ys corners n)
-    at_end l =
-        summing_last q
-        (ahead_are [] (drop_of_length-le (take n corners) {i = i} (omega (arith, length-take-le n corners f.fits))))
+    pub at_end : length corners ≤ i → total ≡ fan q (map (point m) corners)
+    at_end l = summing_last q (ahead_are [] (drop_of_length-le corners {i = i} l))

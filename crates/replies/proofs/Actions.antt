@@ -6,34 +6,32 @@
 use mathlib.Core.Path.{◌≡◌, refl, sym, ap, subst, ◌∙◌}
 use mathlib.Core.Logic.{◌≢◌}
 use mathlib.Core.Bool.{Bool, not, ◌||◌}
-use mathlib.Core.List.{List, [], ◌∷◌, ◌++◌, map, map-append}
+use mathlib.Core.List.{List, [], ◌∷◌, ◌++◌, map}
 use Prim.Native.Nat.{ℕ, zero, suc, ◌-◌}
 use lib.Dec.{T}
 use lib.ListN.{length, length-map, drop, take}
 use lib.Seq.{take-append_seam}
+use Rattle.std.specs.declared.result.Result.{Result}
+use Rattle.std.specs.declared.result.Result.TheVariants.{Ok, Err}
 use Rattle.finite.specs.Tests.{is_true}
 use Rattle.model.specs.declared.Refusal.{Refusal}
 use Rattle.model.specs.declared.Point.{Point}
 use Rattle.model.specs.declared.Map.{Map}
-use Rattle.model.specs.declared.Offered.{Offered}
-use Rattle.model.specs.declared.Removed.{Removed}
 use Rattle.model.specs.Refusals.{Rule, ◌when◌, unless, NoneApplies, nor}
 use Rattle.model.specs.Sound.{sound}
-use Rattle.model.specs.Arrival.{arrive, refusing}
-use Rattle.model.specs.Offers.{offer_rules, offer_call, offer}
-use Rattle.model.specs.Removal.{keeping, remove_call, remove}
-use Rattle.model.specs.History.{Run, extended, Action, offering, taking_back, taken_back, acted, performed_from, performed, offered_point}
+use Rattle.model.specs.Arrival.{arrive}
+use Rattle.model.specs.Offers.{offer_rules, offer_call, offer, map_after}
+use Rattle.model.specs.Removal.{before_last, remove_call, remove, map_left}
+use Rattle.model.specs.History.{Run, Action, offering, taking_back, taken_back_by, taken_back, acted, performed_from, performed, offered_point}
 use Rattle.model.specs.Lent.{and_short, is_short, lent_after}
 use Rattle.model.specs.Saved.{map_in, saved, file_in_form, loaded}
 use Rattle.model.proofs.Sound.{sound_is}
 use Rattle.model.proofs.Answers.{unless_none}
-use Rattle.model.proofs.Answers.{none_both, refuses_some, rule_passes, unless_made}
+use Rattle.model.proofs.Answers.{none_both, rule_passes, unless_made}
 use Rattle.hull.proofs.Sound.{sound_shaped}
-use Rattle.hull.proofs.History.{offer_either}
-use Rattle.hull.proofs.Actions.{taken_either, performed_more, performed_sound}
+use Rattle.hull.proofs.Actions.{performed_more, performed_sound}
 use Rattle.layout.proofs.Form.{is_saved}
 use Rattle.saved.proofs.Files.{saved_in_form, map_back}
-use Rattle.loading.specs.Opening as opening
 use Rattle.loading.proofs.Saving.{load_of_save}
 use Rattle.replies.specs.Served.{number_by, Served}
 use Rattle.replies.specs.Opened.{of_file}
@@ -41,7 +39,8 @@ use Rattle.replies.specs.Replies.{Offering, meaning_of, arrival_told, from_file,
 use Rattle.replies.specs.Chains.{file_after}
 use Rattle.replies.specs.Actions.{file_before, file_acted, Called, offered, removed}
 use Rattle.replies.specs.Actions.{CallsActed, begun, served, refused, stands, standing_from, standing}
-use Rattle.replies.proofs.Chains.{none_numbered, some_numbered}
+use Rattle.reports.proofs.Histories.{extended_map}
+use Rattle.replies.proofs.Chains.{none_numbered, some_numbered, served_adds}
 
 -- ---- what a call leaves
 
@@ -81,8 +80,8 @@ module _ (s : List ℕ) where
   offer_writes p o = record { code = o.code; list = o.list }
 
   removal_writes : {before after : List ℕ} {k : ℕ} → Served (from_file removal_reply s) before after k →
-      Writes (of_file s (λ m. (remove_call m).rules)) (saved (remove_call (map_in s)).value.map)
-      (is_short (saved (remove_call (map_in s)).value.map) before) before after k
+      Writes (of_file s (λ m. (remove_call m).rules)) (saved (remove_call (map_in s)).value)
+      (is_short (saved (remove_call (map_in s)).value) before) before after k
   removal_writes o = record { code = o.code; list = o.list }
 
 pub served_leaves : {s : List ℕ} {act : Action} {before after : List ℕ} → Called s act before after 0 →
@@ -103,16 +102,16 @@ module _ (m : Map) (t : T (sound m)) where
   map_kept = map_back is_saved (sound_shaped m t) (λ e. (sound_is m t).is_built)
 
   -- a call whose refusals keep the map: what it leaves of the file is the file of the map after it
-  file_of : {A : Type 0} (map_of : A → Map) (refuse : Refusal → A) (rules : List Rule) (value : A) →
-      ((r : Refusal) → map_of (refuse r) ≡ m) →
-      unless (λ r. saved m) ((Refusal.BadFile when not (file_in_form (saved m))) ∷ rules) (saved (map_of value)) ≡
-      saved (map_of (unless refuse rules value))
-  file_of map_of refuse rules value keeps =
+  file_of : {A : Type 0} (map_of : Result A Refusal → Map) (rules : List Rule) (value : A) →
+      ((r : Refusal) → map_of (Err r) ≡ m) →
+      unless (λ r. saved m) ((Refusal.BadFile when not (file_in_form (saved m))) ∷ rules) (saved (map_of (Ok value))) ≡
+      saved (map_of (unless Err rules (Ok value)))
+  file_of map_of rules value keeps =
       sym
       (rule_passes (λ r. saved m) (Refusal.BadFile when not (file_in_form (saved m))) rules
-      (saved (map_of value))
+      (saved (map_of (Ok value)))
       (ap not (is_true (file_in_form (saved m)) (saved_in_form is_saved (sound_shaped m t))))
-      (unless_made (λ a. saved (map_of a)) refuse (λ r. saved m) (λ r. ap saved (keeps r)) rules value))
+      (unless_made (λ a. saved (map_of a)) Err (λ r. saved m) (λ r. ap saved (keeps r)) rules (Ok value)))
 
   -- where no rule of a call on the file applies, none of the same call on the map does
   free_of_map : (rules : Map → List Rule) {s : List ℕ} → s ≡ saved m → NoneApplies (of_file s rules) →
@@ -122,16 +121,32 @@ module _ (m : Map) (t : T (sound m)) where
       go : NoneApplies (of_file (saved m) rules) → NoneApplies (rules m)
       go (nor n rest) = subst (λ (n : Map). NoneApplies (rules n)) map_kept rest
 
+-- the map of a run goes on as the removal gives it
+taken_back_map : (r : Run) → (taken_back r).map ≡ map_left r.map (remove r.map)
+unfolding taken_back taken_back_by map_left
+taken_back_map r = go (remove r.map)
+  where
+    go : (o : Result Map Refusal) → (taken_back_by r o).map ≡ map_left r.map o
+    go (Ok m) = refl
+    go (Err x) = refl
+
 module _ (r : Run) (t : T (sound r.map)) where
+  file_of_offer : (p : Point) → file_after (saved r.map) p ≡ saved (map_after r.map (offer r.map p))
+  unfolding file_after offer map_after
+  file_of_offer p =
+      let m = r.map in
+      rw (map_kept m t) (file_of m t (map_after m) (offer_rules m p) (arrive m p) (λ x. refl))
+
+  file_of_removal : file_before (saved r.map) ≡ saved (map_left r.map (remove r.map))
+  unfolding file_before remove map_left
+  file_of_removal =
+      let m = r.map in
+      rw (map_kept m t) (file_of m t (map_left m) (remove_call m).rules (before_last m) (λ x. refl))
+
   file_of_action : (act : Action) → file_acted (saved r.map) act ≡ saved (acted r act).map
-  unfolding file_acted file_after file_before acted extended taken_back offer remove
-  file_of_action (offering p) =
-      let m = r.map in
-      rw (map_kept m t) (file_of m t (λ (o : Offered). o.map) (refusing m) (offer_rules m p) (arrive m p) (λ r. refl))
-  file_of_action taking_back =
-      let m = r.map in
-      rw (map_kept m t)
-      (file_of m t (λ (o : Removed). o.map) (keeping m) (remove_call m).rules (remove_call m).value (λ r. refl))
+  unfolding file_acted acted
+  file_of_action (offering p) = file_of_offer p ∙ ap saved (sym (extended_map r p))
+  file_of_action taking_back = file_of_removal ∙ ap saved (sym (taken_back_map r))
 
 -- ---- the points of a history
 
@@ -143,23 +158,24 @@ map_take f (suc n) (x ∷ xs) = ap (λ ys. f x ∷ ys) (map_take f n xs)
 abbrev points : Run → List Point
 points r = map offered_point r.history
 
+-- a removal that is not refused takes back the last point
+served_takes : (r : Run) → NoneApplies (remove_call r.map).rules →
+    points (taken_back r) ≡ take (length (points r) - 1) (points r)
+unfolding taken_back taken_back_by remove
+served_takes r free =
+    ap (λ (o : Result Map Refusal). points (taken_back_by r o)) (unless_none Err (Ok (before_last r.map)) free)
+    ∙ map_take offered_point (length r.history - 1) r.history
+    ∙ ap (λ (n : ℕ). take (n - 1) (points r)) (sym (length-map r.history offered_point))
+
 -- a served call brings its point, or takes back the last one
 module _ (r : Run) (t : T (sound r.map)) {s : List ℕ} (same : s ≡ saved r.map) where
   served_stands : {act : Action} {before after : List ℕ} → Called s act before after 0 →
       points (acted r act) ≡ stands (points r) act
-  unfolding acted stands offered_point
+  unfolding acted stands
   served_stands (offered {p} o) =
-      offer_either (λ (q : Run). points q ≡ points r ++ p ∷ []) r p
-      (λ t a. map-append offered_point r.history _)
-      (λ refusal f. absurd (refuses_some f
-      (free_of_map r.map t (λ m. (offer_call m p).rules) same (free (offer_writes s p o) refl))))
+      served_adds r p (free_of_map r.map t (λ m. (offer_call m p).rules) same (free (offer_writes s p o) refl))
   served_stands (removed o) =
-      taken_either (λ (q : Run). points q ≡ take (length (points r) - 1) (points r)) r
-      (λ t some.
-      map_take offered_point (length r.history - 1) r.history
-      ∙ ap (λ (n : ℕ). take (n - 1) (points r)) (sym (length-map r.history offered_point)))
-      (λ refusal f. absurd (refuses_some f
-      (free_of_map r.map t (λ m. (remove_call m).rules) same (free (removal_writes s o) refl))))
+      served_takes r (free_of_map r.map t (λ m. (remove_call m).rules) same (free (removal_writes s o) refl))
 
 standing_more_from : (ps : List Point) (acts : List Action) (act : Action) →
     standing_from ps (acts ++ act ∷ []) ≡ stands (standing_from ps acts) act
@@ -184,7 +200,7 @@ acted_run (refused act c o n) = acted_run c
 
 -- that map is what is loaded from it,
 pub acted_load : {s : List ℕ} {acts : List Action} → CallsActed s acts →
-    loaded s ≡ opening.served (performed acts).map
+    loaded s ≡ Ok (performed acts).map
 acted_load {acts} c =
     ap loaded (acted_run c) ∙ load_of_save is_saved (performed acts).map (performed_sound acts)
 

@@ -12,6 +12,8 @@ use native.Mathlib.Omega.{arith}
 use lib.Dec.{T}
 use lib.ListN.{length, drop, take}
 use lib.Seq.{take-append_seam}
+use Rattle.std.specs.declared.result.Result.{Result}
+use Rattle.std.specs.declared.result.Result.TheVariants.{Ok, Err}
 use Rattle.finite.specs.Tests.{is_true}
 use Rattle.model.specs.declared.Refusal.{Refusal}
 use Rattle.model.specs.declared.Point.{Point}
@@ -20,19 +22,19 @@ use Rattle.model.specs.declared.Offered.{Offered}
 use Rattle.model.specs.Refusals.{number, Rule, ◌when◌, unless, NoneApplies, nor}
 use Rattle.model.specs.Maps.{empty_map}
 use Rattle.model.specs.Sound.{sound}
-use Rattle.model.specs.Arrival.{arrive, refusing}
-use Rattle.model.specs.Offers.{offer_rules, offer_call, offer}
-use Rattle.model.specs.History.{Run, extended, run_from, run, offered_point}
+use Rattle.model.specs.Arrival.{arrive}
+use Rattle.model.specs.Offers.{offer_rules, offer_call, offer, map_after}
+use Rattle.model.specs.History.{Run, extended_by, extended, run_from, run, offered_point}
 use Rattle.model.specs.Saved.{map_in, saved, file_in_form, loaded}
 use Rattle.model.proofs.Sound.{sound_is}
 use Rattle.model.proofs.Answers.{RulesDecide, refuses, serves, unless_decides, unless_none}
-use Rattle.model.proofs.Answers.{unless_refuses, none_both, refuses_some, rule_passes, unless_made}
+use Rattle.model.proofs.Answers.{unless_refuses, none_both, rule_passes, unless_made}
 use Rattle.hull.proofs.Sound.{sound_shaped}
-use Rattle.hull.proofs.History.{offer_either, run_sound}
+use Rattle.hull.proofs.History.{run_sound}
 use Rattle.layout.proofs.Form.{is_saved}
 use Rattle.saved.proofs.Files.{saved_in_form, map_back}
-use Rattle.loading.specs.Opening as opening
 use Rattle.loading.proofs.Saving.{load_of_save}
+use Rattle.reports.proofs.Histories.{extended_map}
 use Rattle.model.specs.Lent.{and_short, is_short}
 use Rattle.replies.specs.Opened.{of_file}
 use Rattle.replies.specs.Replies.{Offering, meaning_of, arrival_told}
@@ -113,16 +115,16 @@ module _ (m : Map) (t : T (sound m)) where
   map_kept : map_in (saved m) ≡ m
   map_kept = map_back is_saved (sound_shaped m t) (λ e. (sound_is m t).is_built)
 
-  file_of_offer : (p : Point) → file_after (saved m) p ≡ saved (offer m p).map
-  unfolding file_after offer
+  file_of_offer : (p : Point) → file_after (saved m) p ≡ saved (map_after m (offer m p))
+  unfolding file_after offer map_after
   file_of_offer p =
       rw map_kept
       (sym
       (rule_passes (λ r. saved m) (Refusal.BadFile when not (file_in_form (saved m)))
       (offer_rules m p) (saved (arrive m p).map)
       (ap not (is_true (file_in_form (saved m)) (saved_in_form is_saved (sound_shaped m t))))
-      (unless_made (λ (o : Offered). saved o.map) (refusing m) (λ r. saved m) (λ r. refl)
-      (offer_rules m p) (arrive m p))))
+      (unless_made (λ (o : Result Offered Refusal). saved (map_after m o)) Err (λ r. saved m) (λ r. refl)
+      (offer_rules m p) (Ok (arrive m p)))))
 
   -- where no rule of an offer to the file applies, none of an offer to the map does
   free_of_map : (p : Point) {s : List ℕ} → s ≡ saved m →
@@ -143,6 +145,15 @@ one_more : (ps : List Point) (p : Point) → run (ps ++ p ∷ []) ≡ extended (
 unfolding run
 one_more = run_more (record { map = empty_map; history = [] })
 
+-- an offer that is not refused adds its point
+pub served_adds : (r : Run) (p : Point) → NoneApplies (offer_rules r.map p) →
+    map offered_point (extended r p).history ≡ map offered_point r.history ++ p ∷ []
+unfolding extended extended_by offered_point offer
+served_adds r p free =
+    ap (λ (o : Result Offered Refusal). map offered_point (extended_by r p o).history)
+    (unless_none Err (Ok (arrive r.map p)) free)
+    ∙ map-append offered_point r.history _
+
 -- the file that the caller has is that of the map of the served offers, of which `always_balanced`
 -- speaks,
 pub calls_run : {s : List ℕ} {ps : List Point} → Calls s ps → s ≡ saved (run ps).map
@@ -153,11 +164,12 @@ calls_run (served {s} {ps} p c o) =
     ∙ take-append_seam (file_after s p) _
     ∙ ap (λ (u : List ℕ). file_after u p) (calls_run c)
     ∙ file_of_offer (run ps).map (run_sound ps) p
+    ∙ ap saved (sym (extended_map (run ps) p))
     ∙ ap (λ (r : Run). saved r.map) (sym (one_more ps p))
 calls_run (refused p c o n) = calls_run c
 
 -- that map is what is loaded from it,
-pub calls_load : {s : List ℕ} {ps : List Point} → Calls s ps → loaded s ≡ opening.served (run ps).map
+pub calls_load : {s : List ℕ} {ps : List Point} → Calls s ps → loaded s ≡ Ok (run ps).map
 calls_load {ps} c = ap loaded (calls_run c) ∙ load_of_save is_saved (run ps).map (run_sound ps)
 
 -- and the accepted offers of the run are the served ones
@@ -165,14 +177,7 @@ pub calls_history : {s : List ℕ} {ps : List Point} → Calls s ps → map offe
 unfolding run run_from offered_point
 calls_history begun = refl
 calls_history (served {s} {ps} p c o) =
-    subst Lists (sym (one_more ps p))
-    (offer_either Lists (run ps) p
-    (λ t a. map-append offered_point (run ps).history _ ∙ ap (λ (qs : List Point). qs ++ p ∷ []) (calls_history c))
-    (λ refusal f. absurd (refuses_some f free)))
-  where
-    free : NoneApplies (offer_rules (run ps).map p)
-    free = free_of_map (run ps).map (run_sound ps) p (calls_run c) (served_free s p o refl)
-
-    Lists : Run → Type 0
-    Lists r = map offered_point r.history ≡ ps ++ p ∷ []
+    ap (λ (r : Run). map offered_point r.history) (one_more ps p)
+    ∙ served_adds (run ps) p (free_of_map (run ps).map (run_sound ps) p (calls_run c) (served_free s p o refl))
+    ∙ ap (λ (qs : List Point). qs ++ p ∷ []) (calls_history c)
 calls_history (refused p c o n) = calls_history c

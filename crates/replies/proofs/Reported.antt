@@ -9,18 +9,17 @@ use Prim.Native.Nat.{ℕ, ◌≤◌, ◌<◌}
 use borrow.Author.Tests.{lt-ltb, le-ltb}
 use lib.Dec.{T}
 use lib.ListN.{length, set}
+use Rattle.std.specs.declared.result.Result.TheVariants.{Ok, Err}
 use Rattle.finite.specs.Tests.{either_way, of_true}
 use Rattle.finite.specs.Bounded.{lt_or_ge}
 use Rattle.finite.specs.Overwriting.{over}
 use Rattle.model.specs.declared.Refusal.{Refusal}
-use Rattle.model.specs.declared.Outcome.{Outcome}
-use Rattle.model.specs.declared.Written.{Written}
 use Rattle.model.specs.Refusals.{number, NoneApplies, nor, Rule, ◌when◌, unless}
-use Rattle.model.specs.Answers.{outcome_by}
 use Rattle.model.specs.Lent.{is_short, and_short, lent_after, Wrote, WroteBy}
-use Rattle.model.proofs.Answers.{outcome_refuses, outcome_serves, served_none, unless_append}
+use Rattle.model.proofs.Answers.{unless_append}
+use Rattle.engine.proofs.Rules.{refused_by, free_by, value_by, served_by}
 use Rattle.replies.specs.Served.{number_by, ServedBoth}
-use Rattle.replies.proofs.Serving.{answer_outcome, stored, room_serves}
+use Rattle.replies.proofs.Serving.{stored, room_serves}
 
 -- every refusal leaves the same
 unless_same : {A : Type 0} (rules : List Rule) (a : A) → unless (λ r. a) rules a ≡ a
@@ -33,10 +32,6 @@ unless_same (rule ∷ rules) a =
 last_passes : (rules : List Rule) (rule : Rule) → NoneApplies (rules ++ rule ∷ []) → ¬ T rule.applies
 last_passes [] rule (nor n rest) = n
 last_passes (first ∷ rules) rule (nor n rest) = last_passes rules rule rest
-
-abbrev written_outcome : Written → Outcome
-written_outcome (Written.Length n) = Outcome.Served
-written_outcome (Written.Refused r) = Outcome.Refused r
 
 module _ {A : Type 0} (rules : List Rule) (u before : List A) (before' : List ℕ) where
   abbrev v : List ℕ
@@ -74,27 +69,16 @@ module _ {A : Type 0} (rules : List Rule) (u before : List A) (before' : List �
       (unwritten u before) (unwritten v before')
 
   -- a result that was written where there is room
-  module _ {short : Bool} (same : either_short ≡ short) {after : List A} {w : Written}
-      (p : WroteBy rules short u before after w) where
-    outcome : written_outcome w ≡ outcome_by (and_short rules short)
-    outcome =
-        ap written_outcome p.answer
-        ∙ answer_outcome written_outcome Written.Refused (λ r. refl) (and_short rules short)
-        (Written.Length (length u)) refl
-
-    pub by_refused : {k : ℕ} {r : Refusal} → w ≡ Written.Refused r → k ≡ number r →
-        ServedBoth rules u v before after before' before' k
-    by_refused {k} {r} e n =
-        let f = sym (ap written_outcome e) ∙ outcome in
+  module _ {short : Bool} (same : either_short ≡ short) {after : List A} where
+    pub by_refused : {r : Refusal} → WroteBy rules short u before after (Err r) →
+        ServedBoth rules u v before after before' before' (number r)
+    by_refused p =
         both_by short same
-        (n ∙ outcome_refuses number 0 _ r f)
+        (refused_by _ _ p.answer number 0)
         p.list
-        (outcome_refuses (λ x. before') (over v before') _ r f)
+        (refused_by _ _ p.answer (λ x. before') (over v before'))
 
-    module _ {n : ℕ} (e : w ≡ Written.Length n) where
-      served : Outcome.Served ≡ outcome_by (and_short rules short)
-      served = sym (ap written_outcome e) ∙ outcome
-
+    module _ {n : ℕ} (p : WroteBy rules short u before after (Ok n)) where
       -- the last rule does not apply, so there is room for the length
       pub length_room : 1 ≤ length before'
       length_room =
@@ -102,35 +86,29 @@ module _ {A : Type 0} (rules : List Rule) (u before : List A) (before' : List �
           (λ (l : length before' < 1).
           let is_so : short ≡ true =
           sym same ∙ ap (λ (b : Bool). is_short u before || b) (lt-ltb (length before') 1 l) ∙ or-true (is_short u before) in
-          absurd (last_passes rules _ (served_none (and_short rules short) served) (of_true short is_so)))
+          absurd (last_passes rules _ (free_by _ _ p.answer) (of_true short is_so)))
           (λ (l : 1 ≤ length before'). l)
           (lt_or_ge (length before') 1)
 
       pub by_written : ServedBoth rules u v before after before' (set before' 0 n) 0
       by_written =
-          let is = sym e ∙ p.answer ∙ sym (outcome_serves Written.Refused (Written.Length (length u)) _ served) in
-          let size : n ≡ length u = cc in
           both_by short same
-          (outcome_serves number 0 _ served)
+          (served_by _ _ p.answer number 0)
           p.list
-          (ap (set before' 0) size ∙ (room_serves length_room (stored v before' length_room)).1
-          ∙ outcome_serves (λ x. before') (over v before') _ served)
+          (ap (set before' 0) (value_by _ _ p.answer) ∙ (room_serves length_room (stored v before' length_room)).1
+          ∙ served_by _ _ p.answer (λ x. before') (over v before'))
 
   -- .. in a list of its own, where there is room for the length
-  module _ (room : 1 ≤ length before') {after : List A} {w : Written}
-      (p : Wrote rules u before after w) where
+  module _ (room : 1 ≤ length before') where
     enough : either_short ≡ is_short u before
     enough =
         ap (λ (b : Bool). is_short u before || b) (le-ltb (length before') 1 room) ∙ or-false
         (is_short u before)
 
-    as_by : WroteBy rules (is_short u before) u before after w
-    as_by = record { answer = p.answer.equal; list = p.list }
+    pub result_refused : {after : List A} {r : Refusal} → Wrote rules u before after (Err r) →
+        ServedBoth rules u v before after before' before' (number r)
+    result_refused p = by_refused enough (record { answer = p.answer.equal; list = p.list })
 
-    pub result_refused : {k : ℕ} {r : Refusal} → w ≡ Written.Refused r → k ≡ number r →
-        ServedBoth rules u v before after before' before' k
-    result_refused e n = by_refused enough as_by e n
-
-    pub result_written : {n : ℕ} → w ≡ Written.Length n →
+    pub result_written : {after : List A} {n : ℕ} → Wrote rules u before after (Ok n) →
         ServedBoth rules u v before after before' (set before' 0 n) 0
-    result_written e = by_written enough as_by e
+    result_written p = by_written enough (record { answer = p.answer.equal; list = p.list })

@@ -23,7 +23,7 @@ use Rattle.replies.specs.Chains.{file_after}
 unfoldable pub file_before : List ℕ → List ℕ
 file_before s =
     unless (λ r. s) (of_file s (λ m. (remove_call m).rules))
-    (saved (remove_call (map_in s)).value.map)
+    (saved (remove_call (map_in s)).value)
 
 unfoldable pub file_acted : List ℕ → Action → List ℕ
 file_acted s (offering p) = file_after s p

@@ -5,12 +5,12 @@
 use Rattle.std.specs.Prelude.{cond, List, [], ◌∷◌, ◌++◌, map, ℕ, suc, ℤ, nat_abs, length, take, drop, replicate}
 use Prim.Native.String.{String}
 use lib.Text.{eqt}
+use Rattle.std.specs.declared.result.Result.TheVariants.{Ok}
 use Rattle.model.specs.declared.Point.{Point}
 use Rattle.model.specs.declared.Map.{Map}
 use Rattle.model.specs.declared.Kind.{Kind}
 use Rattle.model.specs.declared.Link.{Link}
 use Rattle.model.specs.declared.Offered.{Offered}
-use Rattle.model.specs.declared.Written.{Written}
 use Rattle.model.specs.Answers.{Answer, Call, written_answer}
 use Rattle.model.specs.Reading.{counts_call, orbit_call, walk_call, walker_call}
 use Rattle.model.specs.Placing.{place_call}
@@ -72,7 +72,7 @@ mark_told = told marks 0 0
 
 -- what a call means where no rule applies
 abbrev pub meaning_of : {A : Type 0} → Call A → Answer
-meaning_of c = c.meaning c.value
+meaning_of c = c.meaning (Ok c.value)
 
 -- a call by its own rules, and what is made of its answer
 abbrev pub reply : {A B : Type 0} → (Answer → List B) → Call A → Reply B
@@ -84,7 +84,7 @@ from_file f s = record { rules = of_file s (λ m. (f m).rules); values = (f (map
 
 -- how long a result is that is written into a list of its own
 abbrev pub length_told : {A : Type 0} → List A → List ℕ
-length_told u = naturals (written_answer (Written.Length (length u)))
+length_told u = naturals (written_answer (Ok (length u)))
 
 abbrev pub counts_reply : Map → Reply ℕ
 counts_reply m = reply naturals (counts_call m)
@@ -109,7 +109,7 @@ mark_reply ps claim = reply mark_told (mark_call ps claim)
 
 -- the bytes of the map before the last point
 abbrev pub removal_reply : Map → Reply ℕ
-removal_reply m = record { rules = (remove_call m).rules; values = saved (remove_call m).value.map }
+removal_reply m = record { rules = (remove_call m).rules; values = saved (remove_call m).value }
 
 -- .. of a sound map, which does not get number 1
 abbrev pub sound_removal : Map → Reply ℕ

@@ -1,12 +1,11 @@
 // The numbers that stand for the words of answers, and the values after them.
 
-ghost use Rattle.std.specs.Prelude.{◌≡◌};
+ghost use Rattle.std.specs.Prelude.{◌≡◌, Ok};
 ghost use Rattle.model.specs.Plane.{at};
-ghost use Rattle.model.specs.declared.Walked.{Walked};
 ghost use Rattle.model.specs.Answers.{arrival_answer, placed_answer, walked_answer};
 ghost use Rattle.replies.specs.Replies.{arrival_told, place_told, walk_told};
 
-use model::{Arrival, Placed, Point, refusal_number};
+use model::{Arrival, Placed, Point};
 use orbits::{Ending, Walk};
 
 // The point of two coordinates.
@@ -18,18 +17,18 @@ pub fn point(x: i64, y: i64) -> Point
 
 // The last dart of a walk, the number of its ending, and its moves.
 pub fn walk_values(walk: Walk) -> [u64; 3]
-    ensures { result ≡ walk_told (walked_answer (Walked.Ended walk)) }
+    ensures { result ≡ walk_told (walked_answer (Ok walk)) }
 {
-    let ending = walk.ending;
-    match ending {
-        Ending::Home => [walk.last as u64, 0, walk.moves as u64],
-        Ending::Loose => [walk.last as u64, 1, walk.moves as u64],
-    }
+    let ending = match walk.ending {
+        Ending::Home => 0,
+        Ending::Loose => 1,
+    };
+    [walk.last as u64, ending, walk.moves as u64]
 }
 
 // The number of a place, and its values.
 pub fn placed_values(placed: Placed) -> [u64; 3]
-    ensures { result ≡ place_told (placed_answer placed) }
+    ensures { result ≡ place_told (placed_answer (Ok placed)) }
 {
     match placed {
         Placed::NoOutline => [0, 0, 0],
@@ -37,13 +36,12 @@ pub fn placed_values(placed: Placed) -> [u64; 3]
         Placed::Edge { from, to } => [2, from as u64, to as u64],
         Placed::Inside => [3, 0, 0],
         Placed::Outside(visible) => [4, visible as u64, 0],
-        Placed::Refused(refusal) => [5, refusal_number(refusal) as u64, 0],
     }
 }
 
 // The number of an arrival, and its values.
 pub fn arrival_values(arrival: Arrival) -> [u64; 4]
-    ensures { result ≡ arrival_told (arrival_answer arrival) }
+    ensures { result ≡ arrival_told (arrival_answer (Ok arrival)) }
 {
     match arrival {
         Arrival::First => [0, 0, 0, 0],
@@ -54,6 +52,5 @@ pub fn arrival_values(arrival: Arrival) -> [u64; 4]
             right,
             visible,
         } => [3, left as u64, right as u64, visible as u64],
-        Arrival::Refused(refusal) => [4, refusal_number(refusal) as u64, 0, 0],
     }
 }

@@ -1,169 +1,138 @@
-// What the exported functions end in: the number of a refusal, and values that are written into
+// What the exported functions end in: the number that is returned, and values that are written into
 // lent lists where these have room.
 
-ghost use Rattle.std.specs.Prelude.{◌≡◌, true, [], ◌∷◌, ◌++◌, length};
-ghost use Rattle.model.specs.Refusals.{number};
-ghost use Rattle.model.specs.Answers.{arrival_answer};
+ghost use Rattle.std.specs.Prelude.{◌≡◌, true, Ok, ◌||◌, ltb, [], ◌∷◌, ◌++◌, length};
+ghost use Rattle.model.specs.Refusals.{number, ◌when◌};
+ghost use Rattle.model.specs.declared.Refusal.{Refusal};
+ghost use Rattle.model.specs.Answers.{arrival_answer, outcome_by};
 ghost use Rattle.model.specs.Shape.{Shaped};
 ghost use Rattle.model.specs.Outline.{corners};
 ghost use Rattle.model.specs.Arrival.{admission_rules, arrive};
 ghost use Rattle.model.specs.Saved.{saved};
 ghost use Rattle.model.specs.Report.{report_rules};
 ghost use Rattle.model.specs.Lent.{and_short};
-ghost use Rattle.replies.specs.Served.{Served, ServedBoth, number_by, only};
+ghost use Rattle.replies.specs.Served.{Served, ServedBoth, code_of, number_by, only};
 ghost use Rattle.replies.specs.Replies.{arrival_told, length_told};
 
 use crate::values::arrival_values;
 use corners::listing::{corners_of, write_corners};
 use hull::admitted;
 use layout::{VERSION, saved_length};
-use model::{Arrival, Map, Offered, Point, Refusal, refusal_number};
+use model::{Map, Offered, Point, Refusal};
 use orbits::DartSet;
 use saved::write_map;
 use survey::lines::is_too_long;
 
-// The number of a call that is lent a list shorter than its result.
-pub const SHORT_LIST: u32 = 10;
-
-// The number of a refusal, as it is returned.
-pub fn code(refusal: Refusal) -> u32
-    ensures { result ≡ number refusal }
+// The number of an answer, as it is returned: that of its refusal, or 0.
+#[tactic(auto, using(model::proofs::Answers::number_most))]
+pub fn code<T: Copy>(answer: Result<T, Refusal>) -> u32
+    ensures { result ≡ code_of answer }
 {
-    refusal_number(refusal) as u32
+    match answer {
+        Ok(_) => 0,
+        Err(refusal) => usize::from(refusal) as u32,
+    }
+}
+
+// Whether two lent lists have room for so many members each: number 10.
+pub fn check_room<A, B>(first: usize, out: &[A], second: usize, beside: &[B]) -> Result<(), Refusal>
+    ensures { result ≡ outcome_by
+        ((Refusal.ShortList when (ltb (length out.now) first || ltb (length beside.now) second)) ∷ []) }
+{
+    if out.len() < first || beside.len() < second {
+        return Err(Refusal::ShortList);
+    }
+    Ok(())
 }
 
 // Writes values into a lent list: number 10.
-pub fn write_values(values: &[u64], out: &mut [u64]) -> u32
-    ensures { Served (only values.now) out.old out.new result }
+pub fn write_values<T: Copy>(values: &[T], out: &mut [T]) -> Result<(), Refusal>
+    ensures { Served (only values.now) out.old out.new (code_of result) }
 {
     if out.len() < values.len() {
-        return SHORT_LIST;
+        return Err(Refusal::ShortList);
     }
-    for i in 0..values.len() {
-        out[i] = values[i];
-    }
-    0
-}
-
-// Writes a number into a lent list: number 10.
-pub fn write_number(z: i64, out: &mut [i64]) -> u32
-    ensures { Served (only (z ∷ [])) out.old out.new result }
-{
-    if out.len() < 1 {
-        return SHORT_LIST;
-    }
-    out[0] = z;
-    0
-}
-
-// Writes the coordinates of a point into a lent list: number 10.
-pub fn write_point(p: Point, out: &mut [i64]) -> u32
-    ensures { Served (only (p.x ∷ p.y ∷ [])) out.old out.new result }
-{
-    if out.len() < 2 {
-        return SHORT_LIST;
-    }
-    let x = p.x;
-    let y = p.y;
-    out[0] = x;
-    out[1] = y;
-    0
+    out[..values.len()].copy_from_slice(values);
+    Ok(())
 }
 
 // Writes the words of a set of darts, and then its size, into a lent list: number 10.
-pub fn write_darts(orbit: DartSet, out: &mut [u64]) -> u32
-    requires { length orbit.words ≡ 16 }
-    ensures { Served (only (orbit.words ++ orbit.size ∷ []))
-        out.old out.new result }
+pub fn write_darts(orbit: &DartSet, out: &mut [u64]) -> Result<(), Refusal>
+    ensures { Served (only (orbit.now.words ++ orbit.now.size ∷ []))
+        out.old out.new (code_of result) }
 {
     if out.len() < 17 {
-        return SHORT_LIST;
+        return Err(Refusal::ShortList);
     }
-    write_values(&orbit.words, out);
+    out[..16].copy_from_slice(&orbit.words);
     out[16] = orbit.size as u64;
-    0
+    Ok(())
 }
 
 // Offers a point to a sound map, and writes the bytes of the map after it and the arrival:
 // numbers 2 to 4 and 10.
-pub fn write_admitted(map: Map, p: Point, out: &mut [u8], arrival: &mut [u64]) -> u32
-    requires { Shaped map }
-    ensures { ServedBoth (admission_rules map p) (saved (arrive map p).map)
-        (arrival_told (arrival_answer (arrive map p).arrival)) out.old out.new
-        arrival.old arrival.new result }
+pub fn write_admitted(
+    map: &Map,
+    p: Point,
+    out: &mut [u8],
+    arrival: &mut [u64],
+) -> Result<(), Refusal>
+    requires { Shaped map.now }
+    ensures { ServedBoth (admission_rules map.now p) (saved (arrive map.now p).map)
+        (arrival_told (arrival_answer (Ok (arrive map.now p).arrival))) out.old out.new
+        arrival.old arrival.new (code_of result) }
 {
-    let offered = admitted(map, p);
-    let answer = offered.arrival;
-    if let Arrival::Refused(refusal) = answer {
-        return code(refusal);
-    }
-    write_offered(offered, out, arrival)
+    let offered = admitted(map, p)?;
+    write_offered(&offered, out, arrival)
 }
 
 // Writes the bytes of a sound map, and an arrival: number 10.
-fn write_offered(offered: Offered, out: &mut [u8], arrival: &mut [u64]) -> u32
-    requires { Shaped offered.map }
-    ensures { ServedBoth [] (saved offered.map)
-        (arrival_told (arrival_answer offered.arrival)) out.old out.new
-        arrival.old arrival.new result }
+fn write_offered(offered: &Offered, out: &mut [u8], arrival: &mut [u64]) -> Result<(), Refusal>
+    requires { Shaped offered.now.map }
+    ensures { ServedBoth [] (saved offered.now.map)
+        (arrival_told (arrival_answer (Ok offered.now.arrival))) out.old out.new
+        arrival.old arrival.new (code_of result) }
 {
-    let map = offered.map;
-    let length = saved_length(VERSION, map.count);
-    if out.len() < length {
-        return SHORT_LIST;
-    }
-    if arrival.len() < 4 {
-        return SHORT_LIST;
-    }
-    write_map(map, VERSION, out);
-    let answer = offered.arrival;
-    let values = arrival_values(answer);
+    let values = arrival_values(offered.arrival);
+    let length = saved_length(VERSION, offered.map.count);
+    check_room(length, out, values.len(), arrival)?;
+    write_map(&offered.map, VERSION, out);
     write_values(&values, arrival)
 }
 
 // Writes the bytes of a sound map, and how many they are: number 10.
-pub fn write_saved(map: Map, out: &mut [u8], length: &mut [usize]) -> u32
-    requires { Shaped map }
-    ensures { ServedBoth [] (saved map) (length_told (saved map))
-        out.old out.new length.old length.new result }
+pub fn write_saved(map: &Map, out: &mut [u8], length: &mut [usize]) -> Result<(), Refusal>
+    requires { Shaped map.now }
+    ensures { ServedBoth [] (saved map.now) (length_told (saved map.now))
+        out.old out.new length.old length.new (code_of result) }
 {
     let bytes = saved_length(VERSION, map.count);
-    if out.len() < bytes {
-        return SHORT_LIST;
-    }
-    if length.len() < 1 {
-        return SHORT_LIST;
-    }
+    check_room(bytes, out, 1, length)?;
     write_map(map, VERSION, out);
     length[0] = bytes;
-    0
+    Ok(())
 }
 
 // Lists the corners of a sound map, and writes how many they are: number 10.
-pub fn write_corner_list(map: Map, out: &mut [usize], count: &mut [usize]) -> u32
-    requires { Shaped map }
-    ensures { ServedBoth [] (corners map) (length (corners map) ∷ [])
-        out.old out.new count.old count.new result }
+pub fn write_corner_list(map: &Map, out: &mut [usize], count: &mut [usize]) -> Result<(), Refusal>
+    requires { Shaped map.now }
+    ensures { ServedBoth [] (corners map.now) (length (corners map.now) ∷ [])
+        out.old out.new count.old count.new (code_of result) }
 {
     let list = corners_of(map);
     let listed = list.count;
-    if out.len() < listed {
-        return SHORT_LIST;
-    }
-    if count.len() < 1 {
-        return SHORT_LIST;
-    }
-    write_corners(list, out);
+    check_room(listed, out, 1, count)?;
+    write_corners(&list, out);
     count[0] = listed;
-    0
+    Ok(())
 }
 
-// The number of a report whose length there is no room for: 9 or 10.
-pub fn uncounted(text: &[u8]) -> u32
-    ensures { result ≡ number_by (and_short (report_rules text.now) true) }
+// Why a report is refused whose length there is no room for: number 9 or 10.
+pub fn uncounted(text: &[u8]) -> Refusal
+    ensures { number result ≡ number_by (and_short (report_rules text.now) true) }
 {
     if is_too_long(text) {
-        return 9;
+        return Refusal::LongText;
     }
-    10
+    Refusal::ShortList
 }

@@ -1,22 +1,19 @@
 -- `engine::counts` meets its contract: the soundness check, and then the counts.
-use mathlib.Core.Path.{refl, ap, ◌∙◌}
-use Rattle.model.specs.declared.Counted.{Counted}
+use mathlib.Core.Path.{refl}
 use Rattle.model.specs.Answers.{counted_answer}
-use Rattle.model.proofs.Answers.{answered, rule_applies, rule_passes, no_rule}
-use Rattle.engine.proofs.Rules.{tested, found_sound}
-use mathlib.Core.Bool.{not}
+use Rattle.deciding.proofs.Verdicts.{passed_up}
+use Rattle.engine.proofs.Rules.{checked_map}
+use Rattle.engine.proofs.Entries.{checked_refused, checked_served}
 use Rattle.engine.proofs.counts.Goals as goal
 
-pub returns-then-not-is_sound : goal.returns-then-not-is_sound
+pub returns-in_err-check_map : goal.returns-in_err-check_map
 unfolding counted_answer
-returns-then-not-is_sound c = answered _ (λ r. refl)
-    (rule_applies Counted.Refused _ _ _ (tested c.is_sound.ensures (ap not c.if-not-is_sound.true)))
+returns-in_err-check_map c =
+    rw (passed_up _ _ c.from_residual.ensures.1) (checked_refused (λ r. refl) c.in_err-check_map.ensures)
 
 pub counts_of-requires : goal.counts_of-requires
-counts_of-requires c = found_sound c.is_sound.ensures (ap not c.if-not-is_sound.false)
+counts_of-requires c = checked_map _ c.in_ok-check_map.ensures
 
 pub returns : goal.returns
 unfolding counted_answer
-returns c = answered _ (λ r. refl)
-    (rule_passes Counted.Refused _ _ _ (tested c.is_sound.ensures (ap not c.if-not-is_sound.false))
-    (ap Counted.Numbers c.counts_of.ensures ∙ no_rule Counted.Refused _))
+returns c = checked_served (λ r. refl) c.in_ok-check_map.ensures c.counts_of.ensures

@@ -1,24 +1,20 @@
 -- `engine::offer` meets its contract: the soundness check, and then what a sound map does.
-use mathlib.Core.Path.{refl, ap}
-use Rattle.model.specs.Answers.{arrival_answer}
-use Rattle.model.specs.Arrival.{refusing, admitted}
-use Rattle.model.proofs.Answers.{answered, rule_applies, rule_passes}
-use Rattle.engine.proofs.Rules.{tested, found_sound}
-use mathlib.Core.Bool.{not}
+use mathlib.Core.Path.{refl}
+use Rattle.model.specs.Answers.{arrival_answer, arrival_of}
+use Rattle.model.specs.Arrival.{admitted}
+use Rattle.model.proofs.Answers.{answered}
+use Rattle.deciding.proofs.Verdicts.{passed_up}
+use Rattle.engine.proofs.Rules.{checked_map, first_refuses, first_serves}
 use Rattle.engine.proofs.offer.Goals as goal
 
-pub returns-then-not-is_sound : goal.returns-then-not-is_sound
-unfolding arrival_answer
-returns-then-not-is_sound c = let s = c.args in
-    answered _ (λ r. refl)
-    (rule_applies (refusing s.map) _ _ _ (tested c.is_sound.ensures (ap not c.if-not-is_sound.true)))
+pub returns-in_err-check_map : goal.returns-in_err-check_map
+unfolding arrival_answer arrival_of
+returns-in_err-check_map c =
+    rw (passed_up _ _ c.from_residual.ensures.1) (answered _ (λ r. refl) (first_refuses _ _ _ _ c.in_err-check_map.ensures))
 
 pub admitted-requires : goal.admitted-requires
-admitted-requires c = found_sound c.is_sound.ensures (ap not c.if-not-is_sound.false)
+admitted-requires c = checked_map _ c.in_ok-check_map.ensures
 
 pub returns : goal.returns
-unfolding arrival_answer admitted
-returns c = let s = c.args in
-    answered _ (λ r. refl)
-    (rule_passes (refusing s.map) _ _ _ (tested c.is_sound.ensures (ap not c.if-not-is_sound.false))
-    c.admitted.ensures)
+unfolding arrival_answer arrival_of admitted
+returns c = answered _ (λ r. refl) (first_serves _ _ _ _ c.in_ok-check_map.ensures c.admitted.ensures)

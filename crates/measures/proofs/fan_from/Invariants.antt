@@ -3,5 +3,5 @@
 use Rattle.measures.proofs.Sums.{SummingAt}
 use Rattle.measures.proofs.fan_from.Given as goal
 
-abbrev pub invariant-loop-i : goal.invariant-loop-i
-invariant-loop-i l = SummingAt l.xs l.ys l.corners l.count l.q l.total l.a l.i
+abbrev pub invariant-loop-b : goal.invariant-loop-b
+invariant-loop-b l = SummingAt l.map l.corners l.q l.total l.a l.b-index

@@ -1,25 +1,21 @@
 -- `engine::checks::check_dart` meets its contract: one rule after the other.
-use Rattle.model.specs.declared.Outcome.{Outcome}
-use Rattle.model.specs.Maps.{has_helper, is_present}
-use Rattle.model.proofs.Answers.{rule_applies, rule_passes, no_rule}
-use Rattle.engine.proofs.Rules.{tested}
 use mathlib.Core.Path.{ap}
 use mathlib.Core.Bool.{not}
+use Rattle.deciding.proofs.Verdicts.{passed_up}
+use Rattle.engine.proofs.Rules.{tested, first_refuses, first_serves}
+use Rattle.engine.proofs.Entries.{rule_found, rule_passed}
 use Rattle.engine.proofs.checks.check_dart.Goals as goal
 
-pub returns-then-not-is_sound : goal.returns-then-not-is_sound
-returns-then-not-is_sound c =
-    rule_applies Outcome.Refused _ _ _ (tested c.is_sound.ensures (ap not c.if-not-is_sound.true))
+pub returns-in_err-check_map : goal.returns-in_err-check_map
+returns-in_err-check_map c =
+    rw (passed_up _ _ c.from_residual.ensures.1) (first_refuses _ _ _ _ c.in_err-check_map.ensures)
 
 pub returns-then-not-is_present : goal.returns-then-not-is_present
-unfolding is_present has_helper
 returns-then-not-is_present c =
-    rule_passes Outcome.Refused _ _ _ (tested c.is_sound.ensures (ap not c.if-not-is_sound.false))
-    (rule_applies Outcome.Refused _ _ _ (tested c.is_present.ensures (ap not c.if-not-is_present.true)))
+    first_serves _ _ _ _ c.in_ok-check_map.ensures
+    (rule_found _ (tested c.is_present.ensures (ap not c.if-not-is_present.true)))
 
 pub returns : goal.returns
-unfolding is_present has_helper
 returns c =
-    rule_passes Outcome.Refused _ _ _ (tested c.is_sound.ensures (ap not c.if-not-is_sound.false))
-    (rule_passes Outcome.Refused _ _ _ (tested c.is_present.ensures (ap not c.if-not-is_present.false))
-    (no_rule Outcome.Refused _))
+    first_serves _ _ _ _ c.in_ok-check_map.ensures
+    (rule_passed _ (tested c.is_present.ensures (ap not c.if-not-is_present.false)))

@@ -1,27 +1,18 @@
 -- `engine::files::load` meets its contract: the form of the file is checked, and then its map.
 use mathlib.Core.Path.{refl, sym, ap, ◌∙◌}
+use mathlib.Core.Bool.{not}
 use borrow.Author.Tests.{not-false}
 use Rattle.finite.specs.Tests.{of_true}
-use Rattle.model.specs.declared.Map.{Map}
-use Rattle.model.specs.declared.Loaded.{Loaded}
-use Rattle.model.specs.declared.Outcome.{Outcome}
 use Rattle.model.specs.Answers.{outcome_answer}
-use Rattle.model.specs.Saved.{load_call, file_in_form}
+use Rattle.model.specs.Saved.{file_in_form}
 use Rattle.model.proofs.Answers.{answered, rule_applies, rule_passes}
 use Rattle.engine.proofs.Rules.{tested}
-use mathlib.Core.Bool.{not}
 use Rattle.engine.proofs.files.load.Goals as goal
-
--- the answer that has this outcome and this map
-abbrev with_map : Outcome → Map → Loaded
-with_map outcome map = record { outcome = outcome; map = map }
 
 pub returns-then-not-is_in_form : goal.returns-then-not-is_in_form
 unfolding outcome_answer
 returns-then-not-is_in_form c =
-    answered _ (λ r. refl)
-    (ap (with_map _) c.empty_map.ensures
-    ∙ rule_applies _ _ _ _ (tested c.is_in_form.ensures (ap not c.if-not-is_in_form.true)))
+    answered _ (λ r. refl) (rule_applies _ _ _ _ (tested c.is_in_form.ensures (ap not c.if-not-is_in_form.true)))
 
 pub map_of-requires : goal.map_of-requires
 map_of-requires c =
@@ -30,7 +21,6 @@ map_of-requires c =
 
 pub returns : goal.returns
 unfolding outcome_answer
-returns c = let call = load_call c.args.file.now in
-    answered call (λ r. refl)
-    (rule_passes call.refuse _ _ call.value
-    (tested c.is_in_form.ensures (ap not c.if-not-is_in_form.false)) c.map_of.ensures)
+returns c =
+    answered _ (λ r. refl)
+    (rule_passes _ _ _ _ (tested c.is_in_form.ensures (ap not c.if-not-is_in_form.false)) c.map_of.ensures)

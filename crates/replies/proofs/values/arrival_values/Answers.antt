@@ -18,7 +18,3 @@ returns-in-Inside c = rw c.in-Inside.is
 pub returns-in-Outside : goal.returns-in-Outside
 unfolding told place_of arrival_answer
 returns-in-Outside c = rw c.in-Outside.is
-
-pub returns-in-Refused : goal.returns-in-Refused
-unfolding told place_of arrival_answer
-returns-in-Refused c = rw (c.in-Refused.is, c.refusal_number.ensures)

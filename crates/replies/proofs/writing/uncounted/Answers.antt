@@ -8,10 +8,9 @@ use Rattle.model.proofs.Answers.{rule_applies, rule_passes}
 use Rattle.replies.proofs.writing.uncounted.Goals as goal
 
 pub returns-then-is_too_long : goal.returns-then-is_too_long
-unfolding number
 returns-then-is_too_long c = rule_applies number _ _ 0 (sym c.is_too_long.ensures ∙ c.if-is_too_long.true)
 
 pub returns : goal.returns
-unfolding number
-returns c = rule_passes number _ _ 0 (sym c.is_too_long.ensures ∙ c.if-is_too_long.false)
+returns c =
+    rule_passes number _ _ 0 (sym c.is_too_long.ensures ∙ c.if-is_too_long.false)
     (rule_applies number (Refusal.ShortList when true) [] 0 refl)

@@ -1,31 +1,32 @@
 -- `replies::writing::write_corner_list` meets its contract: the room of both lists is checked, and
 -- then both are written.
-use mathlib.Core.Path.{refl, ap, ◌∙◌}
-use mathlib.Core.List.{List, [], ◌∷◌}
+use mathlib.Core.Path.{ap, ◌∙◌}
+use mathlib.Core.List.{List}
 use Prim.Native.Nat.{ℕ}
 use native.Mathlib.Omega.{arith}
-use lib.ListN.{length, set}
 use Rattle.finite.specs.Overwriting.{over}
 use Rattle.model.specs.Outline.{corners}
-use Rattle.replies.proofs.Serving.{first_short, second_short, both_room, room_serves, stored}
+use Rattle.deciding.proofs.Verdicts.{passed_up}
+use Rattle.replies.proofs.Serving.{not_counted, length_place, result_room, counted}
 use Rattle.replies.proofs.writing.write_corner_list.Goals as goal
 
-pub returns-then-out-listed : goal.returns-then-out-listed
-returns-then-out-listed c = let s = c.args in
-    let lists = c.corners_of-list.ensures in
-    first_short (corners s.map) (length (corners s.map) ∷ []) _ _
-    (omega (arith, lists.number, c.if-out-listed.true))
+pub returns-in_err-check_room : goal.returns-in_err-check_room
+returns-in_err-check_room c =
+    rw (passed_up _ _ c.from_residual.ensures.1)
+    (not_counted (corners c.args.map.now) _ _ c.corners_of-list.ensures.number c.in_err-check_room.ensures)
 
-pub returns-then-count-lt1 : goal.returns-then-count-lt1
-returns-then-count-lt1 c = let s = c.args in
-    second_short (corners s.map) (length (corners s.map) ∷ []) _ _ c.if-count-lt1.true
+pub write_corners-requires : goal.write_corners-requires
+write_corners-requires c =
+    let lists = c.corners_of-list.ensures in
+    let room = result_room (corners c.args.map.now) _ _ lists.number c.in_ok-check_room.ensures in
+    omega (arith, room, lists.number)
+
+pub bounds-count-0 : goal.bounds-count-0
+bounds-count-0 c =
+    length_place (corners c.args.map.now) _ _ c.corners_of-list.ensures.number c.in_ok-check_room.ensures
 
 pub returns : goal.returns
-returns c = let s = c.args in
+returns c =
     let lists = c.corners_of-list.ensures in
-    let count = length (corners s.map) in
-    both_room (corners s.map) (count ∷ []) _ s.count.now refl
-    (omega (arith, lists.number, c.if-out-listed.false)) c.if-count-lt1.false
-    (c.write_corners.ensures ∙ ap (λ (l : List ℕ). over l s.out.now) lists.members)
-    (ap (λ (n : ℕ). set s.count.now 0 n) lists.number
-    ∙ (room_serves c.if-count-lt1.false (stored (count ∷ []) s.count.now c.if-count-lt1.false)).1)
+    counted (corners c.args.map.now) _ _ lists.number c.in_ok-check_room.ensures
+    (c.write_corners.ensures ∙ ap (λ (l : List ℕ). over l c.args.out.now) lists.members)

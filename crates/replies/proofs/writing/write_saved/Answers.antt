@@ -1,42 +1,41 @@
 -- `replies::writing::write_saved` meets its contract: the room of both lists is checked, and then both are
 -- written.
-use mathlib.Core.Path.{refl, sym, ap, ◌∙◌}
-use mathlib.Core.List.{[], ◌∷◌}
-use Prim.Native.Nat.{ℕ}
+use mathlib.Core.Path.{sym, ◌∙◌}
 use native.Mathlib.Omega.{arith}
-use lib.ListN.{length, set}
 use Rattle.model.specs.Answers.{written_answer}
 use Rattle.model.specs.Saved.{saved}
 use Rattle.saved.proofs.Places.{length_saved}
-use Rattle.replies.proofs.Serving.{first_short, second_short, both_room, room_serves, stored}
+use Rattle.deciding.proofs.Verdicts.{passed_up}
+use Rattle.replies.proofs.Serving.{not_counted, length_place, result_room, counted}
 use Rattle.replies.proofs.writing.write_saved.Goals as goal
 
 pub saved_length-bytes-requires : goal.saved_length-bytes-requires
 saved_length-bytes-requires c = c.requires.links.fits
 
-pub returns-then-out-bytes : goal.returns-then-out-bytes
+pub returns-in_err-check_room : goal.returns-in_err-check_room
 unfolding written_answer
-returns-then-out-bytes c = let s = c.args in
-    first_short (saved s.map) (length (saved s.map) ∷ []) _ _
-    (omega (arith, length_saved s.map, c.saved_length-bytes.ensures, c.if-out-bytes.true))
+returns-in_err-check_room c =
+    let m = c.args.map.now in
+    rw (passed_up _ _ c.from_residual.ensures.1)
+    (not_counted (saved m) _ _ (c.saved_length-bytes.ensures ∙ sym (length_saved m)) c.in_err-check_room.ensures)
 
-pub returns-then-length-lt1 : goal.returns-then-length-lt1
-unfolding written_answer
-returns-then-length-lt1 c = let s = c.args in
-    second_short (saved s.map) (length (saved s.map) ∷ []) _ _ c.if-length-lt1.true
+pub write_map-requires-clause-count_in_bounds : goal.write_map-requires-clause-count_in_bounds
+write_map-requires-clause-count_in_bounds c =
+    let m = c.args.map.now in
+    omega (
+      arith,
+      result_room (saved m) _ _ (c.saved_length-bytes.ensures ∙ sym (length_saved m)) c.in_ok-check_room.ensures,
+      length_saved m,
+    )
 
-pub write_map-requires : goal.write_map-requires
-write_map-requires c = record {
-  shaped = c.requires;
-  count_in_bounds = omega (arith, c.saved_length-bytes.ensures, c.if-out-bytes.false);
-}
+pub bounds-length-0 : goal.bounds-length-0
+bounds-length-0 c =
+    let m = c.args.map.now in
+    length_place (saved m) _ _ (c.saved_length-bytes.ensures ∙ sym (length_saved m)) c.in_ok-check_room.ensures
 
 pub returns : goal.returns
 unfolding written_answer
-returns c = let s = c.args in
-    let bytes = length (saved s.map) in
-    both_room (saved s.map) (bytes ∷ []) _ s.length.now refl
-    (omega (arith, length_saved s.map, c.saved_length-bytes.ensures, c.if-out-bytes.false))
-    c.if-length-lt1.false c.write_map.ensures
-    (ap (λ (n : ℕ). set s.length.now 0 n) (c.saved_length-bytes.ensures ∙ sym (length_saved s.map))
-    ∙ (room_serves c.if-length-lt1.false (stored (bytes ∷ []) s.length.now c.if-length-lt1.false)).1)
+returns c =
+    let m = c.args.map.now in
+    counted (saved m) _ _ (c.saved_length-bytes.ensures ∙ sym (length_saved m)) c.in_ok-check_room.ensures
+    c.write_map.ensures

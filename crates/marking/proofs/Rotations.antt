@@ -13,7 +13,6 @@ use Prim.Native.Nat.{ℕ, zero, suc, ◌+◌, ◌%◌, ◌≤◌, ◌<◌}
 use native.Mathlib.Nat.{mod-lt}
 use native.Mathlib.Omega.{arith}
 use lib.Dec.{T, ltb, eqb, ltb→lt, lt→ltb, eqb→eq, eqb-suc-zero}
-use lib.IntN.{ℤ}
 use lib.ListN.{length, get_or, take, drop, take-append-drop, length-append}
 use lib.Seq.{take-append_seam, drop-append_seam}
 use Rattle.finite.specs.Tests.{and_left, and_right, and_both, or_cases, or_left, or_right, implies_use, implies_by}
@@ -25,19 +24,19 @@ use Rattle.finite.specs.Distinct.{distinct_head, distinct_swap}
 use Rattle.finite.specs.Cycles.{Chain, Cycle}
 use Rattle.finite.specs.CycleLaws.{cycle_change, cycle_swap}
 use Rattle.finite.specs.Rings.{cycle_at, cycle_by}
+use Rattle.model.specs.declared.Point.{Point}
 use Rattle.model.specs.declared.Map.{Map}
 use Rattle.model.specs.Plane.{beside}
-use Rattle.model.specs.Maps.{point_at, point}
+use Rattle.model.specs.Maps.{point}
 use Rattle.model.specs.Outline.{next_corner, outline, corners}
 use Rattle.model.specs.Marking.{begun_at, is_rotation}
 use Rattle.model.specs.Shape.{Shaped}
-use Rattle.maps.specs.Places.{aside_at}
 use Rattle.maps.proofs.Circuits.{Edge, edge_next}
 use Rattle.hull.proofs.Theorems.{outline_is_hull}
 use Rattle.corners.proofs.Corners.{lowest_first, corners_circuit, corners_distinct, corners_members}
 use Rattle.corners.proofs.Corners.{one_listed, none_listed}
 use Rattle.corners.proofs.Listings.{places_differ, not_beside_point}
-use Rattle.marking.specs.Claims.{edge_at, claim_passes}
+use Rattle.marking.specs.Claims.{aside_by, edge_at, claim_passes}
 
 -- ---- a rotation
 
@@ -68,20 +67,20 @@ abbrev after : List ℕ → ℕ → ℕ
 after claim i = number claim ((i + 1) % length claim)
 
 -- what is asked at place i of a claim, of n points
-record EdgeHolds (xs ys : List ℤ) (n : ℕ) (claim : List ℕ) (i : ℕ) : Type 0 where
+record EdgeHolds (P : ℕ → Point) (n : ℕ) (claim : List ℕ) (i : ℕ) : Type 0 where
   pub below : number claim i < n
   pub once : i ≢ 0 → number claim i ≢ number claim 0
   pub others : (c : ℕ) → c < n → c ≢ number claim i → c ≢ after claim i →
-      T (beside (point_at xs ys (number claim i)) (point_at xs ys (after claim i)) (point_at xs ys c))
+      T (beside (P (number claim i)) (P (after claim i)) (P c))
 
-module _ (xs ys : List ℤ) (n : ℕ) where
+module _ (P : ℕ → Point) (n : ℕ) where
   -- at one place, from the test ..
-  edge_holds : (claim : List ℕ) (i : ℕ) → T (edge_at xs ys n claim i) → EdgeHolds xs ys n claim i
+  edge_holds : (claim : List ℕ) (i : ℕ) → T (edge_at P n claim i) → EdgeHolds P n claim i
   edge_holds claim i t =
       let a = number claim i in
       let b = after claim i in
       let new = not (eqb a (number claim 0)) in
-      let aside = all n (aside_at xs ys a b) in
+      let aside = all n (aside_by P a b) in
       let front = and_left (ltb a n && (eqb i 0 || new)) aside t in
       record {
         below = ltb→lt a n (and_left (ltb a n) (eqb i 0 || new) front);
@@ -90,51 +89,51 @@ module _ (xs ys : List ℤ) (n : ℕ) where
             (or_cases (eqb i 0) new (and_right (ltb a n) (eqb i 0 || new) front));
         others = λ c h d e.
             implies_use (not (eqb c a) && not (eqb c b))
-            (beside (point_at xs ys a) (point_at xs ys b) (point_at xs ys c))
-            (all_at n (aside_at xs ys a b) (and_right (ltb a n && (eqb i 0 || new)) aside t) c h)
+            (beside (P a) (P b) (P c))
+            (all_at n (aside_by P a b) (and_right (ltb a n && (eqb i 0 || new)) aside t) c h)
             (and_both (not (eqb c a)) (not (eqb c b)) (differ_by c a d) (differ_by c b e));
       }
 
   -- .. and back
-  edge_by : (claim : List ℕ) (i : ℕ) → EdgeHolds xs ys n claim i → T (edge_at xs ys n claim i)
+  edge_by : (claim : List ℕ) (i : ℕ) → EdgeHolds P n claim i → T (edge_at P n claim i)
   edge_by claim i e =
       let a = number claim i in
       let b = after claim i in
       let new = not (eqb a (number claim 0)) in
-      and_both (ltb a n && (eqb i 0 || new)) (all n (aside_at xs ys a b))
+      and_both (ltb a n && (eqb i 0 || new)) (all n (aside_by P a b))
       (and_both (ltb a n) (eqb i 0 || new) (lt→ltb a n e.below)
       (⊎_elim
       (λ first. or_left (eqb i 0) new (equal_by i 0 first))
       (λ later. or_right (eqb i 0) new (differ_by a (number claim 0) (e.once later)))
       (same_or_not i 0)))
-      (all_by n (aside_at xs ys a b)
+      (all_by n (aside_by P a b)
       (λ c h.
-      implies_by (not (eqb c a) && not (eqb c b)) (beside (point_at xs ys a) (point_at xs ys b) (point_at xs ys c))
+      implies_by (not (eqb c a) && not (eqb c b)) (beside (P a) (P b) (P c))
       (λ d.
       e.others c h (differ_use c a (and_left (not (eqb c a)) (not (eqb c b)) d))
       (differ_use c b (and_right (not (eqb c a)) (not (eqb c b)) d)))))
 
   -- of a claim that is not empty the same is asked at every place
   some_claimed : (x : ℕ) (t : List ℕ) →
-      claim_passes xs ys n (x ∷ t) ≡ all (length (x ∷ t)) (edge_at xs ys n (x ∷ t))
+      claim_passes P n (x ∷ t) ≡ all (length (x ∷ t)) (edge_at P n (x ∷ t))
   unfolding claim_passes
   some_claimed x t = rw (eqb-suc-zero (length t))
 
   -- so from a claim that passes to every place ..
-  claim_holds : (x : ℕ) (t : List ℕ) → T (claim_passes xs ys n (x ∷ t)) →
-      (i : ℕ) → i < length (x ∷ t) → EdgeHolds xs ys n (x ∷ t) i
+  claim_holds : (x : ℕ) (t : List ℕ) → T (claim_passes P n (x ∷ t)) →
+      (i : ℕ) → i < length (x ∷ t) → EdgeHolds P n (x ∷ t) i
   claim_holds x t p i h =
-      edge_holds (x ∷ t) i (all_at (length (x ∷ t)) (edge_at xs ys n (x ∷ t)) (rw (some_claimed x t) at p) i h)
+      edge_holds (x ∷ t) i (all_at (length (x ∷ t)) (edge_at P n (x ∷ t)) (rw (some_claimed x t) at p) i h)
 
   -- .. and back
-  claim_by : (x : ℕ) (t : List ℕ) → ((i : ℕ) → i < length (x ∷ t) → EdgeHolds xs ys n (x ∷ t) i) →
-      T (claim_passes xs ys n (x ∷ t))
+  claim_by : (x : ℕ) (t : List ℕ) → ((i : ℕ) → i < length (x ∷ t) → EdgeHolds P n (x ∷ t) i) →
+      T (claim_passes P n (x ∷ t))
   claim_by x t f =
       rw (some_claimed x t)
-      (all_by (length (x ∷ t)) (edge_at xs ys n (x ∷ t)) (λ i h. edge_by (x ∷ t) i (f i h)))
+      (all_by (length (x ∷ t)) (edge_at P n (x ∷ t)) (λ i h. edge_by (x ∷ t) i (f i h)))
 
   -- each of its numbers is that of a point
-  pub claim_below : (claim : List ℕ) → T (claim_passes xs ys n claim) → T (all_in (λ k. ltb k n) claim)
+  pub claim_below : (claim : List ℕ) → T (claim_passes P n claim) → T (all_in (λ k. ltb k n) claim)
   unfolding all_in
   claim_below [] p = tt
   claim_below (x ∷ t) p =
@@ -143,21 +142,21 @@ module _ (xs ys : List ℤ) (n : ℕ) where
 -- ---- no point, and one
 
 -- no number is below 0, so that only the empty claim passes
-none_decides : (xs ys : List ℤ) (claim : List ℕ) → claim_passes xs ys 0 claim ≡ is_rotation claim []
+none_decides : (P : ℕ → Point) (claim : List ℕ) → claim_passes P 0 claim ≡ is_rotation claim []
 unfolding claim_passes is_rotation begun_at any same_by
-none_decides xs ys [] = refl
-none_decides xs ys (x ∷ t) =
-    is_false (claim_passes xs ys 0 (x ∷ t)) (λ p. omega (arith, (claim_holds xs ys 0 x t p 0 (omega arith)).below))
+none_decides P [] = refl
+none_decides P (x ∷ t) =
+    is_false (claim_passes P 0 (x ∷ t)) (λ p. omega (arith, (claim_holds P 0 x t p 0 (omega arith)).below))
 
 -- only 0 is below 1, and it stands once
-one_claimed : (xs ys : List ℤ) (claim : List ℕ) → T (claim_passes xs ys 1 claim) → claim ≡ 0 ∷ []
+one_claimed : (P : ℕ → Point) (claim : List ℕ) → T (claim_passes P 1 claim) → claim ≡ 0 ∷ []
 unfolding claim_passes
-one_claimed xs ys [] p = absurd p
-one_claimed xs ys (x ∷ []) p =
-    let is_zero : x ≡ 0 = omega (arith, (claim_holds xs ys 1 x [] p 0 (omega arith)).below) in rw is_zero
-one_claimed xs ys (x ∷ y ∷ t) p =
-    let first = claim_holds xs ys 1 x (y ∷ t) p 0 (omega arith) in
-    let second = claim_holds xs ys 1 x (y ∷ t) p 1 (omega arith) in
+one_claimed P [] p = absurd p
+one_claimed P (x ∷ []) p =
+    let is_zero : x ≡ 0 = omega (arith, (claim_holds P 1 x [] p 0 (omega arith)).below) in rw is_zero
+one_claimed P (x ∷ y ∷ t) p =
+    let first = claim_holds P 1 x (y ∷ t) p 0 (omega arith) in
+    let second = claim_holds P 1 x (y ∷ t) p 1 (omega arith) in
     absurd (second.once (omega arith) (omega arith))
 
 -- a list of one number is its only rotation
@@ -168,11 +167,11 @@ one_rotated x claim r =
     same_list_eq claim (x ∷ []) (⊎_elim (λ t. t) (λ t. t) (or_cases same same r))
 
 -- so 0 alone passes, and is the listing of one point
-one_decides : (xs ys : List ℤ) (claim : List ℕ) → claim_passes xs ys 1 claim ≡ is_rotation claim (0 ∷ [])
+one_decides : (P : ℕ → Point) (claim : List ℕ) → claim_passes P 1 claim ≡ is_rotation claim (0 ∷ [])
 unfolding claim_passes all is_rotation begun_at any same_by
-one_decides xs ys claim =
-    same_test (claim_passes xs ys 1 claim) (is_rotation claim (0 ∷ []))
-    (λ p. rw (one_claimed xs ys claim p) tt)
+one_decides P claim =
+    same_test (claim_passes P 1 claim) (is_rotation claim (0 ∷ []))
+    (λ p. rw (one_claimed P claim p) tt)
     (λ r. rw (one_rotated 0 claim r) tt)
 
 -- ---- one way
@@ -203,7 +202,7 @@ another (suc a) = (0, omega arith, omega arith)
 module _ {m : Map} (s : Shaped m) (two : 2 ≤ m.count) where
   -- a claim passes at the map's points
   abbrev passes : List ℕ → Bool
-  passes = claim_passes m.xs m.ys m.count
+  passes = claim_passes (point m) m.count
 
   -- the outline has an edge from a to b
   abbrev Leads : ℕ → ℕ → Type 0
@@ -222,8 +221,8 @@ module _ {m : Map} (s : Shaped m) (two : 2 ≤ m.count) where
       )
 
   module _ (x : ℕ) (t : List ℕ) (p : T (passes (x ∷ t))) where
-    holds : (i : ℕ) → i < length (x ∷ t) → EdgeHolds m.xs m.ys m.count (x ∷ t) i
-    holds = claim_holds m.xs m.ys m.count x t p
+    holds : (i : ℕ) → i < length (x ∷ t) → EdgeHolds (point m) m.count (x ∷ t) i
+    holds = claim_holds (point m) m.count x t p
 
     -- Each number leads to the one after it: all others lie beside the edge. If both were the same point, another
     -- would lie beside an edge from a point to itself.
@@ -285,7 +284,7 @@ module _ {m : Map} (s : Shaped m) (two : 2 ≤ m.count) where
       ))
   rotated_passes (x ∷ t) r =
       let listing = listing_leads (x ∷ t) r in
-      claim_by m.xs m.ys m.count x t
+      claim_by (point m) m.count x t
       (λ i h.
       let edge =
       (outline_is_hull s two (number (x ∷ t) i) (after (x ∷ t) i)).0 (cycle_at Leads (x ∷ t) i 0 h listing.1) in
@@ -299,16 +298,20 @@ module _ {m : Map} (s : Shaped m) (two : 2 ≤ m.count) where
 
 -- a claim passes just where it is the corner listing, begun at any corner
 pub claim_decides : {m : Map} → Shaped m → (claim : List ℕ) →
-    claim_passes m.xs m.ys m.count claim ≡ is_rotation claim (corners m)
+    claim_passes (point m) m.count claim ≡ is_rotation claim (corners m)
 claim_decides {m} s claim =
     ⊎_elim
-    (λ (none : m.count ≡ 0). rw (none_listed m none, none) (none_decides m.xs m.ys claim))
+    (λ (none : m.count ≡ 0).
+    ap (λ (n : ℕ). claim_passes (point m) n claim) none ∙ none_decides (point m) claim
+    ∙ sym (ap (is_rotation claim) (none_listed m none)))
     (λ (some : m.count ≢ 0).
     ⊎_elim
-    (λ (one : m.count ≡ 1). rw (one_listed m one, one) (one_decides m.xs m.ys claim))
+    (λ (one : m.count ≡ 1).
+    ap (λ (n : ℕ). claim_passes (point m) n claim) one ∙ one_decides (point m) claim
+    ∙ sym (ap (is_rotation claim) (one_listed m one)))
     (λ (more : m.count ≢ 1).
     let two : 2 ≤ m.count = omega arith in
-    same_test (claim_passes m.xs m.ys m.count claim) (is_rotation claim (corners m))
+    same_test (claim_passes (point m) m.count claim) (is_rotation claim (corners m))
     (passes_rotated s two claim) (rotated_passes s two claim))
     (same_or_not m.count 1))
     (same_or_not m.count 0)

@@ -6,57 +6,39 @@
 ghost use Rattle.std.specs.Prelude.{◌≡◌, ◌+◌, ◌*◌, ◌<◌, get_or, length};
 ghost use Rattle.model.specs.Answers.{Answered};
 ghost use Rattle.model.specs.Plane.{origin};
-ghost use Rattle.model.specs.Maps.{empty_map};
+ghost use Rattle.model.specs.Maps.{empty_map, point_in};
 ghost use Rattle.model.specs.Marking.{mark_call, points_of};
-ghost use Rattle.marking.specs.Claims.{PointsTaken, RangedPlaces, claim_passes, edge_at};
+ghost use Rattle.maps.specs.Places.{AllRanged};
+ghost use Rattle.marking.specs.Claims.{PointsTaken, claim_passes, edge_at};
 
-use admission::hashes::{admission_hashed, no_hashes, put_hash};
+use admission::hashes::{Hashes, admission_hashed};
 use maps::support::is_supporting_edge;
-use model::{Marked, Outcome, POINT_LIMIT, Point};
+use model::{POINT_LIMIT, Point, Refusal};
 
 // Whether a claim is right or wrong, or the first refusal met among the points: numbers 2, 3 and 4. Points are pairs
 // x, y; an odd last number names no point.
-pub fn mark(points: &[i64], claim: &[usize]) -> Marked
+pub fn mark(points: &[i64], claim: &[usize]) -> Result<bool, Refusal>
     ensures { Answered (mark_call (points_of points.now) claim.now) result }
 {
-    let mut xs = [0i64; POINT_LIMIT];
-    let mut ys = [0i64; POINT_LIMIT];
-    let outcome = take_points(points, &mut xs, &mut ys);
-    match outcome {
-        Outcome::Refused(refusal) => Marked::Refused(refusal),
-        Outcome::Served => {
-            if is_outline(&xs, &ys, points.len() / 2, claim) {
-                return Marked::Right;
-            }
-            Marked::Wrong
-        }
-    }
+    let mut places = [Point { x: 0, y: 0 }; POINT_LIMIT];
+    take_points(points, &mut places)?;
+    Ok(is_outline(&places[..points.len() / 2], claim))
 }
 
-// Whether all points of a list are accepted, offered one after another, or the first refusal met. Their coordinates
-// are written into two arrays that are lent empty.
-fn take_points(points: &[i64], xs: &mut [i64; POINT_LIMIT], ys: &mut [i64; POINT_LIMIT]) -> Outcome
-    requires { (xs.old ≡ empty_map.xs) × (ys.old ≡ empty_map.ys) }
-    ensures { PointsTaken (points_of points.now) result xs.new ys.new }
+// Whether all points of a list are accepted, offered one after another, or the first refusal met. They are written into
+// places that are lent empty.
+fn take_points(points: &[i64], places: &mut [Point; POINT_LIMIT]) -> Result<(), Refusal>
+    requires { places.old ≡ empty_map.points }
+    ensures { PointsTaken (points_of points.now) result places.new }
 {
-    let mut hashes = no_hashes();
+    let mut hashes = Hashes::empty();
     for k in 0..points.len() / 2 {
         let p = pair_at(points, k);
-        let outcome = admission_hashed(xs, ys, k, &hashes, p);
-        match outcome {
-            Outcome::Refused(refusal) => {
-                return Outcome::Refused(refusal);
-            }
-            Outcome::Served => {
-                let x = p.x;
-                let y = p.y;
-                xs[k] = x;
-                ys[k] = y;
-                put_hash(&mut hashes, p);
-            }
-        }
+        admission_hashed(&places[..k], &hashes, p)?;
+        places[k] = p;
+        hashes.put(p);
     }
-    Outcome::Served
+    Ok(())
 }
 
 // Point k of a list of coordinates.
@@ -64,41 +46,35 @@ fn pair_at(points: &[i64], k: usize) -> Point
     requires { 2 * k + 1 < length points.now }
     ensures { result ≡ get_or (points_of points.now) k origin }
 {
-    let x = points[2 * k];
-    let y = points[2 * k + 1];
-    Point { x, y }
+    Point {
+        x: points[2 * k],
+        y: points[2 * k + 1],
+    }
 }
 
-// Whether a claim is the corner listing of the first n points, begun at any corner.
-fn is_outline<'a>(xs: &'a [i64], ys: &'a [i64], n: usize, claim: &'a [usize]) -> bool
-    requires { RangedPlaces xs.now ys.now n }
-    ensures { result ≡ claim_passes xs.now ys.now n claim.now }
+// Whether a claim is the corner listing of the points, begun at any corner.
+fn is_outline(points: &[Point], claim: &[usize]) -> bool
+    requires { AllRanged points.now }
+    ensures { result ≡ claim_passes (point_in points.now) (length points.now) claim.now }
 {
-    if claim.len() == 0 {
-        return n == 0;
+    if claim.is_empty() {
+        return points.is_empty();
     }
     for i in 0..claim.len() {
-        if !is_edge(xs, ys, n, claim, i) {
+        if !is_edge(points, claim, i) {
             return false;
         }
     }
     true
 }
 
-// Whether place i of a claim holds the number of one of the first n points, and not the first number again, and the
-// other points lie beside the edge from it to the number after it, or to the first after the last.
-fn is_edge<'a>(xs: &'a [i64], ys: &'a [i64], n: usize, claim: &'a [usize], i: usize) -> bool
-    requires { RangedPlaces xs.now ys.now n × (i < length claim.now) }
-    ensures { result ≡ edge_at xs.now ys.now n claim.now i }
+// Whether place i of a claim holds the number of one of the points, and not the first number again, and the other
+// points lie beside the edge from it to the number after it, or to the first after the last.
+fn is_edge(points: &[Point], claim: &[usize], i: usize) -> bool
+    requires { AllRanged points.now × (i < length claim.now) }
+    ensures { result ≡ edge_at (point_in points.now) (length points.now) claim.now i }
 {
     let a = claim[i];
-    if n <= a {
-        return false;
-    }
-    if i != 0 {
-        if a == claim[0] {
-            return false;
-        }
-    }
-    is_supporting_edge(xs, ys, n, a, claim[(i + 1) % claim.len()])
+    let next = claim[(i + 1) % claim.len()];
+    a < points.len() && (i == 0 || a != claim[0]) && is_supporting_edge(points, a, next)
 }

@@ -1,53 +1,45 @@
 use mathlib.Core.Path.{◌≡◌}
 use Prim.Native.Nat.{ℕ}
 use native.Mathlib.Omega.{arith}
-use Rattle.hull.proofs.Taking.{one_accepted, place_free, one_refused}
+use Rattle.std.proofs.lemmas.Result.{err_from_is_err_and}
+use Rattle.model.specs.Marking.{points_of}
+use Rattle.hull.proofs.Taking.{Asked, one_accepted, place_free, one_refused}
 use Rattle.marking.proofs.Points.{none_placed, pairs_length, asked_for, one_placed, all_placed}
-use borrow.Author.Rules.{rules}
 use Rattle.marking.proofs.take_points.Goals as goal
+use Rattle.marking.proofs.take_points.Goals.{After-admission_hashed}
 
 pub loop-k-init : goal.loop-k-init
-loop-k-init c = none_placed (omega arith) c.requires.0 c.requires.1 c.no_hashes-hashes.ensures
+loop-k-init c = none_placed (omega arith) c.requires c.empty-hashes.ensures
 
-pub returns-in-Refused : goal.returns-in-Refused
-returns-in-Refused c =
-    let asked =
+-- an iteration, from what was found for its point
+asked : (c : After-admission_hashed) →
+    Asked (points_of c.args.points.now) c.loop-k.k c.loop-k.invariant.m c.loop-k.hashes c.pair_at-p.result
+    c.admission_hashed.result
+asked c =
     asked_for c.loop-k.invariant (omega (arith, pairs_length c.args.points.now)) c.pair_at-p.ensures
-    c.admission_hashed-outcome.ensures in
-    record {
-      answer = one_refused asked _ c.in-Refused.is;
+    c.admission_hashed.ensures
+
+pub returns-in_err-admission_hashed : goal.returns-in_err-admission_hashed
+returns-in_err-admission_hashed c =
+    let p = err_from_is_err_and c.from_residual.result c.from_residual.ensures.1 in
+    rw (p.1, p.2)
+    (record {
+      answer =
+          one_refused (asked (goal.at.returns-in_err-admission_hashed c).After-admission_hashed) _
+          c.in_err-admission_hashed.was;
       held = λ e. absurd (let z : ◌≡◌ {A = ℕ} 0 1 = cc in omega arith);
-    }
+    })
 
-pub bounds-xs-k : goal.bounds-xs-k
-bounds-xs-k c =
-    place_free
-    (asked_for c.loop-k.invariant (omega (arith, pairs_length c.args.points.now)) c.pair_at-p.ensures
-    c.admission_hashed-outcome.ensures)
-    c.in-Served.is
+pub bounds-places-k : goal.bounds-places-k
+bounds-places-k c = place_free (asked (goal.at.bounds-places-k c).After-admission_hashed) c.in_ok-admission_hashed.was
 
-pub bounds-ys-k : goal.bounds-ys-k
-bounds-ys-k c =
-    place_free
-    (asked_for c.loop-k.invariant (omega (arith, pairs_length c.args.points.now)) c.pair_at-p.ensures
-    c.admission_hashed-outcome.ensures)
-    c.in-Served.is
-
-pub put_hash-requires : goal.put_hash-requires
-put_hash-requires c =
-    (one_accepted
-    (asked_for c.loop-k.invariant (omega (arith, pairs_length c.args.points.now)) c.pair_at-p.ensures
-    c.admission_hashed-outcome.ensures)
-    c.in-Served.is).ranged
+pub put-requires : goal.put-requires
+put-requires c = (one_accepted (asked (goal.at.put-requires c).After-admission_hashed) c.in_ok-admission_hashed.was).ranged
 
 pub loop-k-preserved : goal.loop-k-preserved
 loop-k-preserved c =
-    let taken =
-    one_placed c.loop-k.invariant
-    (asked_for c.loop-k.invariant (omega (arith, pairs_length c.args.points.now)) c.pair_at-p.ensures
-    c.admission_hashed-outcome.ensures)
-    c.in-Served.is in
-    rw c.put_hash.ensures (search rules)
+    rw c.put.ensures
+    (one_placed c.loop-k.invariant (asked (goal.at.loop-k-preserved c).After-admission_hashed) c.in_ok-admission_hashed.was)
 
 pub returns : goal.returns
 returns c = all_placed c.loop-k.invariant (omega (arith, pairs_length c.args.points.now))

@@ -4,4 +4,4 @@ use Rattle.marking.proofs.Points.{Placing}
 use Rattle.marking.proofs.take_points.Given as goal
 
 abbrev pub invariant-loop-k : goal.invariant-loop-k
-invariant-loop-k l = Placing (points_of l.points) l.k l.xs l.ys l.hashes
+invariant-loop-k l = Placing (points_of l.points) l.k l.places l.hashes

@@ -7,11 +7,11 @@ ghost use Rattle.model.specs.Outlines.{joined, point_text};
 ghost use Rattle.printing.specs.Writing.{Room, PutAt};
 ghost use Rattle.drawings.specs.Positions.{next_text, points_at};
 
-use maps::reading::point_at;
-use model::Point;
+use model::{Map, Point};
 use printing::writing::{number_length, put_byte, put_number, put_word};
 
 // How many bytes a position takes.
+#[tactic(auto, using(crate::proofs::Joined::spelt_most), unfolding(model::specs::Outlines::point_text))]
 pub fn position_length(p: Point) -> usize
     ensures { result ≡ length (point_text p) }
 {
@@ -19,6 +19,7 @@ pub fn position_length(p: Point) -> usize
 }
 
 // Writes a position.
+#[tactic(auto, using(printing::proofs::Overwriting::room_first, printing::proofs::Overwriting::room_second, printing::proofs::Overwriting::wrote_then), unfolding(model::specs::Outlines::point_text))]
 fn put_position(lent: &mut [u8], at: usize, p: Point) -> usize
     requires { Room lent.old at (point_text p) }
     ensures { PutAt lent.old at (point_text p) lent.new result }
@@ -29,6 +30,7 @@ fn put_position(lent: &mut [u8], at: usize, p: Point) -> usize
 }
 
 // Writes a position that comes after another one.
+#[tactic(auto, using(printing::proofs::Overwriting::room_first, printing::proofs::Overwriting::room_second, printing::proofs::Overwriting::wrote_then), unfolding(crate::specs::Positions::next_text, model::specs::Spelling::bytes))]
 pub fn put_next(lent: &mut [u8], at: usize, p: Point) -> usize
     requires { Room lent.old at (next_text p) }
     ensures { PutAt lent.old at (next_text p) lent.new result }
@@ -39,14 +41,13 @@ pub fn put_next(lent: &mut [u8], at: usize, p: Point) -> usize
 
 // How many bytes the positions of a first point and of other ones take. They are a map's corners at
 // most.
-pub fn positions_length<'a>(xs: &'a [i64], ys: &'a [i64], first: Point, others: &[usize]) -> usize
+pub fn positions_length(map: &Map, first: Point, others: &[usize]) -> usize
     requires { length others.now ≤ point_limit }
-    ensures { result ≡ length
-        (joined first (points_at xs.now ys.now others.now)) }
+    ensures { result ≡ length (joined first (points_at map.now others.now)) }
 {
     let mut total = position_length(first);
-    for i in 0..others.len() {
-        total += 2 + position_length(point_at(xs, ys, others[i]));
+    for &a in others {
+        total += 2 + position_length(map.point(a));
     }
     total
 }
@@ -55,22 +56,18 @@ pub fn positions_length<'a>(xs: &'a [i64], ys: &'a [i64], first: Point, others: 
 pub fn put_positions<'a>(
     lent: &mut [u8],
     at: usize,
-    word: &[u8],
-    xs: &'a [i64],
-    ys: &'a [i64],
+    word: &'a [u8],
+    map: &'a Map,
     first: Point,
-    others: &[usize],
+    others: &'a [usize],
 ) -> usize
-    requires { Room lent.old at
-        (word.now ++ joined first (points_at xs.now ys.now others.now)) }
-    ensures { PutAt lent.old at (word.now ++
-        joined first (points_at xs.now ys.now others.now))
-        lent.new result }
+    requires { Room lent.old at (word.now ++ joined first (points_at map.now others.now)) }
+    ensures { PutAt lent.old at (word.now ++ joined first (points_at map.now others.now)) lent.new result }
 {
     let position = put_word(lent, at, word);
     let mut end = put_position(lent, position, first);
-    for i in 0..others.len() {
-        end = put_next(lent, end, point_at(xs, ys, others[i]));
+    for &a in others {
+        end = put_next(lent, end, map.point(a));
     }
     end
 }

@@ -106,7 +106,8 @@ fn is_in_form_of(file: &[u8], version: usize) -> bool
     bytes_at_most(file, notes_start, 5, count, 3)
 }
 
-// Whether the first byte of each group is at most a limit, for so many groups of a width from a place on.
+// Whether the first byte of each group is at most a limit, for so many groups of a width from a place on. A
+// loop: of `(0..count).all(..)` it was not proved that it answers this.
 fn bytes_at_most(file: &[u8], at: usize, width: usize, count: usize, limit: usize) -> bool
     requires { (1 ≤ width) × (at + width * count ≤ length file.now) }
     ensures { result ≡ all count (λ k. leb (number_at file.now (at + width * k) 1) limit) }

@@ -6,7 +6,7 @@
 -- the last two, by which a walk that goes round more than once is told from one that does not.
 use mathlib.Core.Path.{◌≡◌, sym, subst, ◌∙◌}
 use mathlib.Core.Logic.{◌≢◌, ⊎_elim}
-use mathlib.Core.Bool.{Bool, not, ◌&&◌}
+use mathlib.Core.Bool.{not, ◌&&◌}
 use mathlib.Core.List.{List}
 use Prim.Native.Nat.{ℕ, zero, suc, ◌+◌, ◌-◌, ◌%◌, ◌≤◌, ◌<◌}
 use native.Mathlib.Nat.{mod-eq_of_lt, mod_self}
@@ -19,8 +19,8 @@ use Rattle.integers.specs.Order.{order, -ℤ_splits, <ℤ_weaken}
 use Rattle.integers.specs.Sign.{pos_pos, nonneg_nonneg, second_pos_pos, sum_pos_left, sum_pos_right}
 use Rattle.integers.specs.Solver.{con, ◌⊕◌, ◌⊖◌, ◌⊗◌, ◌≐◌}
 use Rattle.integers.proofs.Solver.{identity}
-use Rattle.finite.specs.Tests.{◌⇒◌, and_left, and_right, and_both, implies_use, implies_by, differ_by, same_test}
-use Rattle.finite.specs.Bounded.{all, all_at, all_by, lt_or_ge}
+use Rattle.finite.specs.Tests.{and_left, and_right, and_both, implies_use, implies_by, differ_by, same_test}
+use Rattle.finite.specs.Bounded.{all_at, all_by, lt_or_ge}
 use Rattle.finite.specs.Lists.{all_in}
 use Rattle.model.specs.declared.Point.{Point}
 use Rattle.model.specs.Plane.{at, origin, in_range, orientation, left_of, lower}
@@ -35,17 +35,8 @@ use Rattle.plane.proofs.Betweenness.{beside_left}
 use Rattle.plane.proofs.Convex.{corners_strict}
 use Rattle.sight.proofs.Beyond.{sound_convex}
 use Rattle.hull.proofs.History.{run_shaped}
+use Rattle.listings.specs.Listings.{turns_at}
 use Rattle.corners.proofs.Listings.{Listable, listable_holds, listable_by, point_is, two_points, edge_to_next}
-
--- ---- what is tested
-
-unfoldable pub turns : List Point → Bool
-turns cs =
-    all (length cs)
-    (λ k.
-    leb 2 k
-    ⇒ (left_of (get_or cs 0 origin) (get_or cs (k - 1) origin) (get_or cs k origin)
-    && left_of (get_or cs (k - 2) origin) (get_or cs (k - 1) origin) (get_or cs k origin)))
 
 -- ---- points above a lowest one
 
@@ -227,24 +218,24 @@ module _ (cs : List Point) (few : length cs ≤ point_limit) (lowest : T (lowest
 
   -- ---- where the walk turns left, all lie beside each edge
 
-  module _ (t : T (turns cs)) where
+  module _ (t : T (turns_at cs)) where
     -- what is tested at place k, and the same by the places before it
-    turn_at : (k : ℕ) → 2 ≤ k → k < length cs →
+    turned_at : (k : ℕ) → 2 ≤ k → k < length cs →
         T (left_of (corner 0) (corner (k - 1)) (corner k) && left_of (corner (k - 2)) (corner (k - 1)) (corner k))
-    unfolding turns
-    turn_at k two h = implies_use (leb 2 k) _ (all_at (length cs) _ t k h) (le→leb 2 k two)
+    unfolding turns_at
+    turned_at k two h = implies_use (leb 2 k) _ (all_at (length cs) _ t k h) (le→leb 2 k two)
 
     turns_onward : (k : ℕ) → 1 ≤ k → suc k < length cs → T (left_of (corner 0) (corner k) (corner (suc k)))
     turns_onward k one h =
         let before : suc k - 1 ≡ k = omega arith in
-        rw before at (and_left (left_of (corner 0) (corner (suc k - 1)) (corner (suc k))) _ (turn_at (suc k) (omega arith) h))
+        rw before at (and_left (left_of (corner 0) (corner (suc k - 1)) (corner (suc k))) _ (turned_at (suc k) (omega arith) h))
 
     turns_bend : (k : ℕ) → suc (suc k) < length cs → T (left_of (corner k) (corner (suc k)) (corner (suc (suc k))))
     turns_bend k h =
         let before : suc (suc k) - 1 ≡ suc k = omega arith in
         let first : suc (suc k) - 2 ≡ k = omega arith in
         rw (before, first) at
-        (and_right (left_of (corner 0) (corner (suc (suc k) - 1)) (corner (suc (suc k)))) _ (turn_at (suc (suc k)) (omega arith) h))
+        (and_right (left_of (corner 0) (corner (suc (suc k) - 1)) (corner (suc (suc k)))) _ (turned_at (suc (suc k)) (omega arith) h))
 
     turning_listable : Listable cs
     turning_listable =
@@ -287,8 +278,8 @@ module _ (cs : List Point) (few : length cs ≤ point_limit) (lowest : T (lowest
         (corners_strict (sound_convex (run_shaped cs) (two_points cs ranged l two)) a c on_a.0
         (edge_to_next cs ranged l two c k).0 d (λ i. e (i ∙ next)))
 
-    supporting_turns : T (turns cs)
-    unfolding turns
+    supporting_turns : T (turns_at cs)
+    unfolding turns_at
     supporting_turns =
         all_by (length cs) _
         (λ k h.
@@ -301,6 +292,6 @@ module _ (cs : List Point) (few : length cs ≤ point_limit) (lowest : T (lowest
         (strictly_left (k - 2) (k - 1) k (omega arith) (omega arith) h (omega arith) (omega arith))))
 
 pub turns_same : (cs : List Point) → T (all_in in_range cs) → length cs ≤ point_limit → T (lowest_is_first cs) →
-    turns cs ≡ all_support cs
+    turns_at cs ≡ all_support cs
 turns_same cs ranged few lowest =
-    same_test (turns cs) (all_support cs) (turning_supports cs few lowest) (supporting_turns cs few lowest ranged)
+    same_test (turns_at cs) (all_support cs) (turning_supports cs few lowest) (supporting_turns cs few lowest ranged)

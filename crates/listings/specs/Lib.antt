@@ -1,3 +1,3 @@
 -- What the functions of this crate answer. Nothing is assumed.
---     Listings    corners that some survey lists, in two arrays
+--     Listings    corners that some survey lists, in an array
 pub mod Listings

@@ -15,33 +15,31 @@ ghost use Rattle.model.specs.Marking.{mark_call, points_of};
 
 use corners::listing::corners_of;
 use drawings::{text_length, write_text};
+use engine::checks::check_map;
 use measures::area_of;
-use model::{Doubled, Map, Marked, Outcome, Refusal, Removed, Written};
+use model::{Map, Refusal};
 use removal::taken_back;
-use soundness::is_sound;
 
 // The text of a map's outline, written into a lent list: numbers 1 and 10. A longer list keeps its tail,
 // and a refused call writes nothing.
-pub fn write_outline(map: Map, lent: &mut [u8]) -> Written
-    ensures { Wrote (unsound map ∷ []) (outline_text (corner_points map))
+pub fn write_outline(map: &Map, lent: &mut [u8]) -> Result<usize, Refusal>
+    ensures { Wrote (unsound map.now ∷ []) (outline_text (corner_points map.now))
         lent.old lent.new result }
 {
-    if !is_sound(map) {
-        return Written::Refused(Refusal::NotSound);
-    }
+    check_map(map)?;
     let list = corners_of(map);
-    let count = list.count;
-    let length = text_length(&map.xs, &map.ys, &list.points, count);
+    let corners = list.as_slice();
+    let length = text_length(map, corners);
     if lent.len() < length {
-        return Written::Refused(Refusal::ShortList);
+        return Err(Refusal::ShortList);
     }
-    write_text(&map.xs, &map.ys, &list.points, count, lent);
-    Written::Length(length)
+    write_text(map, corners, lent);
+    Ok(length)
 }
 
 // The corners of an outline's text, their coordinates x and y in turn written into a lent list: numbers 9,
 // 11, 3, 12 and 10. A longer list keeps its tail, and a refused call writes nothing.
-pub fn read_outline(text: &[u8], lent: &mut [i64]) -> Written
+pub fn read_outline(text: &[u8], lent: &mut [i64]) -> Result<usize, Refusal>
     ensures { Wrote (outline_rules text.now)
         (coordinates (corners_spelt text.now)) lent.old lent.new result }
 {
@@ -50,42 +48,29 @@ pub fn read_outline(text: &[u8], lent: &mut [i64]) -> Written
 
 // Twice the area of a map's outline, as a fan of triangles from the corner at a place of the listing: numbers 1
 // and 6. Fewer than three points give 0 for any place.
-pub fn area(map: Map, place: usize) -> Doubled
-    ensures { Answered (area_call map place) result }
+pub fn area(map: &Map, place: usize) -> Result<i64, Refusal>
+    ensures { Answered (area_call map.now place) result }
 {
-    if !is_sound(map) {
-        return Doubled::Refused(Refusal::NotSound);
-    }
+    check_map(map)?;
     area_of(map, place)
 }
 
 // Whether a claimed list of point numbers is the corner listing of the points, begun at any corner, or the first
 // refusal met when the points are offered to the empty map: numbers 2, 3 and 4. Points are pairs x, y; an odd last
 // number names no point.
-pub fn mark(points: &[i64], claim: &[usize]) -> Marked
+pub fn mark(points: &[i64], claim: &[usize]) -> Result<bool, Refusal>
     ensures { Answered (mark_call (points_of points.now) claim.now) result }
 {
     marking::mark(points, claim)
 }
 
-// The map before its last point: numbers 1 and 13. Where the call is refused, the map is as it was.
-pub fn remove_last(map: Map) -> Removed
-    ensures { Answered (remove_call map) result }
+// The map before its last point: numbers 1 and 13.
+pub fn remove_last(map: &Map) -> Result<Map, Refusal>
+    ensures { Answered (remove_call map.now) result }
 {
-    if !is_sound(map) {
-        return Removed {
-            outcome: Outcome::Refused(Refusal::NotSound),
-            map,
-        };
-    }
+    check_map(map)?;
     if map.count == 0 {
-        return Removed {
-            outcome: Outcome::Refused(Refusal::NoPoint),
-            map,
-        };
+        return Err(Refusal::NoPoint);
     }
-    Removed {
-        outcome: Outcome::Served,
-        map: taken_back(map),
-    }
+    Ok(taken_back(map))
 }

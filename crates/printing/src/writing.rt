@@ -1,5 +1,6 @@
 // Writing at a place of a lent list: bytes, words and whole numbers in decimal, each with its
-// length. A function that writes is given room and answers the place after what it wrote.
+// length. A function that writes is given room and answers the place after what it wrote. A struct of
+// the list and the place would be lent as they are, and each contract would name both fields.
 
 ghost use Rattle.std.specs.Prelude.{◌≡◌, [], ◌∷◌, ◌+◌, ◌<◌, pos, length};
 ghost use Rattle.model.specs.Spelling.{digit_zero, spelt};

@@ -1,6 +1,7 @@
 // Lines of a text by their places: what the line at a place names, and where the next one begins.
 // A line is read from its front on; in a line that is not in form the line feed is sought from where
-// reading stopped.
+// reading stopped. The functions take a text and a place and no `Reader`: `at_end` and `read_at` are
+// promised so.
 
 ghost use Rattle.std.specs.Prelude.{◌≡◌, ◌+◌, ◌==◌, not, ltb, drop, get_or, length, take_while};
 ghost use Rattle.model.specs.declared.Refusal.{Refusal};

@@ -1,49 +1,49 @@
--- `listings::is_listable` meets its contract: the conjunction of its three tests.
-use borrow.Author.Tests.{le-leb, lt-leb}
-use mathlib.Core.Path.{◌≡◌, sym, ◌∙◌, ap}
-use mathlib.Core.Bool.{Bool, ◌&&◌}
-use Prim.Native.Nat.{ℕ, ◌≤◌, ◌<◌}
-use lib.Dec.{leb}
+-- `listings::is_listable` meets its contract: the conjunction of its tests.
+use Rattle.std.proofs.Common.{◌≡◌, sym, ap, ◌∙◌, ◌<◌, ◌⊎◌, ⊎_elim, ◌&&◌, Bool, arith, List, ℕ, length, take}
+use native.Mathlib.Nat.{sub-zero}
+use Rattle.model.specs.declared.Point.{Point}
 use Rattle.model.specs.Maps.{point_limit}
-use Rattle.listings.specs.Listings.{lowest_at, turns_at}
-use Rattle.listings.proofs.Listed.{tests_same}
+use Rattle.listings.specs.Listings.{turns_at}
+use Rattle.listings.proofs.Listed.{front_ranged, few_points, many_points}
 use Rattle.listings.proofs.is_listable.Goals as goal
-use Rattle.listings.proofs.is_listable.Goals.{then-n-le-POINT_LIMIT, else-n-le-POINT_LIMIT}
+use Rattle.listings.proofs.is_listable.Goals.{In-Some}
 
--- what the first two tests find
-module _ (n : ℕ) (lowest : Bool) where
-  few : {r v : Bool} → n ≤ point_limit → r ≡ lowest → v ≡ r → v ≡ (leb n point_limit && lowest)
-  few h e f = f ∙ e ∙ sym (ap (λ (t : Bool). t && lowest) (le-leb n point_limit h))
+-- the points that are asked
+asked : (c : In-Some) → c.in-Some.corners.now ≡ take c.args.n c.args.points.now
+asked c = c.in-Some.ensures.lookup.0.2 ∙ ap (λ (k : ℕ). take k c.args.points.now) (sub-zero c.args.n)
 
-  many : {v : Bool} → point_limit < n → v ≡ leb n point_limit → v ≡ (leb n point_limit && lowest)
-  many h f = f ∙ lt-leb n point_limit h ∙ sym (ap (λ (t : Bool). t && lowest) (lt-leb n point_limit h))
+pub turn_left-requires : goal.turn_left-requires
+turn_left-requires c =
+    let a = c.args in
+    let here = (goal.at.turn_left-requires c).In-Some in
+    rw (asked here) (front_ranged a.points.now a.n c.in-Some.ensures.lookup.0.1 c.requires)
 
 pub returns-then-lowest_is_first : goal.returns-then-lowest_is_first
 returns-then-lowest_is_first c =
-    let xs = c.args.xs.now in
-    let ys = c.args.ys.now in
-    let n = c.args.n in
-    let lowest = lowest_at xs ys n in
-    let first_two : c.if-n-le-POINT_LIMIT.value ≡ (leb n point_limit && lowest) =
-    elim c.if-n-le-POINT_LIMIT.branch [
-      | then-n-le-POINT_LIMIT w ↦ few n lowest w.if-n-le-POINT_LIMIT.true w.lowest_is_first.ensures w.value-is
-      | else-n-le-POINT_LIMIT w ↦ many n lowest w.if-n-le-POINT_LIMIT.false w.value-is
-    ] in
+    let a = c.args in
+    let here = (goal.at.returns-then-lowest_is_first c).In-Some in
+    let fits = c.in-Some.ensures.lookup.0.1 in
+    let ranged = front_ranged a.points.now a.n fits c.requires in
     c.turn_left.ensures
-    ∙ sym (ap (λ (t : Bool). t && turns_at xs ys n) (sym first_two ∙ c.if-lowest_is_first.true))
-    ∙ tests_same xs ys n c.requires
+    ∙ sym (ap (λ (t : Bool). t && turns_at c.in-Some.corners.now)
+    (sym c.lowest_is_first.ensures ∙ c.if-lowest_is_first.true))
+    ∙ few_points a.points.now c.in-Some.corners.now a.n c.told-points fits (asked here) (rw (asked here) ranged)
 
 pub returns-else-lowest_is_first : goal.returns-else-lowest_is_first
 returns-else-lowest_is_first c =
-    let xs = c.args.xs.now in
-    let ys = c.args.ys.now in
-    let n = c.args.n in
-    let lowest = lowest_at xs ys n in
-    let first_two : c.if-n-le-POINT_LIMIT.value ≡ (leb n point_limit && lowest) =
-    elim c.if-n-le-POINT_LIMIT.branch [
-      | then-n-le-POINT_LIMIT w ↦ few n lowest w.if-n-le-POINT_LIMIT.true w.lowest_is_first.ensures w.value-is
-      | else-n-le-POINT_LIMIT w ↦ many n lowest w.if-n-le-POINT_LIMIT.false w.value-is
-    ] in
+    let a = c.args in
+    let here = (goal.at.returns-else-lowest_is_first c).In-Some in
+    let fits = c.in-Some.ensures.lookup.0.1 in
+    let ranged = front_ranged a.points.now a.n fits c.requires in
     c.if-lowest_is_first.false
-    ∙ sym (ap (λ (t : Bool). t && turns_at xs ys n) (sym first_two ∙ c.if-lowest_is_first.false))
-    ∙ tests_same xs ys n c.requires
+    ∙ sym (ap (λ (t : Bool). t && turns_at c.in-Some.corners.now)
+    (sym c.lowest_is_first.ensures ∙ c.if-lowest_is_first.false))
+    ∙ few_points a.points.now c.in-Some.corners.now a.n c.told-points fits (asked here) (rw (asked here) ranged)
+
+past : (s : List Point) (n : ℕ) → length s ≡ point_limit → (n < 0) ⊎ (length s < n) → point_limit < n
+past s n long e = ⊎_elim (λ h. absurd (omega arith)) (λ h. omega arith) e
+
+pub returns-in-None : goal.returns-in-None
+returns-in-None c =
+    let a = c.args in
+    many_points _ a.n (past a.points.now a.n c.told-points c.in-None.ensures.lookup.0)

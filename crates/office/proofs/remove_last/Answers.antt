@@ -1,42 +1,33 @@
 -- `office::remove_last` meets its contract: the soundness check, then whether there is a point, and then
 -- what is taken back of a sound map.
-use borrow.Author.Tests.{eq-eqb, ne_eqb, not-false}
-use mathlib.Core.Path.{refl, sym, ap, ◌∙◌}
+use mathlib.Core.Path.{refl, ap, ◌∙◌}
 use native.Mathlib.Omega.{arith}
-use Rattle.finite.specs.Tests.{of_true}
-use Rattle.model.specs.declared.Map.{Map}
-use Rattle.model.specs.declared.Outcome.{Outcome}
-use Rattle.model.specs.Sound.{sound}
+use borrow.Author.Tests.{eq-eqb, ne_eqb}
+use Rattle.std.specs.declared.result.Result.TheVariants.{Ok}
 use Rattle.model.specs.Answers.{outcome_answer}
-use Rattle.model.specs.Removal.{keeping}
 use Rattle.model.proofs.Answers.{answered, rule_applies, rule_passes, no_rule}
-use Rattle.engine.proofs.Rules.{tested}
-use mathlib.Core.Path.{ap}
-use mathlib.Core.Bool.{not}
+use Rattle.deciding.proofs.Verdicts.{passed_up}
+use Rattle.engine.proofs.Rules.{checked_whole, first_refuses, first_serves}
 use Rattle.office.proofs.remove_last.Goals as goal
 
-pub returns-then-not-is_sound : goal.returns-then-not-is_sound
+pub returns-in_err-check_map : goal.returns-in_err-check_map
 unfolding outcome_answer
-returns-then-not-is_sound c = let s = c.args in
-    answered _ (λ r. refl)
-    (rule_applies (keeping s.map) _ _ _ (tested c.is_sound.ensures (ap not c.if-not-is_sound.true)))
+returns-in_err-check_map c =
+    rw (passed_up _ _ c.from_residual.ensures.1)
+    (answered _ (λ r. refl) (first_refuses _ _ _ _ c.in_err-check_map.ensures))
 
 pub returns-then-map-eq0 : goal.returns-then-map-eq0
 unfolding outcome_answer
-returns-then-map-eq0 c = let m = c.args.map in
+returns-then-map-eq0 c =
     answered _ (λ r. refl)
-    (rule_passes (keeping m) _ _ _ (tested c.is_sound.ensures (ap not c.if-not-is_sound.false))
-    (rule_applies (keeping m) _ _ _ (eq-eqb m.count 0 c.if-map-eq0.true)))
+    (first_serves _ _ _ _ c.in_ok-check_map.ensures (rule_applies _ _ _ _ (eq-eqb _ 0 c.if-map-eq0.true)))
 
 pub taken_back-requires : goal.taken_back-requires
-taken_back-requires c = let m = c.args.map in
-    (of_true (sound m) (sym c.is_sound.ensures ∙ not-false _ (ap not c.if-not-is_sound.false)), omega arith)
+taken_back-requires c = (checked_whole _ c.in_ok-check_map.ensures, omega arith)
 
 pub returns : goal.returns
 unfolding outcome_answer
-returns c = let m = c.args.map in
+returns c =
     answered _ (λ r. refl)
-    (rule_passes (keeping m) _ _ _ (tested c.is_sound.ensures (ap not c.if-not-is_sound.false))
-    (rule_passes (keeping m) _ _ _ (ne_eqb m.count 0 c.if-map-eq0.false)
-    (ap (λ (n : Map). record { outcome = Outcome.Served; map = n }) c.taken_back.ensures
-    ∙ no_rule (keeping m) _)))
+    (first_serves _ _ _ _ c.in_ok-check_map.ensures
+    (rule_passes _ _ _ _ (ne_eqb _ 0 c.if-map-eq0.false) (ap Ok c.taken_back.ensures ∙ no_rule _ _)))

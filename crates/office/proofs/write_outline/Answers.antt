@@ -7,34 +7,39 @@ use native.Mathlib.Omega.{arith}
 use lib.ListN.{length}
 use Rattle.finite.specs.Overwriting.{over}
 use Rattle.model.specs.Outlines.{corner_points, outline_text}
+use Rattle.drawings.specs.Positions.{points_at}
 use Rattle.drawings.proofs.Outlines.{listed_text}
-use Rattle.engine.proofs.Rules.{tested, found_sound}
+use Rattle.deciding.proofs.Verdicts.{passed_up}
+use Rattle.engine.proofs.Rules.{checked_map}
 use Rattle.engine.proofs.Entries.{rule_refused, short_refused, result_written}
-use mathlib.Core.Path.{ap}
-use mathlib.Core.Bool.{not}
 use Rattle.office.proofs.write_outline.Goals as goal
 use Rattle.office.proofs.write_outline.Goals.{After-text_length-length}
 
 -- the length was asked for
 module _ (c : After-text_length-length) where
-  size : c.text_length-length.result ≡ length (outline_text (corner_points c.args.map))
-  size = c.text_length-length.ensures ∙ ap length (listed_text c.corners_of-list.ensures)
+  text_is : outline_text (points_at c.args.map.now c.as_slice-corners.result.now)
+      ≡ outline_text (corner_points c.args.map.now)
+  text_is =
+      ap (λ (s : List ℕ). outline_text (points_at c.args.map.now s)) c.as_slice-corners.ensures
+      ∙ listed_text c.corners_of-list.ensures
 
-pub returns-then-not-is_sound : goal.returns-then-not-is_sound
-returns-then-not-is_sound c = rule_refused (tested c.is_sound.ensures (ap not c.if-not-is_sound.true))
+  size : c.text_length-length.result ≡ length (outline_text (corner_points c.args.map.now))
+  size = c.text_length-length.ensures ∙ ap length text_is
+
+pub returns-in_err-check_map : goal.returns-in_err-check_map
+returns-in_err-check_map c =
+    rw (passed_up _ _ c.from_residual.ensures.1) (rule_refused c.in_err-check_map.ensures)
 
 pub corners_of-list-requires : goal.corners_of-list-requires
-corners_of-list-requires c = found_sound c.is_sound.ensures (ap not c.if-not-is_sound.false)
+corners_of-list-requires c = checked_map _ c.in_ok-check_map.ensures
 
 pub returns-then-lent-length : goal.returns-then-lent-length
 returns-then-lent-length c =
-    short_refused (tested c.is_sound.ensures (ap not c.if-not-is_sound.false))
-    (omega (arith, size (goal.at.returns-then-lent-length c).After-text_length-length, c.if-lent-length.true))
+    let d = (goal.at.returns-then-lent-length c).After-text_length-length in
+    short_refused c.in_ok-check_map.ensures (omega (arith, size d, c.if-lent-length.true))
 
 pub returns : goal.returns
 returns c =
-    result_written (tested c.is_sound.ensures (ap not c.if-not-is_sound.false))
-    (size (goal.at.returns c).After-text_length-length)
-    (omega (arith, size (goal.at.returns c).After-text_length-length, c.if-lent-length.false))
-    (c.write_text.ensures
-    ∙ ap (λ (t : List ℕ). over t c.args.lent.now) (listed_text c.corners_of-list.ensures))
+    let d = (goal.at.returns c).After-text_length-length in
+    result_written c.in_ok-check_map.ensures (size d) (omega (arith, size d, c.if-lent-length.false))
+    (c.write_text.ensures ∙ ap (λ (t : List ℕ). over t c.args.lent.now) (text_is d))

@@ -6,6 +6,6 @@ use lib.ListN.{length}
 use Rattle.drawings.proofs.Joined.{following_to}
 use Rattle.drawings.proofs.positions.positions_length.Given as goal
 
-abbrev pub invariant-loop-i : goal.invariant-loop-i
-invariant-loop-i l =
-    (l.total ≡ l.initial.total + length (following_to l.xs l.ys l.others l.i)) × (l.i ≤ length l.others)
+abbrev pub invariant-loop-a : goal.invariant-loop-a
+invariant-loop-a l =
+    (l.total ≡ l.initial.total + length (following_to l.map l.others l.a-index)) × (l.a-index ≤ length l.others)

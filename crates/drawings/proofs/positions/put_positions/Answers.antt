@@ -37,25 +37,25 @@ pub put_position-end-requires : goal.put_position-end-requires
 put_position-end-requires c =
     room_position c.args.word.now c.args.first _ c.requires c.put_word-position.ensures
 
-pub loop-i-init : goal.loop-i-init
-loop-i-init c = drawn_none _ _ _
+pub loop-a-init : goal.loop-a-init
+loop-a-init c = drawn_none _ _
 
 pub put_next-end-requires : goal.put_next-end-requires
 put_next-end-requires c =
     let a = c.args in
-    next_room a.xs.now a.ys.now a.others.now
+    next_room a.map.now a.others.now
     (room_others a.word.now a.first _ c.requires c.put_word-position.ensures c.put_position-end.ensures)
-    c.loop-i.invariant c.loop-i-test.true c.point_at.ensures
+    c.loop-a.invariant c.loop-a-test.true c.point.ensures
 
-pub loop-i-preserved : goal.loop-i-preserved
-loop-i-preserved c =
+pub loop-a-preserved : goal.loop-a-preserved
+loop-a-preserved c =
     let a = c.args in
-    drawn_next a.xs.now a.ys.now a.others.now
+    drawn_next a.map.now a.others.now
     (room_others a.word.now a.first _ c.requires c.put_word-position.ensures c.put_position-end.ensures)
-    c.loop-i.invariant c.loop-i-test.true c.point_at.ensures c.put_next-end.ensures
+    c.loop-a.invariant c.loop-a-test.true c.point.ensures c.put_next-end.ensures
 
 pub returns : goal.returns
 returns c =
     let a = c.args in
     written a.word.now a.first _ c.requires c.put_word-position.ensures c.put_position-end.ensures
-    (drawn_whole a.xs.now a.ys.now a.others.now c.loop-i.invariant c.loop-i-test.false)
+    (drawn_whole a.map.now a.others.now c.loop-a.invariant c.loop-a-test.false)

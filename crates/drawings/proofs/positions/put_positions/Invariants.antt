@@ -3,5 +3,5 @@
 use Rattle.drawings.proofs.Joined.{Drawn}
 use Rattle.drawings.proofs.positions.put_positions.Given as goal
 
-abbrev pub invariant-loop-i : goal.invariant-loop-i
-invariant-loop-i l = Drawn l.initial.lent l.initial.end l.xs l.ys l.others l.lent l.end l.i
+abbrev pub invariant-loop-a : goal.invariant-loop-a
+invariant-loop-a l = Drawn l.initial.lent l.initial.end l.map l.others l.lent l.end l.a-index

@@ -1,11 +1,11 @@
--- `drawings::outline_length` meets its contract, by the number of corners.
+-- `drawings::text_length` meets its contract, by the number of corners.
 use mathlib.Core.Path.{◌≡◌, ap}
 use mathlib.Core.List.{List, ◌++◌}
 use Prim.Native.Nat.{ℕ, ◌+◌, ◌*◌, ◌≤◌}
 use native.Mathlib.Omega.{arith}
-use lib.IntN.{ℤ}
 use lib.ListN.{length, length-append}
 use Rattle.model.specs.declared.Point.{Point}
+use Rattle.model.specs.declared.Map.{Map}
 use Rattle.model.specs.Spelling.{bytes}
 use Rattle.model.specs.Maps.{point_limit}
 use Rattle.model.specs.Outlines.{joined, point_text}
@@ -13,18 +13,18 @@ use Rattle.drawings.specs.Positions.{points_at, next_text}
 use Rattle.drawings.proofs.Joined.{position_most, next_length}
 use Rattle.drawings.proofs.Outlines.{text_none, text_one, text_two, text_more}
 use Rattle.drawings.proofs.Outlines.{others, length_three, positions_most}
-use Rattle.drawings.proofs.outline_length.Goals as goal
+use Rattle.drawings.proofs.text_length.Goals as goal
 
 pub returns-then-count-eq0 : goal.returns-then-count-eq0
 unfolding bytes
 returns-then-count-eq0 c =
-    omega (arith, ap length (text_none c.args.xs.now c.args.ys.now c.args.corners.now c.if-count-eq0.true))
+    omega (arith, ap length (text_none c.args.map.now c.args.corners.now c.if-count-eq0.true))
 
 -- where the positions' length is known
-module _ (xs ys : List ℤ) (corners : List ℕ) (first : Point) (limited : length corners ≤ point_limit)
-    {length_of : ℕ} (known : length_of ≡ length (joined first (points_at xs ys (others corners)))) where
+module _ (m : Map) (corners : List ℕ) (first : Point) (limited : length corners ≤ point_limit)
+    {length_of : ℕ} (known : length_of ≡ length (joined first (points_at m (others corners)))) where
   few : length_of ≤ 43 + 45 * point_limit
-  few = omega (arith, positions_most xs ys first corners limited)
+  few = omega (arith, positions_most m first corners limited)
 
   -- how large the sum of the last line is
   last_few : {closing : ℕ} → closing ≡ length (point_text first) →
@@ -35,7 +35,7 @@ pub overflow_add-result : goal.overflow_add-result
 overflow_add-result c =
     omega (
       arith,
-      few c.args.xs.now c.args.ys.now c.args.corners.now _ c.requires
+      few c.args.map.now c.args.corners.now _ c.requires
           c.positions_length-positions.ensures,
     )
 
@@ -43,18 +43,17 @@ pub overflow_add-result-then-count-eq1 : goal.overflow_add-result-then-count-eq1
 overflow_add-result-then-count-eq1 c =
     omega (
       arith,
-      few c.args.xs.now c.args.ys.now c.args.corners.now _ c.requires
+      few c.args.map.now c.args.corners.now _ c.requires
           c.positions_length-positions.ensures,
     )
 
 pub returns-then-count-eq1 : goal.returns-then-count-eq1
 unfolding bytes
 returns-then-count-eq1 c =
-    let xs = c.args.xs.now in
-    let ys = c.args.ys.now in
+    let m = c.args.map.now in
     let corners = c.args.corners.now in
-    let positions = joined c.point_at-first.result (points_at xs ys (others corners)) in
-    let text = text_one xs ys corners c.point_at-first.ensures c.if-count-eq1.true in
+    let positions = joined c.point-first.result (points_at m (others corners)) in
+    let text = text_one m corners c.point-first.ensures c.if-count-eq1.true in
     omega (
       arith,
       c.positions_length-positions.ensures,
@@ -66,7 +65,7 @@ pub overflow_add-result-then-count-eq2 : goal.overflow_add-result-then-count-eq2
 overflow_add-result-then-count-eq2 c =
     omega (
       arith,
-      few c.args.xs.now c.args.ys.now c.args.corners.now _ c.requires
+      few c.args.map.now c.args.corners.now _ c.requires
           c.positions_length-positions.ensures,
     )
 
@@ -74,18 +73,17 @@ pub overflow_add-result-then-count-eq2-2 : goal.overflow_add-result-then-count-e
 overflow_add-result-then-count-eq2-2 c =
     omega (
       arith,
-      few c.args.xs.now c.args.ys.now c.args.corners.now _ c.requires
+      few c.args.map.now c.args.corners.now _ c.requires
           c.positions_length-positions.ensures,
     )
 
 pub returns-then-count-eq2 : goal.returns-then-count-eq2
 unfolding bytes
 returns-then-count-eq2 c =
-    let xs = c.args.xs.now in
-    let ys = c.args.ys.now in
+    let m = c.args.map.now in
     let corners = c.args.corners.now in
-    let positions = joined c.point_at-first.result (points_at xs ys (others corners)) in
-    let text = text_two xs ys corners c.point_at-first.ensures c.if-count-eq2.true in
+    let positions = joined c.point-first.result (points_at m (others corners)) in
+    let text = text_two m corners c.point-first.ensures c.if-count-eq2.true in
     omega (
       arith,
       c.positions_length-positions.ensures,
@@ -97,7 +95,7 @@ pub overflow_add-closing : goal.overflow_add-closing
 overflow_add-closing c =
     omega (
       arith,
-      last_few c.args.xs.now c.args.ys.now c.args.corners.now _ c.requires
+      last_few c.args.map.now c.args.corners.now _ c.requires
           c.positions_length-positions.ensures c.position_length-closing.ensures,
     )
 
@@ -105,7 +103,7 @@ pub overflow_add-result-2 : goal.overflow_add-result-2
 overflow_add-result-2 c =
     omega (
       arith,
-      last_few c.args.xs.now c.args.ys.now c.args.corners.now _ c.requires
+      last_few c.args.map.now c.args.corners.now _ c.requires
           c.positions_length-positions.ensures c.position_length-closing.ensures,
     )
 
@@ -113,7 +111,7 @@ pub overflow_add-result-3 : goal.overflow_add-result-3
 overflow_add-result-3 c =
     omega (
       arith,
-      last_few c.args.xs.now c.args.ys.now c.args.corners.now _ c.requires
+      last_few c.args.map.now c.args.corners.now _ c.requires
           c.positions_length-positions.ensures c.position_length-closing.ensures,
     )
 
@@ -121,19 +119,18 @@ pub overflow_add-result-4 : goal.overflow_add-result-4
 overflow_add-result-4 c =
     omega (
       arith,
-      last_few c.args.xs.now c.args.ys.now c.args.corners.now _ c.requires
+      last_few c.args.map.now c.args.corners.now _ c.requires
           c.positions_length-positions.ensures c.position_length-closing.ensures,
     )
 
 pub returns : goal.returns
 unfolding bytes
 returns c =
-    let xs = c.args.xs.now in
-    let ys = c.args.ys.now in
+    let m = c.args.map.now in
     let corners = c.args.corners.now in
-    let first = c.point_at-first.result in
-    let positions = joined first (points_at xs ys (others corners)) in
-    let text = text_more xs ys corners c.point_at-first.ensures (omega arith) in
+    let first = c.point-first.result in
+    let positions = joined first (points_at m (others corners)) in
+    let text = text_more m corners c.point-first.ensures (omega arith) in
     omega (
       arith,
       c.positions_length-positions.ensures,

@@ -6,14 +6,9 @@ ghost use Rattle.model.specs.Arrival.{admitted, arrive, arrived, later_point};
 ghost use Rattle.sight.specs.Requires.{Accepted, OutlineFor};
 
 use admission::admission;
-use linking::{pair, put_alone, splice};
+use linking::{FIRST, INSIDE, pair, put_alone, splice};
 use model::{Arrival, Map, Offered, Point, Refusal, SoundMap};
 use sight::{Outlook, seen_from};
-
-// How a point that frees no dart arrives, as it is noted.
-const FIRST: u8 = 0;
-
-const INSIDE: u8 = 2;
 
 // A point offered to a sound map: the map after it and how the point arrived, or why it is refused.
 pub fn admitted(sound: SoundMap<'_>, p: Point) -> Result<Offered, Refusal>

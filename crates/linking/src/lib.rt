@@ -12,10 +12,14 @@ ghost use Rattle.linking.specs.Requires.{Cuttable, Linked, Spliceable};
 use model::{Map, NONE_FREED, Note, Point};
 use orbits::{DART_LIMIT, link_of};
 
-// How a point arrives that moves the reference, as it is noted.
-const SECOND: u8 = 1;
+// How a point arrived, as it is noted.
+pub const FIRST: u8 = 0;
 
-const OUTSIDE: u8 = 3;
+pub const SECOND: u8 = 1;
+
+pub const INSIDE: u8 = 2;
+
+pub const OUTSIDE: u8 = 3;
 
 // The partner of dart d is fixed.
 #[tactic(auto, unfolding(model::specs::Arrival::cut))]
@@ -50,7 +54,7 @@ fn put_point(map: &mut Map, p: Point, note: Note)
 }
 
 // What is noted of an arrival that frees no dart.
-pub fn freeing_none(kind: u8) -> Note
+fn freeing_none(kind: u8) -> Note
     ensures { result ≡ freeing_none kind }
 {
     Note {

@@ -1,68 +1,23 @@
 -- The links and the presence of a map's darts as lists for all darts, which the code hands to the
--- functions of `orbits`: a list that is filled with the point links, two for each point; it holds the
--- point link, also past its end; so with the present darts; and where the edge links undo themselves,
--- both links permute the present darts.
+-- functions of `orbits`: a list that is filled with the point links holds the point link, also past its end;
+-- so with the present darts; and where the edge links undo themselves, both links permute the present darts.
 use mathlib.Core.Path.{◌≡◌, refl, sym, ap, subst, ◌∙◌}
 use mathlib.Core.Logic.{⊎_elim}
-use mathlib.Core.Bool.{Bool, true, false, cond}
+use mathlib.Core.Bool.{Bool, false}
 use mathlib.Core.List.{List}
-use Prim.Native.Nat.{ℕ, ◌+◌, ◌-◌, ◌≤◌, ◌<◌}
+use Prim.Native.Nat.{ℕ, ◌≤◌, ◌<◌}
 use native.Mathlib.Omega.{arith}
 use borrow.Author.Tests.{le-ltb}
-use mir.Val.{bool_byte}
-use lib.ListN.{length, get_or, set, replicate, get_or-eq_default}
+use lib.ListN.{length, get_or, get_or-eq_default}
 use Rattle.finite.specs.Bounded.{table, lt_or_ge, length_table, get_or_table}
-use Rattle.finite.specs.ListLaws.{replicate_at}
-use Rattle.finite.specs.Loops.{Filled, one_filled}
 use Rattle.orbits.specs.Sets.{dart_limit}
 use Rattle.orbits.specs.Links.{Composable, Permutes, Involutes, Permuted, link_of, test_of}
 use Rattle.orbits.proofs.Permutations.{involution_permutes}
 use Rattle.model.specs.declared.Map.{Map}
-use Rattle.model.specs.Maps.{point_limit, own, helper, owner, other_dart, point_link_by, has_helper, is_present, edge_link, point_link, dart_bound}
+use Rattle.model.specs.Maps.{point_limit, owner, has_helper, is_present, edge_link, point_link, dart_bound}
 use Rattle.model.specs.Shape.{Shaped}
-use Rattle.maps.proofs.Darts.{owner_own, owner_helper, other_own, other_helper, present_dart}
+use Rattle.maps.proofs.Darts.{present_dart}
 use Rattle.maps.proofs.Links.{point_involutes}
-
--- ---- a loop that writes the point links, two for each point
-
-own_by : (b : Bool) (k : ℕ) → own k + bool_byte b ≡ cond b (other_dart (own k)) (own k)
-own_by true k = omega (arith, other_own k)
-own_by false k = omega arith
-
-helper_by : (b : Bool) (k : ℕ) → helper k - bool_byte b ≡ cond b (other_dart (helper k)) (helper k)
-helper_by true k = omega (arith, other_helper k)
-helper_by false k = omega arith
-
-module _ (helped : ℕ → Bool) (k : ℕ) where
-  own_linked : own k + bool_byte (helped k) ≡ point_link_by helped (own k)
-  own_linked =
-      own_by (helped k) k ∙ ap (λ (j : ℕ). cond (helped j) (other_dart (own k)) (own k)) (sym (owner_own k))
-
-  helper_linked : helper k - bool_byte (helped k) ≡ point_link_by helped (helper k)
-  helper_linked =
-      helper_by (helped k) k ∙ ap (λ (j : ℕ). cond (helped j) (other_dart (helper k)) (helper k)) (sym (owner_helper k))
-
-  pub pair_filled : {links : List ℕ} → Filled (point_link_by helped) 0 dart_limit (own k) links → k < point_limit →
-      Filled (point_link_by helped) 0 dart_limit (own (k + 1))
-      (set (set links (own k) (own k + bool_byte (helped k))) (helper k) (helper k - bool_byte (helped k)))
-  pair_filled {links} f l =
-      let first = one_filled (own k) f (omega arith) (own k + bool_byte (helped k)) own_linked in
-      subst
-      (λ (n : ℕ).
-      Filled (point_link_by helped) 0 dart_limit n
-      (set (set links (own k) (own k + bool_byte (helped k))) (helper k) (helper k - bool_byte (helped k))))
-      (let e : helper k + 1 ≡ own (k + 1) = omega arith in e)
-      (one_filled (helper k) first (omega arith) (helper k - bool_byte (helped k)) helper_linked)
-
--- ---- a loop that asks which darts are present, up to those of the last point
-
--- a list of no answers holds what is true from there on
-pub none_present : (m : Map) (d : ℕ) → dart_bound m ≤ d →
-    get_or (replicate dart_limit false) d false ≡ is_present m d
-unfolding is_present
-none_present m d h = replicate_at dart_limit false d ∙ sym (rw (le-ltb (owner d) m.count (omega arith)))
-
--- ---- what such lists hold
 
 -- a table of a rule that gives the default past the table
 get_or_rule : {A : Type 0} (n : ℕ) (f past : ℕ → A) → ((d : ℕ) → n ≤ d → f d ≡ past d) →
@@ -80,6 +35,11 @@ module _ (m : Map) where
       λ i d.
       get_or_rule dart_limit (point_link m) (λ k. k)
       (λ e l. rw (get_or-eq_default m.helpers false {n = owner e} (omega arith))) d i
+
+  -- .. and of a list that is made so
+  pub links_held : length m.helpers ≡ point_limit → {points : List ℕ} → points ≡ table dart_limit (point_link m) →
+      link_of points ≡ point_link m
+  links_held whole e = ap link_of e ∙ point_table whole
 
   pub links_whole : {points : List ℕ} → points ≡ table dart_limit (point_link m) → length points ≡ dart_limit
   links_whole e = ap length e ∙ length_table dart_limit (point_link m)

@@ -12,7 +12,7 @@ pub mod support;
 pub mod traversal;
 
 // What is noted at a place without a point.
-const NO_NOTE: Note = Note {
+pub const NO_NOTE: Note = Note {
     arrival: 0,
     left: NONE_FREED,
     right: NONE_FREED,

@@ -6,7 +6,7 @@ ghost use Rattle.orbits.specs.Walks.{walk, walker_at};
 ghost use Rattle.model.specs.Maps.{point_limit, is_present, edge_link, point_link};
 ghost use Rattle.model.specs.Reading.{along, orbit_set, counts, darts};
 
-use super::arrays::{point_links, present_darts};
+use super::arrays::{point_link, point_links, present_darts};
 use model::{Counts, Kind, Link, Map, SoundMap};
 use orbits::steps::walk;
 use orbits::{DartSet, Walk, Walker, compose, orbit, orbit_count, part};
@@ -79,13 +79,13 @@ pub fn walk_of(map: &Map, d: usize) -> Walk
 }
 
 // A walker moved by a link of the map, or by none.
-#[tactic(auto, unfolding(model::specs::Reading::along, model::specs::Maps::edge_link))]
+#[tactic(auto, unfolding(model::specs::Reading::along))]
 pub fn moved(map: &Map, link: Link, walker: Walker) -> Walker
     ensures { result ≡ walker_at (along link map.now walker.dart) }
 {
     match link {
         Link::None => walker,
-        Link::Edge => walker.moved(&map.edge),
-        Link::Point => walker.moved(&point_links(map)),
+        Link::Edge => Walker::starting_at(map.edge_link(walker.dart)),
+        Link::Point => Walker::starting_at(point_link(map, walker.dart)),
     }
 }

@@ -1,50 +1,25 @@
--- Points in line with an edge, in the order of this page: the dot product is bounded, and what code reads
--- back of it is the dot product; a point that sees no edge strictly, and is on none, is left of all; a
--- point on an edge is beside all.
-use mathlib.Core.Path.{◌≡◌, sym, subst, ap, ◌∙◌}
+-- Points in line with an edge of an outline, in the order of this page: a point that sees no edge strictly, and is on
+-- none, is left of all; a point on an edge is beside all.
+use mathlib.Core.Path.{◌≡◌, sym, ap, ◌∙◌}
 use mathlib.Core.Logic.{◌≢◌, ◌⊎◌, inl, inr, ⊎_elim}
 use mathlib.Core.List.{List}
-use Prim.Native.Nat.{ℕ, ◌+◌, ◌*◌, ◌≤◌, ◌<◌}
+use Prim.Native.Nat.{ℕ, ◌≤◌, ◌<◌}
 use lib.Dec.{T}
 use lib.ListN.{length}
-use lib.IntN.{ℤ, pos}
+use lib.IntN.{pos}
 use lib.Signed.{◌≤ℤ◌, ◌<ℤ◌}
-use mir.Syntax.{w64}
-use mir.Val.{to_z, of_z, SFits}
-use mir.ValLaws.{to_z-of_z}
 use Rattle.integers.specs.Order.{<ℤ_≢, signs}
-use Rattle.integers.specs.Range.{Bounded, +ℤ_bounded, -ℤ_bounded, *ℤ_bounded, bounded_fits}
 use Rattle.finite.specs.Tests.{and_both, same_or_not}
 use Rattle.finite.specs.Bounded.{lt_or_ge}
 use Rattle.finite.specs.Lists.{elem}
 use Rattle.model.specs.declared.Point.{Point}
 use Rattle.model.specs.Plane.{orientation, left_of, visible_from, in_line, strictly_between, beside}
-use Rattle.plane.specs.OrientedAnswer.{RangedCoordinates}
-use Rattle.plane.specs.Between.{dot, opposite}
+use Rattle.plane.specs.Between.{opposite}
 use Rattle.plane.proofs.Orientation.{orientation_cyclic, orientation_twice, left_positive, positive_left, negative_visible, zero_in_line}
-use Rattle.plane.proofs.Bounds.{span, read_back, read_point}
 use Rattle.plane.proofs.Betweenness.{Between, between_symmetric, between_left, beside_left, beside_between}
 use Rattle.plane.proofs.Betweenness.{one_between, beyond_end, beyond_start}
 use Rattle.plane.proofs.Convex.{Convex, next_member, prev_member, prev_next, next_prev, next_differs, next_not_prev, corners_strict, turns_left, not_right}
 use Rattle.plane.proofs.Beyond.{next_twice, two_corners}
-
-module _ (a b p : Point) (near : RangedCoordinates a.x a.y b.x b.y p.x p.y) where
-  dot_bounded : Bounded (span * span + span * span) (dot a b p)
-  dot_bounded =
-      +ℤ_bounded
-      (*ℤ_bounded (-ℤ_bounded near.ax_near near.cx_near) (-ℤ_bounded near.bx_near near.cx_near))
-      (*ℤ_bounded (-ℤ_bounded near.ay_near near.cy_near) (-ℤ_bounded near.by_near near.cy_near))
-
-  -- what `dot` ensures at a call, with all that is read back from its bits
-  pub read_dot : (z : ℤ) → z ≡ dot (read_back a) (read_back b) (read_back p) → to_z w64 (of_z w64 z) ≡ dot a b p
-  read_dot z e =
-      let ea = read_point a near.ax_near near.ay_near in
-      let eb = read_point b near.bx_near near.by_near in
-      let ep = read_point p near.cx_near near.cy_near in
-      let value : z ≡ dot a b p = e ∙ (λ i. dot (ea i) (eb i) (ep i)) in
-      to_z-of_z w64 z (subst (SFits w64) (sym value) (bounded_fits w64 tt dot_bounded)) ∙ value
-
--- ---- the same round an outline
 
 -- a point that sees no edge of three or more, and is neither a corner nor strictly between the ends of
 -- an edge, lies strictly left of every edge: else it were in line with an edge and beyond an end of it

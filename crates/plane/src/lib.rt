@@ -96,7 +96,8 @@ pub fn orientation_in_range(a: Ranged, b: Ranged, c: Ranged) -> i64
 //     | cx  cy  1 |
 //
 // expanded along its last column: the 1 of each row times the minor of the other two rows, with
-// the signs +, -, + down the column.
+// the signs +, -, + down the column. It takes coordinates and no points: its lines are read beside the rows
+// (request 104), and `b.x * c.y - b.y * c.x` is no plainer than `bx * cy - by * cx`.
 pub fn determinant(ax: i64, ay: i64, bx: i64, by: i64, cx: i64, cy: i64) -> i64
     requires { RangedCoordinates ax ay bx by cx cy }
     ensures { result ≡ orientation (at ax ay) (at bx by) (at cx cy) }

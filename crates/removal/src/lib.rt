@@ -7,15 +7,11 @@ ghost use Rattle.model.specs.Sound.{sound};
 ghost use Rattle.model.specs.Removal.{before_last};
 ghost use Rattle.removal.specs.Unlinking.{Unspliceable, is_corner, latest, unspliced};
 
-use linking::{cut, freeing_none, join};
+use linking::{OUTSIDE, SECOND, cut, join};
+use maps::NO_NOTE;
 use maps::arrays::fixed_links;
 use model::{Map, NO_DART, Note, POINT_LIMIT, Point};
 use orbits::DART_LIMIT;
-
-// How a point arrived that moved the reference, as it is noted.
-const SECOND: u8 = 1;
-
-const OUTSIDE: u8 = 3;
 
 // The map before its last point.
 pub fn taken_back(map: &Map) -> Map
@@ -26,7 +22,7 @@ pub fn taken_back(map: &Map) -> Map
     let note = map.notes[k];
     let mut before = *map;
     before.points[k] = Point { x: 0, y: 0 };
-    before.notes[k] = freeing_none(0);
+    before.notes[k] = NO_NOTE;
     before.count = k;
     if note.arrival == SECOND {
         before.helpers = [false; POINT_LIMIT];

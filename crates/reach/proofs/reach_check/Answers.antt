@@ -1,13 +1,16 @@
--- `reach::reach_check` meets its contract: the outcome of loading, as a number.
-use mathlib.Core.Path.{sym, ◌∙◌}
+-- `reach::reach_check` meets its contract: what loading comes to, as a number.
+use mathlib.Core.Path.{refl, ap, ◌∙◌}
+use Rattle.std.specs.declared.result.Result.{Result}
+use Rattle.std.specs.declared.result.Result.TheVariants.{Err}
+use Rattle.model.specs.declared.Refusal.{Refusal}
+use Rattle.model.specs.declared.Map.{Map}
 use Rattle.model.specs.Refusals.{number}
-use Rattle.model.proofs.Answers.{outcome_refuses, outcome_serves}
-use Rattle.replies.proofs.OpenedFiles.{loads}
+use Rattle.model.proofs.Answers.{unless_made}
+use Rattle.replies.specs.Served.{code_of}
 use Rattle.reach.proofs.reach_check.Goals as goal
 
-pub returns-in-Refused : goal.returns-in-Refused
-returns-in-Refused c = c.code.ensures
-    ∙ outcome_refuses number 0 _ _ (sym c.in-Refused.is ∙ (loads c.load-loaded.ensures).outcome)
-
-pub returns-in-Served : goal.returns-in-Served
-returns-in-Served c = outcome_serves number 0 _ (sym c.in-Served.is ∙ (loads c.load-loaded.ensures).outcome)
+pub returns : goal.returns
+returns c =
+    c.code.ensures
+    ∙ ap (λ (l : Result Map Refusal). code_of l) c.load.ensures.equal
+    ∙ unless_made (λ (l : Result Map Refusal). code_of l) Err number (λ r. refl) _ _

@@ -7,6 +7,7 @@ use Rattle.reach.proofs.reach_place.Goals as goal
 pub returns : goal.returns
 returns c = let s = c.args in
     let f = c.ranges in
-    served_at (λ (p : Point). from_file (place_reply p) s.map.now)
+    rw c.code.ensures
+    (served_at (λ (p : Point). from_file (place_reply p) s.map.now)
     (point_made s.x s.y f.x f.y c.point.ensures)
-    c.write_placed.ensures
+    c.write_placed.ensures)

@@ -1,37 +1,26 @@
 -- `reach::write_orientation` meets its contract: the answer of the call, as a number and a value.
-use mathlib.Core.Path.{◌≡◌, refl, sym, ap, ◌∙◌}
+use borrow.Author.Rules.{rules}
+use mathlib.Core.Path.{◌≡◌, ap}
 use mathlib.Core.List.{[], ◌∷◌}
 use lib.IntN.{ℤ}
 use mir.Syntax.{w64}
 use mir.Val.{to_z, of_z}
-use borrow.Author.Rules.{rules}
-use Rattle.model.specs.declared.Oriented.{Oriented}
-use Rattle.model.specs.declared.Outcome.{Outcome}
 use Rattle.model.specs.Answers.{oriented_answer}
 use Rattle.model.specs.Plane.{orientation_call}
+use Rattle.deciding.proofs.Verdicts.{passed_up}
 use Rattle.replies.specs.Replies.{values_of}
 use Rattle.replies.proofs.Serving.{served_as, answer_refused, answer_written}
 use Rattle.reach.proofs.write_orientation.Goals as goal
 
-abbrev oriented_outcome : Oriented → Outcome
-oriented_outcome (Oriented.Value z) = Outcome.Served
-oriented_outcome (Oriented.Refused r) = Outcome.Refused r
+pub returns-in_err-z : goal.returns-in_err-z
+returns-in_err-z c = let s = c.args in
+    rw (passed_up _ _ c.from_residual.ensures.1)
+    (answer_refused values_of (orientation_call s.a s.b s.c) _ c.in_err-z.ensures.answer.equal)
 
-pub returns-in-Refused : goal.returns-in-Refused
-returns-in-Refused c = let s = c.args in
-    answer_refused values_of (orientation_call s.a s.b s.c) oriented_outcome (λ r. refl) refl _
-    c.orientation_of-oriented.ensures.answer.equal
-    (ap oriented_outcome c.in-Refused.is) c.code.ensures
-
-pub returns-in-Value : goal.returns-in-Value
+pub returns : goal.returns
 unfolding oriented_answer
-returns-in-Value c =
-    let bits : to_z w64 (of_z w64 c.in-Value.z) ≡ c.in-Value.z = search rules in
+returns c =
     let s = c.args in
-    let is = c.in-Value.is in
-    answer_written values_of (orientation_call s.a s.b s.c) oriented_outcome (λ r. refl) refl _
-    c.orientation_of-oriented.ensures.answer.equal (ap oriented_outcome is)
-    (served_as
-    (ap (λ (i : ℤ). i ∷ []) bits
-    ∙ sym (ap (λ (o : Oriented). (oriented_answer o).values) is))
-    c.write_number.ensures)
+    let bits : to_z w64 (of_z w64 c.in_ok-z.z) ≡ c.in_ok-z.z = search rules in
+    answer_written values_of (orientation_call s.a s.b s.c) _ c.in_ok-z.ensures.answer.equal
+    (served_as (ap (λ (i : ℤ). i ∷ []) bits) c.write_values.ensures)

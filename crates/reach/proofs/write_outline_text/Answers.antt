@@ -1,43 +1,50 @@
 -- `reach::write_outline_text` meets its contract: the room of both lists is checked, and then both are
 -- written.
-use mathlib.Core.Path.{◌≡◌, refl, ap, ◌∙◌}
-use mathlib.Core.List.{List, [], ◌∷◌}
+use mathlib.Core.Path.{◌≡◌, ap, ◌∙◌}
+use mathlib.Core.List.{List}
 use Prim.Native.Nat.{ℕ}
 use native.Mathlib.Omega.{arith}
-use lib.ListN.{length, set}
+use lib.ListN.{length}
 use Rattle.finite.specs.Overwriting.{over}
 use Rattle.model.specs.Outlines.{corner_points, outline_text}
+use Rattle.drawings.specs.Positions.{points_at}
 use Rattle.drawings.proofs.Outlines.{listed_text}
-use Rattle.replies.proofs.Serving.{first_short, second_short, both_room, room_serves, stored}
+use Rattle.deciding.proofs.Verdicts.{passed_up}
+use Rattle.replies.proofs.Serving.{not_counted, length_place, result_room, counted}
 use Rattle.reach.proofs.write_outline_text.Goals as goal
 use Rattle.reach.proofs.write_outline_text.Goals.{After-text_length-written}
 
 -- the length was asked for
 module _ (c : After-text_length-written) where
   abbrev text : List ℕ
-  text = outline_text (corner_points c.args.map)
+  text = outline_text (corner_points c.args.map.now)
+
+  text_is : outline_text (points_at c.args.map.now c.as_slice-corners.result.now) ≡ text
+  text_is =
+      ap (λ (s : List ℕ). outline_text (points_at c.args.map.now s)) c.as_slice-corners.ensures
+      ∙ listed_text c.corners_of-list.ensures
 
   size : c.text_length-written.result ≡ length text
-  size = c.text_length-written.ensures ∙ ap length (listed_text c.corners_of-list.ensures)
+  size = c.text_length-written.ensures ∙ ap length text_is
 
-pub returns-then-out-written : goal.returns-then-out-written
-returns-then-out-written c =
-    let d = (goal.at.returns-then-out-written c).After-text_length-written in
-    first_short (text d) (length (text d) ∷ []) _ _ (omega (arith, size d, c.if-out-written.true))
+pub returns-in_err-check_room : goal.returns-in_err-check_room
+returns-in_err-check_room c =
+    let d = (goal.at.returns-in_err-check_room c).After-text_length-written in
+    rw (passed_up _ _ c.from_residual.ensures.1)
+    (not_counted (text d) _ _ (size d) c.in_err-check_room.ensures)
 
-pub returns-then-count-lt1 : goal.returns-then-count-lt1
-returns-then-count-lt1 c =
-    let d = (goal.at.returns-then-count-lt1 c).After-text_length-written in
-    second_short (text d) (length (text d) ∷ []) _ _ c.if-count-lt1.true
+pub write_text-requires : goal.write_text-requires
+write_text-requires c =
+    let d = (goal.at.write_text-requires c).After-text_length-written in
+    omega (arith, ap length (text_is d), result_room (text d) _ _ (size d) c.in_ok-check_room.ensures)
+
+pub bounds-count-0 : goal.bounds-count-0
+bounds-count-0 c =
+    let d = (goal.at.bounds-count-0 c).After-text_length-written in
+    length_place (text d) _ _ (size d) c.in_ok-check_room.ensures
 
 pub returns : goal.returns
 returns c =
     let d = (goal.at.returns c).After-text_length-written in
-    let count = c.args.count.now in
-    let room = c.if-count-lt1.false in
-    both_room (text d) (length (text d) ∷ []) _ count refl
-    (omega (arith, size d, c.if-out-written.false)) room
-    (c.write_text.ensures
-    ∙ ap (λ (t : List ℕ). over t c.args.out.now) (listed_text c.corners_of-list.ensures))
-    (ap (λ (n : ℕ). set count 0 n) (size d)
-    ∙ (room_serves room (stored (length (text d) ∷ []) count room)).1)
+    counted (text d) _ _ (size d) c.in_ok-check_room.ensures
+    (c.write_text.ensures ∙ ap (λ (t : List ℕ). over t c.args.out.now) (text_is d))

@@ -1,25 +1,22 @@
 -- `reach::write_placed` meets its contract: the file and the point are checked, and then the point is placed.
 use mathlib.Core.Path.{ap, ◌∙◌}
+use Rattle.std.specs.declared.result.Result.TheVariants.{Ok}
 use Rattle.model.specs.declared.Placed.{Placed}
 use Rattle.model.specs.Answers.{placed_answer}
+use Rattle.deciding.proofs.Verdicts.{passed_up}
 use Rattle.replies.specs.Replies.{place_told, place_reply}
 use Rattle.replies.proofs.OpenedFiles.{opened_sound, opened_near}
 use Rattle.replies.proofs.OpenedFiles.{opened_refused, opened_served}
 use Rattle.reach.proofs.write_placed.Goals as goal
 
 pub placed-requires : goal.placed-requires
-placed-requires c = let o = c.load_near-loaded.ensures in
-    let e = c.in-Served.is in
-    (opened_sound o e, opened_near _ o e)
+placed-requires c = let o = c.in_ok-map.ensures in (opened_sound o, opened_near _ o)
 
-pub returns-in-Refused : goal.returns-in-Refused
-returns-in-Refused c = opened_refused c.load_near-loaded.ensures c.in-Refused.is c.code.ensures
+pub returns-in_err-map : goal.returns-in_err-map
+returns-in_err-map c = rw (passed_up _ _ c.from_residual.ensures.1) (opened_refused c.in_err-map.ensures)
 
-pub returns-in-Served : goal.returns-in-Served
-returns-in-Served c = let o = c.load_near-loaded.ensures in
-    let e = c.in-Served.is in
-    let p = c.args.p in
-    opened_served (place_reply p) o e
-    (c.placed_values-values.ensures
-    ∙ ap (λ (a : Placed). place_told (placed_answer a)) c.placed.ensures)
+pub returns : goal.returns
+returns c =
+    opened_served (place_reply c.args.p) c.in_ok-map.ensures
+    (c.placed_values.ensures ∙ ap (λ (a : Placed). place_told (placed_answer (Ok a))) c.placed.ensures)
     c.write_values.ensures

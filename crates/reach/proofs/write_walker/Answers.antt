@@ -3,19 +3,18 @@ use mathlib.Core.Path.{ap}
 use mathlib.Core.List.{[], ◌∷◌}
 use Rattle.orbits.specs.declared.Walker.{Walker}
 use Rattle.model.specs.Answers.{moved_answer}
+use Rattle.deciding.proofs.Verdicts.{passed_up}
 use Rattle.replies.specs.Replies.{walker_reply}
 use Rattle.replies.proofs.OpenedFiles.{opened_refused, opened_served}
 use Rattle.reach.proofs.write_walker.Goals as goal
 
-pub returns-in-Refused : goal.returns-in-Refused
+pub returns-in_err-map : goal.returns-in_err-map
 unfolding moved_answer
-returns-in-Refused c = opened_refused c.load_at-loaded.ensures c.in-Refused.is c.code.ensures
+returns-in_err-map c = rw (passed_up _ _ c.from_residual.ensures.1) (opened_refused c.in_err-map.ensures)
 
-pub returns-in-Served : goal.returns-in-Served
+pub returns : goal.returns
 unfolding moved_answer
-returns-in-Served c = let o = c.load_at-loaded.ensures in
-    let e = c.in-Served.is in
-    let s = c.args in
-    opened_served (walker_reply s.link s.dart) o e
+returns c =
+    opened_served (walker_reply c.args.link c.args.dart) c.in_ok-map.ensures
     (ap (λ (v : Walker). v.dart ∷ []) c.moved-walker.ensures)
     c.write_values.ensures

@@ -61,7 +61,7 @@ pub returns-then-note-eq-SECOND : goal.returns-then-note-eq-SECOND
 returns-then-note-eq-SECOND c =
     let m = c.args.map.now in
     let q = c.requires in
-    left_behind m c.freeing_none.ensures refl c.fixed_links-before.ensures refl
+    left_behind m refl refl c.fixed_links-before.ensures refl
     ∙ second_undone m q.0 q.1 (sym (arrival_is m q _) ∙ c.if-note-eq-SECOND.true)
 
 pub unsplice-requires : goal.unsplice-requires
@@ -74,7 +74,7 @@ pub returns-then-note-eq-OUTSIDE : goal.returns-then-note-eq-OUTSIDE
 returns-then-note-eq-OUTSIDE c =
     let m = c.args.map.now in
     let q = c.requires in
-    left_behind m c.freeing_none.ensures refl
+    left_behind m refl refl
     (c.unsplice.ensures ∙ ap (λ (n : Note). unspliced (last m) n.left n.right m.edge) (note_is m q _))
     (c.latest.ensures ∙ latest_is m q)
     ∙ outside_undone m q.0 q.1 (sym (arrival_is m q _) ∙ c.if-note-eq-OUTSIDE.true)
@@ -83,6 +83,6 @@ pub returns : goal.returns
 returns c =
     let m = c.args.map.now in
     let q = c.requires in
-    left_behind m c.freeing_none.ensures refl refl refl
+    left_behind m refl refl refl refl
     ∙ alone_undone m q.0 q.1 (λ e. c.if-note-eq-SECOND.false (arrival_is m q _ ∙ e))
     (λ e. c.if-note-eq-OUTSIDE.false (arrival_is m q _ ∙ e))

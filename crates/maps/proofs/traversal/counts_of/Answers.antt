@@ -19,7 +19,7 @@ use Rattle.model.specs.Maps.{is_present, edge_link, point_link, face_link, dart_
 use Rattle.model.specs.Reading.{links_of, number_of, darts, counts}
 use Rattle.model.specs.Shape.{Shaped}
 use Rattle.maps.proofs.Links.{sound_linked, edge_involutes, counts_balance}
-use Rattle.maps.proofs.Tables.{links_whole, present_table, composable, tables_permuted}
+use Rattle.maps.proofs.Tables.{links_held, links_whole, present_table, composable, tables_permuted}
 use Rattle.maps.proofs.traversal.counts_of.Goals as goal
 use Rattle.maps.proofs.traversal.counts_of.Goals.{After-orbit_count-faces}
 
@@ -70,17 +70,19 @@ pub overflow_mul-n : goal.overflow_mul-n
 overflow_mul-n c = omega (arith, c.args.sound.shaped.links.fits)
 
 pub compose-requires : goal.compose-requires
-compose-requires c = composable c.args.sound.map.now c.args.sound.shaped (links_whole c.args.sound.map.now c.point_links-point.ensures.list)
+compose-requires c = composable c.args.sound.map.now c.args.sound.shaped (links_whole c.args.sound.map.now c.point_links-point.ensures)
 
 pub orbit_count-vertices-requires : goal.orbit_count-vertices-requires
 orbit_count-vertices-requires c =
     permuted_second
-    (permuted c.args.sound.map.now c.args.sound.shaped c.point_links-point.ensures.list c.point_links-point.ensures.leads c.compose.ensures c.present_darts-present.ensures)
+    (permuted c.args.sound.map.now c.args.sound.shaped c.point_links-point.ensures
+    (links_held c.args.sound.map.now c.args.sound.shaped.links.helpers_whole c.point_links-point.ensures) c.compose.ensures c.present_darts-present.ensures)
 
 pub orbit_count-edges-requires : goal.orbit_count-edges-requires
 orbit_count-edges-requires c =
     permuted_first
-    (permuted c.args.sound.map.now c.args.sound.shaped c.point_links-point.ensures.list c.point_links-point.ensures.leads c.compose.ensures c.present_darts-present.ensures)
+    (permuted c.args.sound.map.now c.args.sound.shaped c.point_links-point.ensures
+    (links_held c.args.sound.map.now c.args.sound.shaped.links.helpers_whole c.point_links-point.ensures) c.compose.ensures c.present_darts-present.ensures)
 
 pub overflow_mul-n-4 : goal.overflow_mul-n-4
 overflow_mul-n-4 c = omega (arith, c.args.sound.shaped.links.fits)
@@ -88,7 +90,8 @@ overflow_mul-n-4 c = omega (arith, c.args.sound.shaped.links.fits)
 pub orbit_count-faces-requires : goal.orbit_count-faces-requires
 orbit_count-faces-requires c =
     permuted_composed
-    (permuted c.args.sound.map.now c.args.sound.shaped c.point_links-point.ensures.list c.point_links-point.ensures.leads c.compose.ensures c.present_darts-present.ensures)
+    (permuted c.args.sound.map.now c.args.sound.shaped c.point_links-point.ensures
+    (links_held c.args.sound.map.now c.args.sound.shaped.links.helpers_whole c.point_links-point.ensures) c.compose.ensures c.present_darts-present.ensures)
     c.compose.ensures
 
 -- the numbers that are counted
@@ -99,19 +102,22 @@ module _ (c : After-orbit_count-faces) where
   vertices_counted : c.orbit_count-vertices.result ≡ number_of c.args.sound.map.now Kind.Vertex
   vertices_counted =
       c.orbit_count-vertices.ensures
-      ∙ vertices_are c.args.sound.map.now c.args.sound.shaped c.point_links-point.ensures.list c.point_links-point.ensures.leads c.compose.ensures
+      ∙ vertices_are c.args.sound.map.now c.args.sound.shaped c.point_links-point.ensures
+      (links_held c.args.sound.map.now c.args.sound.shaped.links.helpers_whole c.point_links-point.ensures) c.compose.ensures
       c.present_darts-present.ensures
 
   edges_counted : c.orbit_count-edges.result ≡ number_of c.args.sound.map.now Kind.Edge
   edges_counted =
       c.orbit_count-edges.ensures
-      ∙ edges_are c.args.sound.map.now c.args.sound.shaped c.point_links-point.ensures.list c.point_links-point.ensures.leads c.compose.ensures
+      ∙ edges_are c.args.sound.map.now c.args.sound.shaped c.point_links-point.ensures
+      (links_held c.args.sound.map.now c.args.sound.shaped.links.helpers_whole c.point_links-point.ensures) c.compose.ensures
       c.present_darts-present.ensures
 
   faces_counted : c.orbit_count-faces.result ≡ number_of c.args.sound.map.now Kind.Face
   faces_counted =
       c.orbit_count-faces.ensures
-      ∙ faces_are c.args.sound.map.now c.args.sound.shaped c.point_links-point.ensures.list c.point_links-point.ensures.leads c.compose.ensures
+      ∙ faces_are c.args.sound.map.now c.args.sound.shaped c.point_links-point.ensures
+      (links_held c.args.sound.map.now c.args.sound.shaped.links.helpers_whole c.point_links-point.ensures) c.compose.ensures
       c.present_darts-present.ensures
 
 pub overflow_add-result : goal.overflow_add-result

@@ -4,18 +4,24 @@ use mathlib.Core.Path.{◌≡◌, refl, sym, ap, ◌∙◌}
 use mathlib.Core.List.{List}
 use Prim.Native.Nat.{ℕ}
 use native.Mathlib.Omega.{arith}
+use Rattle.finite.specs.Bounded.{table}
+use Rattle.orbits.specs.Sets.{dart_limit}
 use Rattle.orbits.specs.Reach.{by_one, by_two}
 use Rattle.orbits.specs.Links.{Composed, link_of}
 use Rattle.model.specs.declared.Kind.{Kind}
 use Rattle.model.specs.declared.Map.{Map}
 use Rattle.model.specs.Maps.{edge_link, point_link, face_link}
 use Rattle.model.specs.Reading.{links_of, orbit_set}
-use Rattle.maps.proofs.Tables.{links_whole, composable}
+use Rattle.model.specs.Shape.{Shaped}
+use Rattle.maps.proofs.Tables.{links_held, links_whole, composable}
 use Rattle.maps.proofs.Orbits.{read_stays, read_orbit}
 use Rattle.maps.proofs.traversal.orbit_of.Goals as goal
 
 -- the point links as the code has them
-module _ (map : Map) (point : List ℕ) (point_leads : link_of point ≡ point_link map) where
+module _ (map : Map) (sound : Shaped map) {point : List ℕ} (points_are : point ≡ table dart_limit (point_link map)) where
+  point_leads : link_of point ≡ point_link map
+  point_leads = links_held map sound.links.helpers_whole points_are
+
   vertices : by_one (link_of point) ≡ links_of map Kind.Vertex
   unfolding links_of
   vertices = ap by_one point_leads
@@ -37,7 +43,7 @@ pub overflow_mul-n : goal.overflow_mul-n
 overflow_mul-n c = omega (arith, c.args.sound.shaped.links.fits)
 
 pub compose-requires : goal.compose-requires
-compose-requires c = composable c.args.sound.map.now c.args.sound.shaped (links_whole c.args.sound.map.now c.point_links-point.ensures.list)
+compose-requires c = composable c.args.sound.map.now c.args.sound.shaped (links_whole c.args.sound.map.now c.point_links-point.ensures)
 
 pub orbit-requires : goal.orbit-requires
 orbit-requires c =
@@ -48,13 +54,13 @@ pub orbit-requires-in-Vertex : goal.orbit-requires-in-Vertex
 orbit-requires-in-Vertex c =
     let s = c.args.sound.shaped in
     let e = c.point_links-point.ensures in
-    (links_whole c.args.sound.map.now e.list, read_stays s Kind.Vertex _ (vertices c.args.sound.map.now _ e.leads) _ c.requires)
+    (links_whole c.args.sound.map.now e, read_stays s Kind.Vertex _ (vertices c.args.sound.map.now s e) _ c.requires)
 
 pub orbit-requires-in-Face : goal.orbit-requires-in-Face
 orbit-requires-in-Face c =
     let s = c.args.sound.shaped in
     let e = c.point_links-point.ensures in
-    (c.compose.ensures.whole, read_stays s Kind.Face _ (faces c.args.sound.map.now _ e.leads c.compose.ensures) _ c.requires)
+    (c.compose.ensures.whole, read_stays s Kind.Face _ (faces c.args.sound.map.now s e c.compose.ensures) _ c.requires)
 
 pub part-requires : goal.part-requires
 part-requires c =
@@ -62,8 +68,8 @@ part-requires c =
     let e = c.point_links-point.ensures in
     record {
       first_whole = s.links.edge_whole;
-      second_whole = links_whole c.args.sound.map.now e.list;
-      below = read_stays s Kind.Part _ (parts c.args.sound.map.now _ e.leads) _ c.requires;
+      second_whole = links_whole c.args.sound.map.now e;
+      below = read_stays s Kind.Part _ (parts c.args.sound.map.now s e) _ c.requires;
     }
 
 -- what is read, for the kind that was told
@@ -80,7 +86,7 @@ returns-in-Edge c =
 pub returns-in-Vertex : goal.returns-in-Vertex
 returns-in-Vertex c =
     c.orbit-in-Vertex.ensures
-    ∙ read_orbit c.args.sound.shaped Kind.Vertex _ (vertices c.args.sound.map.now _ c.point_links-point.ensures.leads) _
+    ∙ read_orbit c.args.sound.shaped Kind.Vertex _ (vertices c.args.sound.map.now c.args.sound.shaped c.point_links-point.ensures) _
     c.requires
     ∙ told_orbit c.args.sound.map.now c.args.d c.in-Vertex.is
 
@@ -88,12 +94,12 @@ pub returns-in-Face : goal.returns-in-Face
 returns-in-Face c =
     c.orbit-in-Face.ensures
     ∙ read_orbit c.args.sound.shaped Kind.Face _
-    (faces c.args.sound.map.now _ c.point_links-point.ensures.leads c.compose.ensures) _ c.requires
+    (faces c.args.sound.map.now c.args.sound.shaped c.point_links-point.ensures c.compose.ensures) _ c.requires
     ∙ told_orbit c.args.sound.map.now c.args.d c.in-Face.is
 
 pub returns-in-Part : goal.returns-in-Part
 returns-in-Part c =
     c.part.ensures
-    ∙ read_orbit c.args.sound.shaped Kind.Part _ (parts c.args.sound.map.now _ c.point_links-point.ensures.leads) _
+    ∙ read_orbit c.args.sound.shaped Kind.Part _ (parts c.args.sound.map.now c.args.sound.shaped c.point_links-point.ensures) _
     c.requires
     ∙ told_orbit c.args.sound.map.now c.args.d c.in-Part.is

@@ -1,4 +1,4 @@
--- `plane::between::dot_of` meets its contract: at each operation the number that the machine has is built
+-- `plane::between::dot` meets its contract: at each operation the number that the machine has is built
 -- from the bounds of the coordinates, and its range is a comparison of numerals.
 use lib.IntN.{◌-ℤ◌, ◌*ℤ◌}
 use mir.Syntax.{w64}
@@ -7,7 +7,7 @@ use Rattle.integers.specs.Range.{Number, add}
 use Rattle.integers.proofs.Range.{back, fits}
 use Rattle.model.specs.declared.Ranged.{Ranged}
 use Rattle.plane.proofs.Bounds.{x_near, y_near, span, side, product}
-use Rattle.plane.proofs.between.dot_of.Goals as goal
+use Rattle.plane.proofs.between.dot.Goals as goal
 
 -- the differences of two points, and the products that are added
 abbrev along_x : (a p : Ranged) → Number span (a.point.x -ℤ p.point.x)

@@ -1,0 +1,17 @@
+-- `reach::write_outline` meets its contract: the file is loaded, and then its outline is written.
+use Rattle.model.specs.Answers.{written_answer}
+use Rattle.model.specs.Outlines.{corner_points, outline_text}
+use Rattle.deciding.proofs.Verdicts.{passed_up}
+use Rattle.replies.proofs.OpenedFiles.{loads, opened_sound, not_told, told}
+use Rattle.reach.proofs.write_outline.Goals as goal
+
+pub write_outline_text-requires : goal.write_outline_text-requires
+write_outline_text-requires c = opened_sound (loads c.in_ok-map.ensures)
+
+pub returns-in_err-map : goal.returns-in_err-map
+returns-in_err-map c =
+    rw (passed_up _ _ c.from_residual.ensures.1) (not_told (λ m. outline_text (corner_points m)) (loads c.in_err-map.ensures))
+
+pub returns : goal.returns
+unfolding written_answer
+returns c = told (λ m. outline_text (corner_points m)) (loads c.in_ok-map.ensures) c.write_outline_text.ensures

@@ -24,7 +24,8 @@ pub fn admitted(sound: SoundMap<'_>, p: Point) -> Result<Offered, Refusal>
     })
 }
 
-// The arrival of a point that is not refused, written into the map: no map is copied.
+// The arrival of a point that is not refused, written into the map: no map is copied. The map is written, so it is
+// no `SoundMap`, which is only lent.
 pub fn grow(map: &mut Map, p: Point) -> Arrival
     requires { Accepted map.old p }
     ensures { arrived result map.new ≡ arrive map.old p }

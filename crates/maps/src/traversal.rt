@@ -67,7 +67,8 @@ fn dart_count(map: &Map) -> usize
     darts
 }
 
-// The walk from a dart, edge and point in turn.
+// The walk from a dart, edge and point in turn. It takes any map of at most 512 points, and not a `SoundMap`, which
+// would ask more than it did.
 pub fn walk_of(map: &Map, d: usize) -> Walk
     requires { map.now.count ≤ point_limit }
     ensures { result ≡ walk (edge_link map.now) (point_link map.now) (darts map.now) d }

@@ -7,7 +7,8 @@ ghost use Rattle.corners.specs.Listing.{ListsCorners, listed, lower_of, lowest_r
 use model::{Map, POINT_LIMIT, SoundMap};
 use plane::lower::is_lower;
 
-// The corners of a map are the first `count` of `points`, in listing order.
+// The corners of a map are the first `count` of `points`, in listing order. There is no heap, so they stand in an array
+// for as many as a map can have.
 #[derive(Clone, Copy)]
 pub struct CornerList {
     pub points: [usize; POINT_LIMIT],

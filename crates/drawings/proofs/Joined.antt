@@ -17,7 +17,7 @@ use Rattle.model.specs.Outlines.{point_text, joined}
 use Rattle.printing.specs.Writing.{Room, PutAt}
 use Rattle.printing.proofs.Decimals.{decimal_length}
 use Rattle.printing.proofs.Overwriting.{room_first, room_second, room_as}
-use Rattle.printing.proofs.Overwriting.{wrote_then, wrote_as, wrote_none, wrote_length}
+use Rattle.printing.proofs.Overwriting.{wrote_then, wrote_as, wrote_none}
 use Rattle.drawings.specs.Positions.{points_at, next_text}
 
 -- each position after a comma and a space
@@ -150,9 +150,6 @@ module _ {lent : List ℕ} {at : ℕ} (m : Map) (others : List ℕ) where
         r)
 
     module _ {now : List ℕ} {end i : ℕ} (d : Drawn lent at m others now end i) where
-      pub drawn_length : length now ≡ length lent
-      drawn_length = wrote_length d.so_far (room_to i)
-
       module _ (h : i < length others) {p : Point}
           (read : p ≡ point m (get_or others i 0)) where
         room_here : Room lent at (following_to m others i ++ next_text p)

@@ -58,7 +58,7 @@ pub fn is_same(p: Point, q: Point) -> bool
 
 // Whether c lies beside the edge from a to b, left of it or on it between its ends, as all other
 // points of a sound map lie beside each outline edge.
-#[tactic(auto, using(crate::proofs::Betweenness::beside_on_line, crate::proofs::Betweenness::beside_positive, crate::proofs::Betweenness::beside_negative))]
+#[tactic(auto, using(crate::proofs::Betweenness::beside_positive, crate::proofs::Betweenness::beside_negative))]
 pub fn is_beside(a: Ranged, b: Ranged, c: Ranged) -> bool
     ensures { result ≡ beside a.point b.point c.point }
 {

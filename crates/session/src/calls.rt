@@ -2,263 +2,226 @@
 // the answer.
 
 use crate::telling::{
-    say, say_natural, say_naturals, say_number, say_point, tell, tell_bytes, tell_darts,
-    tell_numbers, tell_refused,
+    say_naturals, say_point, tell, tell_bytes, tell_darts, tell_number, tell_numbers, tell_refused,
 };
-use model::{
-    Arrival, Counted, Doubled, Kind, Line, Link, Map, Marked, Moved, Oriented, Outcome, Placed,
-    Point, Walked, Written,
-};
-use orbits::{Ending, Walker};
+use model::{Arrival, Kind, Link, Map, Placed, Point};
+use orbits::{Ending, Walk, Walker};
 use std::io;
 
 pub(crate) fn orientation(rt: &impl Print, a: Point, b: Point, c: Point) -> io::Result<()> {
-    say(rt, b"orientation")?;
+    rt.print("orientation")?;
     say_point(rt, a)?;
     say_point(rt, b)?;
     say_point(rt, c)?;
-    let oriented = engine::orientation(a, b, c);
-    match oriented {
-        Oriented::Value(z) => {
-            say(rt, b": ")?;
-            say_number(rt, z)?;
-            say(rt, b"\n")
-        }
-        Oriented::Refused(refusal) => tell_refused(rt, refusal),
+    match engine::orientation(a, b, c) {
+        Ok(z) => tell_number(rt, z),
+        Err(refusal) => tell_refused(rt, refusal),
     }
 }
 
-pub(crate) fn is_sound(rt: &impl Print, map: Map) -> io::Result<()> {
-    say(rt, b"is_sound")?;
-    if engine::is_sound(map) {
-        tell(rt, b"yes", &[])
-    } else {
-        tell(rt, b"no", &[])
-    }
+pub(crate) fn is_sound(rt: &impl Print, map: &Map) -> io::Result<()> {
+    rt.print("is_sound")?;
+    let word = if engine::is_sound(map) { "yes" } else { "no" };
+    tell(rt, word, &[])
 }
 
-// The map that is returned goes on to the next call.
-pub(crate) fn offer(rt: &impl Print, map: Map, p: Point) -> io::Result<Map> {
-    say(rt, b"offer")?;
+// The map that is returned goes on to the next call: where the point is refused, it is the one that was
+// lent.
+pub(crate) fn offer(rt: &impl Print, map: &Map, p: Point) -> io::Result<Map> {
+    rt.print("offer")?;
     say_point(rt, p)?;
-    let offered = engine::offer(map, p);
-    tell_arrival(rt, offered.arrival)?;
-    Ok(offered.map)
+    match engine::offer(map, p) {
+        Ok(offered) => {
+            tell_arrival(rt, offered.arrival)?;
+            Ok(offered.map)
+        }
+        Err(refusal) => {
+            tell_refused(rt, refusal)?;
+            Ok(*map)
+        }
+    }
 }
 
 // Ends a line with how a point arrived.
 fn tell_arrival(rt: &impl Print, arrival: Arrival) -> io::Result<()> {
     match arrival {
-        Arrival::First => tell(rt, b"first", &[]),
-        Arrival::Second => tell(rt, b"second", &[]),
-        Arrival::Inside => tell(rt, b"inside", &[]),
+        Arrival::First => tell(rt, "first", &[]),
+        Arrival::Second => tell(rt, "second", &[]),
+        Arrival::Inside => tell(rt, "inside", &[]),
         Arrival::Outside {
             left,
             right,
             visible,
-        } => {
-            let values = [left, right, visible];
-            tell(rt, b"outside", &values)
-        }
-        Arrival::Refused(refusal) => tell_refused(rt, refusal),
+        } => tell(rt, "outside", &[left, right, visible]),
     }
 }
 
 pub(crate) fn orbit(
     rt: &impl Print,
-    map: Map,
-    name: &[u8],
+    map: &Map,
+    name: &str,
     kind: Kind,
     dart: usize,
 ) -> io::Result<()> {
-    say(rt, b"orbit ")?;
-    say(rt, name)?;
-    say_natural(rt, dart)?;
-    let orbit = engine::orbit(map, kind, dart);
-    let outcome = orbit.outcome;
-    match outcome {
-        Outcome::Served => tell_darts(rt, orbit.darts),
-        Outcome::Refused(refusal) => tell_refused(rt, refusal),
+    print!(rt; "orbit {name} {dart}")?;
+    match engine::orbit(map, kind, dart) {
+        Ok(darts) => tell_darts(rt, darts),
+        Err(refusal) => tell_refused(rt, refusal),
     }
 }
 
-pub(crate) fn counts(rt: &impl Print, map: Map) -> io::Result<()> {
-    say(rt, b"counts")?;
-    let counted = engine::counts(map);
-    match counted {
-        Counted::Numbers(n) => {
-            let values = [n.darts, n.vertices, n.edges, n.faces, n.parts];
-            tell(rt, b"numbers", &values)
-        }
-        Counted::Refused(refusal) => tell_refused(rt, refusal),
+pub(crate) fn counts(rt: &impl Print, map: &Map) -> io::Result<()> {
+    rt.print("counts")?;
+    match engine::counts(map) {
+        Ok(n) => tell(
+            rt,
+            "numbers",
+            &[n.darts, n.vertices, n.edges, n.faces, n.parts],
+        ),
+        Err(refusal) => tell_refused(rt, refusal),
     }
 }
 
-pub(crate) fn walk(rt: &impl Print, map: Map, dart: usize) -> io::Result<()> {
-    say(rt, b"walk")?;
-    say_natural(rt, dart)?;
-    let walked = engine::walk(map, dart);
-    match walked {
-        Walked::Ended(walk) => {
-            let values = [walk.last, walk.moves];
-            let ending = walk.ending;
-            match ending {
-                Ending::Home => tell(rt, b"home", &values),
-                Ending::Loose => tell(rt, b"loose", &values),
-            }
-        }
-        Walked::Refused(refusal) => tell_refused(rt, refusal),
+pub(crate) fn walk(rt: &impl Print, map: &Map, dart: usize) -> io::Result<()> {
+    print!(rt; "walk {dart}")?;
+    match engine::walk(map, dart) {
+        Ok(walk) => tell_walk(rt, walk),
+        Err(refusal) => tell_refused(rt, refusal),
     }
+}
+
+// Ends a line with how a walk ended.
+fn tell_walk(rt: &impl Print, walk: Walk) -> io::Result<()> {
+    let word = match walk.ending {
+        Ending::Home => "home",
+        Ending::Loose => "loose",
+    };
+    tell(rt, word, &[walk.last, walk.moves])
 }
 
 pub(crate) fn move_walker(
     rt: &impl Print,
-    map: Map,
-    name: &[u8],
+    map: &Map,
+    name: &str,
     link: Link,
     dart: usize,
 ) -> io::Result<()> {
-    say(rt, b"move_walker ")?;
-    say(rt, name)?;
-    say_natural(rt, dart)?;
-    let moved = engine::move_walker(map, link, Walker::starting_at(dart));
-    match moved {
-        Moved::At(walker) => {
-            let values = [walker.dart()];
-            tell(rt, b"dart", &values)
-        }
-        Moved::Refused(refusal) => tell_refused(rt, refusal),
+    print!(rt; "move_walker {name} {dart}")?;
+    match engine::move_walker(map, link, Walker::starting_at(dart)) {
+        Ok(walker) => tell(rt, "dart", &[walker.dart()]),
+        Err(refusal) => tell_refused(rt, refusal),
     }
 }
 
-pub(crate) fn place(rt: &impl Print, map: Map, p: Point) -> io::Result<()> {
-    say(rt, b"place")?;
+pub(crate) fn place(rt: &impl Print, map: &Map, p: Point) -> io::Result<()> {
+    rt.print("place")?;
     say_point(rt, p)?;
-    let placed = engine::place(map, p);
+    match engine::place(map, p) {
+        Ok(placed) => tell_placed(rt, placed),
+        Err(refusal) => tell_refused(rt, refusal),
+    }
+}
+
+// Ends a line with where a point lies.
+fn tell_placed(rt: &impl Print, placed: Placed) -> io::Result<()> {
     match placed {
-        Placed::NoOutline => tell(rt, b"none", &[]),
-        Placed::Corner(corner) => {
-            let values = [corner];
-            tell(rt, b"corner", &values)
-        }
-        Placed::Edge { from, to } => {
-            let values = [from, to];
-            tell(rt, b"edge", &values)
-        }
-        Placed::Inside => tell(rt, b"inside", &[]),
-        Placed::Outside(visible) => {
-            let values = [visible];
-            tell(rt, b"outside", &values)
-        }
-        Placed::Refused(refusal) => tell_refused(rt, refusal),
+        Placed::NoOutline => tell(rt, "none", &[]),
+        Placed::Corner(corner) => tell(rt, "corner", &[corner]),
+        Placed::Edge { from, to } => tell(rt, "edge", &[from, to]),
+        Placed::Inside => tell(rt, "inside", &[]),
+        Placed::Outside(visible) => tell(rt, "outside", &[visible]),
     }
 }
 
 // The list is lent by the caller.
-pub(crate) fn list_corners(rt: &impl Print, map: Map, lent: &mut [usize]) -> io::Result<()> {
-    say(rt, b"list_corners")?;
-    let written = engine::list_corners(map, lent);
-    match written {
-        Written::Length(length) => tell(rt, b"corners", &lent[..length]),
-        Written::Refused(refusal) => tell_refused(rt, refusal),
+pub(crate) fn list_corners(rt: &impl Print, map: &Map, lent: &mut [usize]) -> io::Result<()> {
+    rt.print("list_corners")?;
+    match engine::list_corners(map, lent) {
+        Ok(length) => tell(rt, "corners", &lent[..length]),
+        Err(refusal) => tell_refused(rt, refusal),
     }
 }
 
-pub(crate) fn save(rt: &impl Print, map: Map, lent: &mut [u8]) -> io::Result<()> {
-    say(rt, b"save")?;
-    let written = engine::files::save(map, lent);
-    match written {
-        Written::Length(length) => tell_bytes(rt, &lent[..length]),
-        Written::Refused(refusal) => tell_refused(rt, refusal),
+pub(crate) fn save(rt: &impl Print, map: &Map, lent: &mut [u8]) -> io::Result<()> {
+    rt.print("save")?;
+    match engine::files::save(map, lent) {
+        Ok(length) => tell_bytes(rt, &lent[..length]),
+        Err(refusal) => tell_refused(rt, refusal),
     }
 }
 
 // The counts of the map that is loaded stand on a line of their own.
 pub(crate) fn load(rt: &impl Print, file: &[u8]) -> io::Result<()> {
-    say(rt, b"load")?;
-    let loaded = engine::files::load(file);
-    let outcome = loaded.outcome;
-    match outcome {
-        Outcome::Served => {
-            tell(rt, b"served", &[])?;
-            counts(rt, loaded.map)
+    rt.print("load")?;
+    match engine::files::load(file) {
+        Ok(map) => {
+            tell(rt, "served", &[])?;
+            counts(rt, &map)
         }
-        Outcome::Refused(refusal) => tell_refused(rt, refusal),
+        Err(refusal) => tell_refused(rt, refusal),
     }
 }
 
 pub(crate) fn read_line(rt: &impl Print, line: &[u8]) -> io::Result<()> {
-    say(rt, b"read_line ")?;
-    say(rt, line)?;
-    let read = engine::texts::read_line(line);
-    match read {
-        Line::Named(p) => {
-            say(rt, b": point")?;
+    rt.print("read_line ")?;
+    rt.write_all(line)?;
+    match engine::texts::read_line(line) {
+        Ok(p) => {
+            rt.print(": point")?;
             say_point(rt, p)?;
-            say(rt, b"\n")
+            rt.println("")
         }
-        Line::Refused(refusal) => tell_refused(rt, refusal),
+        Err(refusal) => tell_refused(rt, refusal),
     }
 }
 
 // The report stands on lines of its own.
 pub(crate) fn report(rt: &impl Print, text: &[u8], lent: &mut [u8]) -> io::Result<()> {
-    say(rt, b"report")?;
-    let written = engine::texts::report(text, lent);
-    match written {
-        Written::Length(length) => {
-            let values = [length];
-            tell(rt, b"length", &values)?;
-            say(rt, &lent[..length])
+    rt.print("report")?;
+    match engine::texts::report(text, lent) {
+        Ok(length) => {
+            tell(rt, "length", &[length])?;
+            rt.write_all(&lent[..length])
         }
-        Written::Refused(refusal) => tell_refused(rt, refusal),
+        Err(refusal) => tell_refused(rt, refusal),
     }
 }
 
-pub(crate) fn write_outline(rt: &impl Print, map: Map, lent: &mut [u8]) -> io::Result<()> {
-    say(rt, b"write_outline")?;
-    let written = office::write_outline(map, lent);
-    match written {
-        Written::Length(length) => {
-            say(rt, b": ")?;
-            say(rt, &lent[..length])?;
-            say(rt, b"\n")
+pub(crate) fn write_outline(rt: &impl Print, map: &Map, lent: &mut [u8]) -> io::Result<()> {
+    rt.print("write_outline")?;
+    match office::write_outline(map, lent) {
+        Ok(length) => {
+            rt.print(": ")?;
+            rt.write_all(&lent[..length])?;
+            rt.println("")
         }
-        Written::Refused(refusal) => tell_refused(rt, refusal),
+        Err(refusal) => tell_refused(rt, refusal),
     }
 }
 
 pub(crate) fn read_outline(rt: &impl Print, text: &[u8], lent: &mut [i64]) -> io::Result<()> {
-    say(rt, b"read_outline ")?;
-    say(rt, text)?;
-    let written = office::read_outline(text, lent);
-    match written {
-        Written::Length(length) => tell_numbers(rt, &lent[..length]),
-        Written::Refused(refusal) => tell_refused(rt, refusal),
+    rt.print("read_outline ")?;
+    rt.write_all(text)?;
+    match office::read_outline(text, lent) {
+        Ok(length) => tell_numbers(rt, &lent[..length]),
+        Err(refusal) => tell_refused(rt, refusal),
     }
 }
 
-pub(crate) fn area(rt: &impl Print, map: Map, place: usize) -> io::Result<()> {
-    say(rt, b"area")?;
-    say_natural(rt, place)?;
-    let doubled = office::area(map, place);
-    match doubled {
-        Doubled::Value(z) => {
-            say(rt, b": ")?;
-            say_number(rt, z)?;
-            say(rt, b"\n")
-        }
-        Doubled::Refused(refusal) => tell_refused(rt, refusal),
+pub(crate) fn area(rt: &impl Print, map: &Map, place: usize) -> io::Result<()> {
+    print!(rt; "area {place}")?;
+    match office::area(map, place) {
+        Ok(z) => tell_number(rt, z),
+        Err(refusal) => tell_refused(rt, refusal),
     }
 }
 
 pub(crate) fn mark(rt: &impl Print, points: &[i64], claim: &[usize]) -> io::Result<()> {
-    say(rt, b"mark")?;
+    rt.print("mark")?;
     say_naturals(rt, claim)?;
-    let marked = office::mark(points, claim);
-    match marked {
-        Marked::Right => tell(rt, b"right", &[]),
-        Marked::Wrong => tell(rt, b"wrong", &[]),
-        Marked::Refused(refusal) => tell_refused(rt, refusal),
+    match office::mark(points, claim) {
+        Ok(true) => tell(rt, "right", &[]),
+        Ok(false) => tell(rt, "wrong", &[]),
+        Err(refusal) => tell_refused(rt, refusal),
     }
 }

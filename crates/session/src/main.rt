@@ -31,16 +31,16 @@ fn session(rt: &impl Print) -> io::Result<()> {
     orientations(rt)?;
     let map = survey(rt)?;
     rail(rt)?;
-    readings(rt, map)?;
-    queries(rt, map)?;
-    lists(rt, map)?;
+    readings(rt, &map)?;
+    queries(rt, &map)?;
+    lists(rt, &map)?;
     files(rt)?;
     texts(rt)?;
-    outlines(rt, map)?;
-    areas(rt, map)?;
+    outlines(rt, &map)?;
+    areas(rt, &map)?;
     marks(rt)?;
-    unsound(rt, map)?;
-    calls::offer(rt, full_map(), at(512, 0))?;
+    unsound(rt, &map)?;
+    calls::offer(rt, &full_map(), at(512, 0))?;
     Ok(())
 }
 
@@ -71,55 +71,55 @@ fn orientations(rt: &impl Print) -> io::Result<()> {
 // The worked survey, offered point by point. A refused point leaves the map as it was.
 fn survey(rt: &impl Print) -> io::Result<Map> {
     let none = engine::empty_map();
-    calls::is_sound(rt, none)?;
-    calls::counts(rt, none)?;
-    calls::place(rt, none, at(0, 0))?;
-    let one = calls::offer(rt, none, at(0, 0))?;
-    calls::counts(rt, one)?;
-    let two = calls::offer(rt, one, at(4, 0))?;
-    calls::counts(rt, two)?;
-    let three = calls::offer(rt, two, at(1, 3))?;
-    let four = calls::offer(rt, three, at(5, 4))?;
-    let kept = calls::offer(rt, four, at(1000000001, 0))?;
-    let kept = calls::offer(rt, kept, at(4, 0))?;
-    let five = calls::offer(rt, kept, at(2, 1))?;
-    calls::offer(rt, five, at(6, 7))
+    calls::is_sound(rt, &none)?;
+    calls::counts(rt, &none)?;
+    calls::place(rt, &none, at(0, 0))?;
+    let one = calls::offer(rt, &none, at(0, 0))?;
+    calls::counts(rt, &one)?;
+    let two = calls::offer(rt, &one, at(4, 0))?;
+    calls::counts(rt, &two)?;
+    let three = calls::offer(rt, &two, at(1, 3))?;
+    let four = calls::offer(rt, &three, at(5, 4))?;
+    let kept = calls::offer(rt, &four, at(1000000001, 0))?;
+    let kept = calls::offer(rt, &kept, at(4, 0))?;
+    let five = calls::offer(rt, &kept, at(2, 1))?;
+    calls::offer(rt, &five, at(6, 7))
 }
 
 // Marks along a rail: the third is in line beyond the second, and its left and right corner are both
 // the first, which is farther from it. A mark on an edge is inside; one beyond the rail is outside.
 fn rail(rt: &impl Print) -> io::Result<()> {
-    let one = calls::offer(rt, engine::empty_map(), at(0, 0))?;
-    let two = calls::offer(rt, one, at(2, 0))?;
-    let three = calls::offer(rt, two, at(4, 0))?;
-    calls::counts(rt, three)?;
-    calls::place(rt, three, at(6, 0))?;
-    calls::offer(rt, three, at(1, 0))?;
+    let one = calls::offer(rt, &engine::empty_map(), at(0, 0))?;
+    let two = calls::offer(rt, &one, at(2, 0))?;
+    let three = calls::offer(rt, &two, at(4, 0))?;
+    calls::counts(rt, &three)?;
+    calls::place(rt, &three, at(6, 0))?;
+    calls::offer(rt, &three, at(1, 0))?;
     Ok(())
 }
 
 // What is read from the map of six points.
-fn readings(rt: &impl Print, map: Map) -> io::Result<()> {
-    calls::orbit(rt, map, b"edge", Kind::Edge, 2)?;
-    calls::orbit(rt, map, b"edge", Kind::Edge, 10)?;
-    calls::orbit(rt, map, b"edge", Kind::Edge, 6)?;
-    calls::orbit(rt, map, b"vertex", Kind::Vertex, 10)?;
-    calls::orbit(rt, map, b"face", Kind::Face, 0)?;
-    calls::orbit(rt, map, b"part", Kind::Part, 0)?;
-    calls::orbit(rt, map, b"part", Kind::Part, 6)?;
-    calls::orbit(rt, map, b"face", Kind::Face, 9)?;
+fn readings(rt: &impl Print, map: &Map) -> io::Result<()> {
+    calls::orbit(rt, map, "edge", Kind::Edge, 2)?;
+    calls::orbit(rt, map, "edge", Kind::Edge, 10)?;
+    calls::orbit(rt, map, "edge", Kind::Edge, 6)?;
+    calls::orbit(rt, map, "vertex", Kind::Vertex, 10)?;
+    calls::orbit(rt, map, "face", Kind::Face, 0)?;
+    calls::orbit(rt, map, "part", Kind::Part, 0)?;
+    calls::orbit(rt, map, "part", Kind::Part, 6)?;
+    calls::orbit(rt, map, "face", Kind::Face, 9)?;
     calls::counts(rt, map)?;
     calls::walk(rt, map, 0)?;
     calls::walk(rt, map, 6)?;
     calls::walk(rt, map, 1024)?;
-    calls::move_walker(rt, map, b"none", Link::None, 2)?;
-    calls::move_walker(rt, map, b"edge", Link::Edge, 2)?;
-    calls::move_walker(rt, map, b"point", Link::Point, 11)?;
-    calls::move_walker(rt, map, b"edge", Link::Edge, 9)
+    calls::move_walker(rt, map, "none", Link::None, 2)?;
+    calls::move_walker(rt, map, "edge", Link::Edge, 2)?;
+    calls::move_walker(rt, map, "point", Link::Point, 11)?;
+    calls::move_walker(rt, map, "edge", Link::Edge, 9)
 }
 
 // Query points: a corner, an edge between two corners, inside, outside, out of range.
-fn queries(rt: &impl Print, map: Map) -> io::Result<()> {
+fn queries(rt: &impl Print, map: &Map) -> io::Result<()> {
     calls::place(rt, map, at(6, 7))?;
     calls::place(rt, map, at(2, 0))?;
     calls::place(rt, map, at(2, 1))?;
@@ -128,7 +128,7 @@ fn queries(rt: &impl Print, map: Map) -> io::Result<()> {
 }
 
 // Lists that are lent, long enough and too short, for corners and for a file.
-fn lists(rt: &impl Print, map: Map) -> io::Result<()> {
+fn lists(rt: &impl Print, map: &Map) -> io::Result<()> {
     let mut corners = [0usize; 4];
     calls::list_corners(rt, map, &mut corners)?;
     let mut short_list = [0usize; 3];
@@ -144,7 +144,7 @@ fn lists(rt: &impl Print, map: Map) -> io::Result<()> {
 // version 1 and in version 2, with an arrival above 3, and with a freed dart above 1,024.
 fn files(rt: &impl Print) -> io::Result<()> {
     let mut file = [0u8; 9];
-    calls::save(rt, engine::empty_map(), &mut file)?;
+    calls::save(rt, &engine::empty_map(), &mut file)?;
     calls::load(rt, &file)?;
     calls::load(rt, b"\0\0\0\x05\x01\0\0\x04\0")?;
     calls::load(rt, b"\0\0\0\x05\x03\0\0\x04\0")?;
@@ -180,12 +180,12 @@ fn texts(rt: &impl Print) -> io::Result<()> {
 
 // The outline as text, and what such texts are read as: of the worked survey, of none and of two points; in
 // another spelling, out of range, of corners that no survey lists; into a list that is too short.
-fn outlines(rt: &impl Print, map: Map) -> io::Result<()> {
+fn outlines(rt: &impl Print, map: &Map) -> io::Result<()> {
     let mut text = [0u8; 35];
     calls::write_outline(rt, map, &mut text)?;
-    calls::write_outline(rt, engine::empty_map(), &mut text)?;
+    calls::write_outline(rt, &engine::empty_map(), &mut text)?;
     let mut short = [0u8; 12];
-    calls::write_outline(rt, engine::empty_map(), &mut short)?;
+    calls::write_outline(rt, &engine::empty_map(), &mut short)?;
     let mut numbers = [0i64; 8];
     calls::read_outline(rt, b"POLYGON ((0 0, 4 0, 6 7, 1 3, 0 0))", &mut numbers)?;
     calls::read_outline(rt, b"LINESTRING (0 0, 4 0)", &mut numbers)?;
@@ -198,22 +198,22 @@ fn outlines(rt: &impl Print, map: Map) -> io::Result<()> {
 
 // Twice the area: from each corner of the worked survey, and at a place that no corner has; of no points, from any
 // place; of the whole range.
-fn areas(rt: &impl Print, map: Map) -> io::Result<()> {
+fn areas(rt: &impl Print, map: &Map) -> io::Result<()> {
     calls::area(rt, map, 0)?;
     calls::area(rt, map, 1)?;
     calls::area(rt, map, 2)?;
     calls::area(rt, map, 3)?;
     calls::area(rt, map, 4)?;
-    calls::area(rt, engine::empty_map(), 9)?;
-    calls::area(rt, whole_range(rt)?, 3)
+    calls::area(rt, &engine::empty_map(), 9)?;
+    calls::area(rt, &whole_range(rt)?, 3)
 }
 
 // The corners of the range.
 fn whole_range(rt: &impl Print) -> io::Result<Map> {
-    let one = calls::offer(rt, engine::empty_map(), at(-1000000000, -1000000000))?;
-    let two = calls::offer(rt, one, at(1000000000, 1000000000))?;
-    let three = calls::offer(rt, two, at(-1000000000, 1000000000))?;
-    calls::offer(rt, three, at(1000000000, -1000000000))
+    let one = calls::offer(rt, &engine::empty_map(), at(-1000000000, -1000000000))?;
+    let two = calls::offer(rt, &one, at(1000000000, 1000000000))?;
+    let three = calls::offer(rt, &two, at(-1000000000, 1000000000))?;
+    calls::offer(rt, &three, at(1000000000, -1000000000))
 }
 
 // A claimed outline of the worked survey: its listing, begun at two corners; clockwise, twice round, and nothing.
@@ -242,22 +242,22 @@ fn long_text() -> [u8; 65537]
 }
 
 // A map that is not sound: its outline has no reference.
-fn unsound(rt: &impl Print, map: Map) -> io::Result<()> {
-    let mut map = map;
+fn unsound(rt: &impl Print, map: &Map) -> io::Result<()> {
+    let mut map = *map;
     map.reference = NO_DART;
-    calls::is_sound(rt, map)?;
-    calls::offer(rt, map, at(2, 5))?;
-    calls::orbit(rt, map, b"face", Kind::Face, 0)?;
-    calls::counts(rt, map)?;
-    calls::walk(rt, map, 0)?;
-    calls::move_walker(rt, map, b"edge", Link::Edge, 0)?;
-    calls::place(rt, map, at(2, 5))?;
+    calls::is_sound(rt, &map)?;
+    calls::offer(rt, &map, at(2, 5))?;
+    calls::orbit(rt, &map, "face", Kind::Face, 0)?;
+    calls::counts(rt, &map)?;
+    calls::walk(rt, &map, 0)?;
+    calls::move_walker(rt, &map, "edge", Link::Edge, 0)?;
+    calls::place(rt, &map, at(2, 5))?;
     let mut corners = [0usize; 4];
-    calls::list_corners(rt, map, &mut corners)?;
+    calls::list_corners(rt, &map, &mut corners)?;
     let mut file = [0u8; 117];
-    calls::save(rt, map, &mut file)?;
-    calls::write_outline(rt, map, &mut file)?;
-    calls::area(rt, map, 0)
+    calls::save(rt, &map, &mut file)?;
+    calls::write_outline(rt, &map, &mut file)?;
+    calls::area(rt, &map, 0)
 }
 
 // As many points as a map has, along a parabola.
@@ -265,8 +265,9 @@ fn full_map() -> Map {
     let mut map = engine::empty_map();
     for k in 0..POINT_LIMIT {
         let x = k as i64;
-        let offered = engine::offer(map, at(x, x * x));
-        map = offered.map;
+        if let Ok(offered) = engine::offer(&map, at(x, x * x)) {
+            map = offered.map;
+        }
     }
     map
 }

@@ -1,11 +1,11 @@
 -- `session::calls::read_outline` is safe: the length that is answered lies within the lent list.
+use mathlib.Core.Path.{sym}
+use Rattle.std.proofs.lemmas.List.{length-take-le}
 use Rattle.engine.proofs.Entries.{written_within}
-use Rattle.session.proofs.Lengths.{first_part}
 use Rattle.session.proofs.calls.read_outline.Goals as goal
 
 pub slice_bounds-tell_numbers-end : goal.slice_bounds-tell_numbers-end
-slice_bounds-tell_numbers-end g c = written_within c.read_outline-written.ensures c.in-Length.is
+slice_bounds-tell_numbers-end g c = written_within c.in-Ok.ensures
 
-pub slice_bounds-tell_numbers-end-in-Length : goal.slice_bounds-tell_numbers-end-in-Length
-slice_bounds-tell_numbers-end-in-Length g c =
-    first_part _ _ (written_within c.read_outline-written.ensures c.in-Length.is)
+pub slice_bounds-tell_numbers-end-in-Ok : goal.slice_bounds-tell_numbers-end-in-Ok
+slice_bounds-tell_numbers-end-in-Ok g c = sym (length-take-le _ _ (written_within c.in-Ok.ensures))

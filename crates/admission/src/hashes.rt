@@ -1,14 +1,13 @@
 // The hashes of the points that a map has, as a list of which are set: a point whose hash is not set is
 // none of them, and need not be compared with each.
 
-ghost use Rattle.std.specs.Prelude.{◌≡◌, false, T, get_or};
-ghost use Rattle.model.specs.Plane.{in_range};
-ghost use Rattle.admission.specs.Admission.{admission_by};
+ghost use Rattle.std.specs.Prelude.{◌≡◌, false, get_or};
+ghost use Rattle.admission.specs.Admission.{Admitted};
 ghost use Rattle.admission.specs.Hashes.{AllHashed, hash, no_hashes, with_hash};
 
 use super::admission;
-use model::{POINT_LIMIT, Point, Refusal};
-use plane::{COORDINATE_LIMIT, in_range};
+use model::{POINT_LIMIT, Point, Ranged, Refusal};
+use plane::{COORDINATE_LIMIT, ranged};
 
 // How many hashes there are.
 pub const HASH_COUNT: usize = 16384;
@@ -34,49 +33,43 @@ impl Hashes {
     }
 
     // The hash of a point is set.
-    pub fn put(&mut self, p: Point)
-        requires { T (in_range p) }
-        ensures { self.new ≡ with_hash self.old p }
+    pub fn put(&mut self, p: Ranged)
+        ensures { self.new ≡ with_hash self.old p.point }
     {
         let k = hash(p);
         self.set[k] = true;
     }
 
     // Whether the hash of a point is set.
-    fn has(&self, p: Point) -> bool
-        requires { T (in_range p) }
-        ensures { result ≡ get_or self.now.set (hash p) false }
+    fn has(&self, p: Ranged) -> bool
+        ensures { result ≡ get_or self.now.set (hash p.point) false }
     {
         let k = hash(p);
         self.set[k]
     }
 }
 
-// Whether a point is accepted, or why it is refused, where the hashes of the map's points are set: a
+// A point that is accepted, as one in range, or why it is refused, where the hashes of the map's points are set: a
 // point in range whose hash is not set is none of them, and is refused only by a full map.
-pub fn admission_hashed<'a>(
-    points: &'a [Point],
-    hashes: &'a Hashes,
-    p: Point,
-) -> Result<(), Refusal>
+pub fn admission_hashed(points: &[Point], hashes: &Hashes, p: Point) -> Result<Ranged, Refusal>
     requires { AllHashed points.now hashes.now }
-    ensures { result ≡ admission_by points.now p }
+    ensures { Admitted points.now p result }
 {
     if POINT_LIMIT <= points.len() {
         return Err(Refusal::Full);
     }
-    if in_range(p) && !hashes.has(p) {
-        return Ok(());
+    let accepted = ranged(p)?;
+    if !hashes.has(accepted) {
+        return Ok(accepted);
     }
     admission(points, p)
 }
 
-// The hash of a point that is in range.
-fn hash(p: Point) -> usize
-    requires { T (in_range p) }
-    ensures { result ≡ hash p }
+// The hash of a point.
+fn hash(p: Ranged) -> usize
+    ensures { result ≡ hash p.point }
 {
-    let column = p.x + COORDINATE_LIMIT;
-    let row = p.y + COORDINATE_LIMIT;
+    let column = p.point.x + COORDINATE_LIMIT;
+    let row = p.point.y + COORDINATE_LIMIT;
     (column + HASH_ROW * row) as usize % HASH_COUNT
 }

@@ -3,25 +3,22 @@
 
 pub mod hashes;
 
-ghost use Rattle.std.specs.Prelude.{◌≡◌};
-ghost use Rattle.admission.specs.Admission.{admission_by};
+ghost use Rattle.admission.specs.Admission.{Admitted};
 
 use maps::places::is_new;
-use model::{POINT_LIMIT, Point, Refusal};
-use plane::in_range;
+use model::{POINT_LIMIT, Point, Ranged, Refusal};
+use plane::ranged;
 
-// Whether a point is accepted beside the points that a map has, or why it is refused.
-pub fn admission(points: &[Point], p: Point) -> Result<(), Refusal>
-    ensures { result ≡ admission_by points.now p }
+// A point that is accepted beside the points that a map has, as one in range, or why it is refused.
+pub fn admission(points: &[Point], p: Point) -> Result<Ranged, Refusal>
+    ensures { Admitted points.now p result }
 {
     if POINT_LIMIT <= points.len() {
         return Err(Refusal::Full);
     }
-    if !in_range(p) {
-        return Err(Refusal::OutOfRange);
-    }
+    let accepted = ranged(p)?;
     if !is_new(points, p) {
         return Err(Refusal::Repeated);
     }
-    Ok(())
+    Ok(accepted)
 }

@@ -2,10 +2,9 @@
 
 ghost use Rattle.std.specs.Prelude.{◌≡◌, ◌≤◌, length};
 ghost use Rattle.finite.specs.Overwriting.{over};
-ghost use Rattle.model.specs.Shape.{Shaped};
 ghost use Rattle.corners.specs.Listing.{ListsCorners, listed, lower_of, lowest_round};
 
-use model::{Map, POINT_LIMIT};
+use model::{Map, POINT_LIMIT, SoundMap};
 use plane::lower::is_lower;
 
 // The corners of a map are the first `count` of `points`, in listing order. There is no heap, so they stand in an array
@@ -26,10 +25,10 @@ impl CornerList {
 }
 
 // The corners of a sound map: the lowest first, and then anticlockwise. One point lists itself.
-pub fn corners_of(map: &Map) -> CornerList
-    requires { Shaped map.now }
-    ensures { ListsCorners map.now result }
+pub fn corners_of(sound: SoundMap<'_>) -> CornerList
+    ensures { ListsCorners sound.entry.map.now result }
 {
+    let map = sound.map;
     let mut points = [0usize; POINT_LIMIT];
     let count = map.count;
     if count < 2 {

@@ -1,14 +1,12 @@
 // Where a query point lies.
 
-ghost use Rattle.std.specs.Prelude.{◌≡◌, cond, ◌&&◌, ◌<◌, T, ltb};
-ghost use Rattle.model.specs.Plane.{in_range};
+ghost use Rattle.std.specs.Prelude.{◌≡◌, cond, ◌<◌, ltb};
 ghost use Rattle.model.specs.Maps.{point_limit};
-ghost use Rattle.model.specs.Shape.{Shaped};
 ghost use Rattle.model.specs.Placing.{place_among};
 ghost use Rattle.corners.specs.Viewing.{side_of, viewed};
 
 use crate::listing::corners_of;
-use model::{Map, Placed, Point};
+use model::{Placed, Ranged, SoundMap};
 use plane::between::are_opposite;
 use plane::orientation_in_range;
 
@@ -59,25 +57,26 @@ impl View {
 }
 
 // Where p lies in a sound map, once round its corners in listing order.
-pub fn placed(map: &Map, p: Point) -> Placed
-    requires { Shaped map.now × T (in_range p) }
-    ensures { result ≡ cond (ltb map.now.count 2) Placed.NoOutline (place_among map.now p) }
+pub fn placed(sound: SoundMap<'_>, p: Ranged) -> Placed
+    ensures { result ≡ cond (ltb sound.entry.map.now.count 2) Placed.NoOutline
+        (place_among sound.entry.map.now p.point) }
 {
+    let map = sound.map;
     if map.count < 2 {
         return Placed::NoOutline;
     }
-    let list = corners_of(map);
+    let list = corners_of(sound);
     let mut view = View {
         start: None,
         inside: true,
         visible: 0,
     };
     for &a in list.as_slice() {
-        let from = map.point(a);
-        if from == p {
+        let from = sound.point(a);
+        if from.point == p.point {
             return Placed::Corner(a);
         }
-        let to = map.point(map.next_corner(a));
+        let to = sound.point(map.next_corner(a));
         view = view.with(side_of(from, to, p), a);
     }
     match view.start {
@@ -90,11 +89,10 @@ pub fn placed(map: &Map, p: Point) -> Placed
     }
 }
 
-// How p lies to the edge from a to b, for points that are in range.
+// How p lies to the edge from a to b.
 #[tactic(auto, unfolding(crate::specs::Viewing::side_of, model::specs::Plane::left_of, model::specs::Plane::visible_from))]
-fn side_of(a: Point, b: Point, p: Point) -> Side
-    requires { T (in_range a && in_range b && in_range p) }
-    ensures { result ≡ side_of a b p }
+fn side_of(a: Ranged, b: Ranged, p: Ranged) -> Side
+    ensures { result ≡ side_of a.point b.point p.point }
 {
     let z = orientation_in_range(a, b, p);
     if 0 < z {

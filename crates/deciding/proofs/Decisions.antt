@@ -18,6 +18,7 @@ use Rattle.finite.specs.Bounded.{table, table_same, flatten_more}
 use Rattle.model.specs.declared.Refusal.{Refusal}
 use Rattle.model.specs.declared.Arrival.{Arrival}
 use Rattle.model.specs.declared.Point.{Point}
+use Rattle.model.specs.declared.Ranged.{Ranged}
 use Rattle.model.specs.declared.Map.{Map}
 use Rattle.model.specs.declared.Offered.{Offered}
 use Rattle.model.specs.Answers.{arrival_of}
@@ -31,7 +32,7 @@ use Rattle.model.specs.Report.{text_limit, arrivals, offer_line}
 use Rattle.survey.specs.Places.{at_end, line_at, next_line}
 use Rattle.survey.proofs.Texts.{next_further, line_at_refused}
 use Rattle.admission.specs.declared.hashes.Hashes.{Hashes}
-use Rattle.admission.specs.Admission.{admission_by}
+use Rattle.admission.specs.Admission.{Admitted, admission_by}
 use Rattle.admission.specs.Hashes.{AllHashed, no_hashes, with_hash}
 use Rattle.admission.proofs.Hashing.{none_hashed, one_hashed}
 use Rattle.printing.specs.Printing.{arrival_line}
@@ -138,15 +139,18 @@ module _ {m : Map} {hashes : Hashes} {line : Result Point Refusal} (d : Decidabl
         let f = found_refusing m d.is_sound p e in
         decided_refused (offer_is ∙ point_refused m d.is_sound p f) (point_refusal m d.is_sound p f)
 
-    module _ (e : Ok tt ≡ admission_by (put_points m) p) where
-      pub admitted_point : Accepted m p
-      admitted_point = point_accepted m d.is_sound p (found_free m d.is_sound p e)
+    module _ (q : Ranged) (e : Admitted (put_points m) p (Ok q)) where
+      admitted_named : Accepted m p
+      admitted_named = point_accepted m d.is_sound p (found_free m d.is_sound p e.1)
 
-      taken : offer_line m line ≡ Ok (arrive m p)
-      taken = offer_is ∙ point_taken m d.is_sound p (found_free m d.is_sound p e)
+      pub admitted_point : Accepted m q.point
+      admitted_point = rw e.0 admitted_named
 
-      pub decided_accepted : {a : Arrival} {after : Map} {more : Hashes} → arrived a after ≡ arrive m p →
-          more ≡ with_hash hashes p → DecidedLine m after more line (Ok a)
+      taken : offer_line m line ≡ Ok (arrive m q.point)
+      taken = rw e.0 (offer_is ∙ point_taken m d.is_sound p (found_free m d.is_sound p e.1))
+
+      pub decided_accepted : {a : Arrival} {after : Map} {more : Hashes} → arrived a after ≡ arrive m q.point →
+          more ≡ with_hash hashes q.point → DecidedLine m after more line (Ok a)
       unfolding arrival_of map_after
       decided_accepted {more = more} grown put =
           subst (λ (o : Offered). DecidedLine m o.map more line (Ok o.arrival)) (sym grown)

@@ -22,9 +22,8 @@ fn decide_line(
     requires { Decidable map.old hashes.old line }
     ensures { DecidedLine map.old map.new hashes.new line result }
 {
-    let p = line?;
-    admission_hashed(&map.points[..map.count], hashes, p)?;
-    let arrival = grow(map, p);
+    let p = admission_hashed(&map.points[..map.count], hashes, line?)?;
+    let arrival = grow(map, p.point);
     hashes.put(p);
     Ok(arrival)
 }

@@ -1,29 +1,17 @@
 // What entries check before they call an inner function.
 
-ghost use Rattle.std.specs.Prelude.{◌≡◌, [], ◌∷◌};
-ghost use Rattle.model.specs.Answers.{outcome_by};
-ghost use Rattle.model.specs.Reading.{dart_rules, unsound};
+ghost use Rattle.engine.specs.Checks.{CheckedDart};
 
-use model::{Map, Refusal};
-use soundness::is_sound;
+use model::{Map, Refusal, SoundMap};
+use soundness::checked;
 
-// A map that is not sound is refused: number 1.
-pub fn check_map(map: &Map) -> Result<(), Refusal>
-    ensures { result ≡ outcome_by (unsound map.now ∷ []) }
+// The map as a sound one where a dart of it is present: numbers 1 and 6.
+pub fn check_dart(map: &Map, dart: usize) -> Result<SoundMap<'_>, Refusal>
+    ensures { CheckedDart map.now dart result }
 {
-    if !is_sound(map) {
-        return Err(Refusal::NotSound);
-    }
-    Ok(())
-}
-
-// And so is a dart that is absent: numbers 1 and 6.
-pub fn check_dart(map: &Map, dart: usize) -> Result<(), Refusal>
-    ensures { result ≡ outcome_by (dart_rules map.now dart) }
-{
-    check_map(map)?;
+    let sound = checked(map)?;
     if !map.is_present(dart) {
         return Err(Refusal::NoDart);
     }
-    Ok(())
+    Ok(sound)
 }

@@ -6,11 +6,11 @@ ghost use Rattle.model.specs.Reading.{unsound};
 ghost use Rattle.model.specs.Lent.{Wrote};
 ghost use Rattle.model.specs.Saved.{load_call, saved};
 
-use crate::checks::check_map;
 use layout::{VERSION, is_in_form, saved_length};
 use loading::map_of;
 use model::{Map, Refusal};
 use saved::write_map;
+use soundness::checked;
 
 // The bytes of a map, in version 2, written into a lent list: numbers 1 and 10. A longer list keeps its tail,
 // and a refused call writes nothing.
@@ -18,12 +18,12 @@ pub fn save(map: &Map, lent: &mut [u8]) -> Result<usize, Refusal>
     ensures { Wrote (unsound map.now ∷ []) (saved map.now)
         lent.old lent.new result }
 {
-    check_map(map)?;
+    let sound = checked(map)?;
     let length = saved_length(VERSION, map.count);
     if lent.len() < length {
         return Err(Refusal::ShortList);
     }
-    write_map(map, VERSION, lent);
+    write_map(sound, VERSION, lent);
     Ok(length)
 }
 

@@ -18,14 +18,15 @@ ghost use Rattle.model.specs.Placing.{place_call};
 ghost use Rattle.model.specs.Lent.{Wrote};
 ghost use Rattle.plane.specs.OrientedAnswer.{OrientedAnswer};
 
-use crate::checks::{check_dart, check_map};
+use crate::checks::check_dart;
 use corners::listing::{corners_of, write_corners};
 use corners::query::placed;
 use hull::admitted;
 use maps::traversal::{counts_of, moved, orbit_of, walk_of};
 use model::{Counts, Kind, Link, Map, Offered, Placed, Point, Refusal};
 use orbits::{DartSet, Walk, Walker};
-use plane::{in_range, orientation_of};
+use plane::{orientation_of, ranged};
+use soundness::checked;
 
 // The orientation of three points, positive for a left turn: number 3. A value lies within its limit.
 pub fn orientation(a: Point, b: Point, c: Point) -> Result<i64, Refusal>
@@ -52,24 +53,23 @@ pub fn is_sound(map: &Map) -> bool
 pub fn offer(map: &Map, p: Point) -> Result<Offered, Refusal>
     ensures { Answered (offer_call map.now p) result }
 {
-    check_map(map)?;
-    admitted(map, p)
+    admitted(checked(map)?, p)
 }
 
 // The orbit of a dart, of the kind that is named: numbers 1 and 6.
 pub fn orbit(map: &Map, kind: Kind, dart: usize) -> Result<DartSet, Refusal>
     ensures { Answered (orbit_call map.now kind dart) result }
 {
-    check_dart(map, dart)?;
-    Ok(orbit_of(map, kind, dart))
+    let sound = check_dart(map, dart)?;
+    Ok(orbit_of(sound, kind, dart))
 }
 
 // The numbers of darts, vertices, edges, faces and connected parts: number 1.
 pub fn counts(map: &Map) -> Result<Counts, Refusal>
     ensures { Answered (counts_call map.now) result }
 {
-    check_map(map)?;
-    Ok(counts_of(map))
+    let sound = checked(map)?;
+    Ok(counts_of(sound))
 }
 
 // The walk from a dart: numbers 1 and 6.
@@ -93,11 +93,9 @@ pub fn move_walker(map: &Map, link: Link, walker: Walker) -> Result<Walker, Refu
 pub fn place(map: &Map, p: Point) -> Result<Placed, Refusal>
     ensures { Answered (place_call map.now p) result }
 {
-    check_map(map)?;
-    if !in_range(p) {
-        return Err(Refusal::OutOfRange);
-    }
-    Ok(placed(map, p))
+    let sound = checked(map)?;
+    let p = ranged(p)?;
+    Ok(placed(sound, p))
 }
 
 // The corners in listing order, written into a lent list: numbers 1 and 10. A longer list keeps its tail,
@@ -105,8 +103,8 @@ pub fn place(map: &Map, p: Point) -> Result<Placed, Refusal>
 pub fn list_corners(map: &Map, lent: &mut [usize]) -> Result<usize, Refusal>
     ensures { Wrote (unsound map.now ∷ []) (corners map.now) lent.old lent.new result }
 {
-    check_map(map)?;
-    let list = corners_of(map);
+    let sound = checked(map)?;
+    let list = corners_of(sound);
     let count = list.count;
     if lent.len() < count {
         return Err(Refusal::ShortList);

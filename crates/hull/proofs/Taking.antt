@@ -1,18 +1,18 @@
 -- A loop that offers points one after another and tells them apart by their hashes, in the order of this page: how
 -- far it has come, with the map that it has built (`Taking`); its start; a point that is refused, and one that is
 -- accepted; its end.
-use mathlib.Core.Path.{◌≡◌, refl, sym, ap, ◌∙◌}
+use mathlib.Core.Path.{◌≡◌, refl, sym, ap, subst, ◌∙◌}
 use mathlib.Core.List.{List, [], ◌∷◌}
 use Prim.Native.Nat.{ℕ, suc, ◌+◌, ◌≤◌, ◌<◌}
 use native.Mathlib.Numerals.{add-one}
 use native.Mathlib.Omega.{arith}
 use lib.ListN.{length, get_or, take, drop, drop_of_length-le}
 use lib.Seq.{drop-cons}
-use Rattle.std.specs.Prelude.{⊤}
 use Rattle.std.specs.declared.result.Result.{Result}
 use Rattle.std.specs.declared.result.Result.TheVariants.{Ok, Err}
 use Rattle.model.specs.declared.Refusal.{Refusal}
 use Rattle.model.specs.declared.Point.{Point}
+use Rattle.model.specs.declared.Ranged.{Ranged}
 use Rattle.model.specs.declared.Map.{Map}
 use Rattle.model.specs.Refusals.{unless}
 use Rattle.model.specs.Answers.{outcome_by}
@@ -24,7 +24,7 @@ use Rattle.model.specs.Building.{building_rules, built}
 use Rattle.model.proofs.Answers.{unless_append, outcome_refuses, outcome_serves}
 use Rattle.maps.proofs.Empty.{empty_sound}
 use Rattle.admission.specs.declared.hashes.Hashes.{Hashes}
-use Rattle.admission.specs.Admission.{admission_by}
+use Rattle.admission.specs.Admission.{Admitted, admission_by}
 use Rattle.admission.specs.Hashes.{no_hashes, with_hash, AllHashed}
 use Rattle.admission.proofs.Hashing.{none_hashed}
 use Rattle.sight.specs.Requires.{Accepted}
@@ -52,13 +52,13 @@ none_taken ps =
     }
 
 -- an iteration in which point k is asked for, and what the code found for it
-pub record Asked (ps : List Point) (k : ℕ) (m : Map) (hashes : Hashes) (p : Point) (r : Result ⊤ Refusal) : Type 0 where
+pub record Asked (ps : List Point) (k : ℕ) (m : Map) (hashes : Hashes) (p : Point) (r : Result Ranged Refusal) : Type 0 where
   pub taking : Taking ps k m hashes
   pub within : k < length ps
   pub point_is : p ≡ get_or ps k origin
-  pub found : r ≡ admission_by (take m.count m.points) p
+  pub found : Admitted (take m.count m.points) p r
 
-module _ {ps : List Point} {k : ℕ} {m : Map} {hashes : Hashes} {p : Point} {r : Result ⊤ Refusal}
+module _ {ps : List Point} {k : ℕ} {m : Map} {hashes : Hashes} {p : Point} {r : Result Ranged Refusal}
     (a : Asked ps k m hashes p r) where
   abbrev later : List Point
   later = drop (suc k) ps
@@ -75,34 +75,44 @@ module _ {ps : List Point} {k : ℕ} {m : Map} {hashes : Hashes} {p : Point} {r 
       ∙ ap (λ (s : List Point). outcome_by (building_rules m s)) (sym ahead)
       ∙ a.taking.outcome
 
-  asked_of_map : r ≡ outcome_by (admission_rules m p)
-  asked_of_map = a.found ∙ admission_is a.taking.is_sound p
+  of_map : admission_by (take m.count m.points) p ≡ outcome_by (admission_rules m p)
+  of_map = admission_is a.taking.is_sound p
+
+  -- what was found for it, by what the answer is
+  found_is : {answer : Result Ranged Refusal} → r ≡ answer → Admitted (take m.count m.points) p answer
+  found_is e = subst (Admitted (take m.count m.points) p) e a.found
 
   pub one_refused : (refusal : Refusal) → r ≡ Err refusal → Err refusal ≡ outcome_by (building_rules empty_map ps)
   one_refused refusal e =
       outcome_refuses Err (outcome_by (building_rules (arrive m p).map later)) (admission_rules m p) refusal
-      (sym e ∙ asked_of_map)
+      (found_is e ∙ of_map)
       ∙ rules_ahead
 
-  module _ (e : r ≡ Ok tt) where
-    pub one_accepted : Accepted m p
-    one_accepted = admission_accepted a.taking.is_sound p (sym e ∙ a.found)
+  module _ {q : Ranged} (e : r ≡ Ok q) where
+    pub point_same : q.point ≡ p
+    point_same = (found_is e).0
+
+    accepted : Accepted m p
+    accepted = admission_accepted a.taking.is_sound p (found_is e).1
+
+    pub one_accepted : Accepted m q.point
+    one_accepted = rw point_same accepted
 
     pub place_free : k < point_limit
-    place_free = omega (arith, a.taking.counted, one_accepted.room)
+    place_free = omega (arith, a.taking.counted, accepted.room)
 
-    pub one_taken : Taking ps (k + 1) (arrive m p).map (with_hash hashes p)
+    pub one_taken : Taking ps (k + 1) (arrive m q.point).map (with_hash hashes q.point)
     unfolding built
     one_taken =
         let t = a.taking in
-        rw (add-one k)
+        rw (add-one k, point_same)
         (record {
-          is_sound = arrive_sound one_accepted;
+          is_sound = arrive_sound accepted;
           counted = arrive_count m p ∙ ap suc t.counted;
-          all_hashed = hashed_more one_accepted t.all_hashed;
+          all_hashed = hashed_more accepted t.all_hashed;
           outcome =
               outcome_serves Err (outcome_by (building_rules (arrive m p).map later)) (admission_rules m p)
-              (sym e ∙ asked_of_map)
+              ((found_is e).1 ∙ of_map)
               ∙ rules_ahead;
           map_is = ap (built m) (sym ahead) ∙ t.map_is;
         })

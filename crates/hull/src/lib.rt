@@ -2,20 +2,19 @@
 #![tactic(auto)]
 
 ghost use Rattle.std.specs.Prelude.{◌≡◌};
-ghost use Rattle.model.specs.Shape.{Shaped};
 ghost use Rattle.model.specs.Arrival.{admitted, arrive, arrived, later_point};
 ghost use Rattle.sight.specs.Requires.{Accepted, OutlineFor};
 
 use admission::admission;
 use linking::{FIRST, INSIDE, pair, put_alone, splice};
-use model::{Arrival, Map, Offered, Point, Refusal};
-use sight::seen_from;
+use model::{Arrival, Map, Offered, Point, Refusal, SoundMap};
+use sight::{Outlook, seen_from};
 
 // A point offered to a sound map: the map after it and how the point arrived, or why it is refused.
-pub fn admitted(map: &Map, p: Point) -> Result<Offered, Refusal>
-    requires { Shaped map.now }
-    ensures { result ≡ admitted map.now p }
+pub fn admitted(sound: SoundMap<'_>, p: Point) -> Result<Offered, Refusal>
+    ensures { result ≡ admitted sound.entry.map.now p }
 {
+    let map = sound.map;
     admission(&map.points[..map.count], p)?;
     let mut grown = *map;
     let arrival = grow(&mut grown, p);
@@ -25,7 +24,8 @@ pub fn admitted(map: &Map, p: Point) -> Result<Offered, Refusal>
     })
 }
 
-// The arrival of a point that is not refused, written into the map: no map is copied.
+// The arrival of a point that is not refused, written into the map: no map is copied. The map is written, so it is
+// no `SoundMap`, which is only lent.
 pub fn grow(map: &mut Map, p: Point) -> Arrival
     requires { Accepted map.old p }
     ensures { arrived result map.new ≡ arrive map.old p }
@@ -46,7 +46,7 @@ fn grow_later(map: &mut Map, p: Point) -> Arrival
     requires { OutlineFor map.old p }
     ensures { arrived result map.new ≡ later_point map.old p }
 {
-    let seen = seen_from(map, p);
+    let seen = seen_from(Outlook { map, point: p });
     if seen.visible == 0 {
         put_alone(map, INSIDE, p);
         return Arrival::Inside;

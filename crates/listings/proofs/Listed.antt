@@ -13,6 +13,7 @@ use lib.Dec.{T, T_not, leb, leb→le, ltb, eqb}
 use lib.IntN.{ℤ, pos}
 use lib.ListN.{length, get_or, set, take, length-take}
 use lib.Seq.{ext_get_or, get_or-take, length-take-le}
+use Rattle.std.proofs.lemmas.List.{get_or_past}
 use Rattle.std.specs.declared.option.Option.{Option}
 use Rattle.std.specs.declared.option.Option.TheVariants.{Some, None}
 use Rattle.std.specs.declared.result.Result.{Result}
@@ -21,17 +22,18 @@ use Rattle.std.specs.List.{list_all}
 use Rattle.finite.specs.Tests.{decide, of_true, is_true, is_false, same_test, implies_use, implies_by, differ_by, differ_use, and_left, and_right, and_both}
 use Rattle.finite.specs.Bounded.{all, all_at, all_by, lt_or_ge}
 use Rattle.finite.specs.Lists.{all_in}
-use Rattle.finite.specs.ListLaws.{all_in_at, all_in_by}
+use Rattle.finite.specs.ListLaws.{all_in_by}
 use Rattle.finite.specs.Overwriting.{Copied, one_copied}
 use Rattle.model.specs.declared.Refusal.{Refusal}
 use Rattle.model.specs.declared.Point.{Point}
 use Rattle.model.specs.Refusals.{unless}
 use Rattle.model.specs.Answers.{outcome_by}
-use Rattle.model.specs.Plane.{in_range, lower, origin}
+use Rattle.model.specs.Plane.{coordinate_in_range, in_range, lower, origin}
 use Rattle.model.specs.Maps.{point_in, point_limit}
 use Rattle.model.specs.Report.{text_limit}
 use Rattle.model.specs.Outlines.{coordinates, corners_in, corners_spelt, is_outline, is_some, listable, lowest_is_first, or_none, outline_rules}
 use Rattle.model.proofs.Answers.{outcome_serves, unless_made}
+use Rattle.maps.specs.Places.{AllRanged}
 use Rattle.survey.proofs.Digits.{some_same}
 use Rattle.polygons.specs.declared.Corners.{Corners}
 use Rattle.polygons.specs.Spellings.{CornersRead, corners_as}
@@ -120,17 +122,16 @@ front_ranged points n h ranged =
     let below : k < n = omega (arith, length-take-le n points h) in
     subst (λ (p : Point). T (in_range p)) (sym (get_or-take n points k origin below)) (ranged k))
 
--- three of them
-pub three_ranged : (cs : List Point) (i j k : ℕ) → T (all_in in_range cs) → i < length cs → j < length cs →
-    k < length cs →
-    T (in_range (get_or cs i origin) && in_range (get_or cs j origin) && in_range (get_or cs k origin))
-three_ranged cs i j k t h g l =
-    let one = in_range (get_or cs i origin) in
-    let two = in_range (get_or cs j origin) in
-    let three = in_range (get_or cs k origin) in
-    and_both (one && two) three
-    (and_both one two (all_in_at in_range cs t i origin h) (all_in_at in_range cs t j origin g))
-    (all_in_at in_range cs t k origin l)
+-- .. as places
+pub front_held : (points : List Point) (n : ℕ) → n ≤ length points → AllRanged points → AllRanged (take n points)
+unfolding in_range coordinate_in_range
+front_held points n h ranged k =
+    ⊎_elim
+    (λ (l : k < n). subst (λ (p : Point). T (in_range p)) (sym (get_or-take n points k origin l)) (ranged k))
+    (λ (g : n ≤ k).
+    subst (λ (p : Point). T (in_range p))
+    (sym (get_or_past (take n points) k origin (rw (length-take-le n points h) g))) tt)
+    (lt_or_ge k n)
 
 -- ---- what is answered for a text
 

@@ -1,17 +1,18 @@
 // Corners that some survey lists: read from a text, tested, and written as coordinates.
 #![tactic(auto)]
 
-ghost use Rattle.std.specs.Prelude.{◌≡◌, ◌&&◌, ℕ, ◌*◌, ◌≤◌, ◌<◌, T, leb, length, take};
+ghost use Rattle.std.specs.Prelude.{◌≡◌, ◌&&◌, ◌*◌, ◌≤◌, leb, length, take};
 ghost use Rattle.std.specs.List.{list_all};
-ghost use Rattle.finite.specs.Lists.{all_in};
 ghost use Rattle.finite.specs.Overwriting.{over};
-ghost use Rattle.model.specs.Plane.{in_range, left_of, lower};
-ghost use Rattle.model.specs.Maps.{point_in, point_limit};
+ghost use Rattle.model.specs.Plane.{left_of, lower};
+ghost use Rattle.model.specs.Maps.{point_limit};
 ghost use Rattle.model.specs.Outlines.{coordinates, listable, lowest_is_first};
+ghost use Rattle.maps.specs.Places.{AllRanged};
 ghost use Rattle.polygons.specs.Spellings.{Ready};
 ghost use Rattle.listings.specs.Listings.{CoordinatesWritten, ListingRead, turn_at, turns_at};
 
-use model::{POINT_LIMIT, Point, Refusal};
+use maps::support::RangedPoints;
+use model::{POINT_LIMIT, Point, Ranged, Refusal};
 use plane::lower::is_lower;
 use plane::orientation_in_range;
 use polygons::{Corners, read_corners};
@@ -64,11 +65,11 @@ fn write_coordinates(points: &[Point], lent: &mut [i64])
 // Whether some survey lists the first n points: not too many, the lowest first, and all of them beside
 // the edge from each to the next one round. Since the first is the lowest, it is enough that they turn left.
 fn is_listable(points: &[Point; POINT_LIMIT], n: usize) -> bool
-    requires { (k : ℕ) → T (in_range (point_in points.now k)) }
+    requires { AllRanged points.now }
     ensures { result ≡ (leb n point_limit && listable (take n points.now)) }
 {
     match points.get(..n) {
-        Some(corners) => lowest_is_first(corners) && turn_left(corners),
+        Some(corners) => lowest_is_first(corners) && turn_left(RangedPoints { points: corners }),
         None => false,
     }
 }
@@ -92,11 +93,10 @@ fn is_lowest(first: Point, others: &[Point]) -> bool
 
 // Whether points turn left all the way, and as the first one sees them: then they go round once. By index:
 // of `windows(3).all(..)` it was not proved that the closure may be called, which asks points in range.
-fn turn_left(corners: &[Point]) -> bool
-    requires { T (all_in in_range corners.now) }
-    ensures { result ≡ turns_at corners.now }
+fn turn_left(corners: RangedPoints<'_>) -> bool
+    ensures { result ≡ turns_at corners.entry.points.now }
 {
-    for k in 2..corners.len() {
+    for k in 2..corners.points.len() {
         if !turns_left_to(corners, k) {
             return false;
         }
@@ -106,23 +106,19 @@ fn turn_left(corners: &[Point]) -> bool
 
 // Whether point k is reached by a left turn from the two points before it, and from the first point and the
 // one before it.
-#[tactic(auto, using(crate::proofs::Listed::three_ranged))]
-fn turns_left_to(corners: &[Point], k: usize) -> bool
-    requires ranged { T (all_in in_range corners.now) }
-    requires two { 2 ≤ k }
-    requires inside { k < length corners.now }
-    ensures { result ≡ turn_at corners.now k }
+fn turns_left_to(corners: RangedPoints<'_>, k: usize) -> bool
+    requires { 2 ≤ k }
+    ensures { result ≡ turn_at corners.entry.points.now k }
 {
-    let corner = corners[k - 1];
-    let p = corners[k];
-    is_left(corners[0], corner, p) && is_left(corners[k - 2], corner, p)
+    let corner = corners.point(k - 1);
+    let p = corners.point(k);
+    is_left(corners.point(0), corner, p) && is_left(corners.point(k - 2), corner, p)
 }
 
-// Whether c lies strictly left of the edge from a to b, for points that are in range.
+// Whether c lies strictly left of the edge from a to b.
 #[tactic(auto, unfolding(model::specs::Plane::left_of))]
-fn is_left(a: Point, b: Point, c: Point) -> bool
-    requires { T (in_range a && in_range b && in_range c) }
-    ensures { result ≡ left_of a b c }
+fn is_left(a: Ranged, b: Ranged, c: Ranged) -> bool
+    ensures { result ≡ left_of a.point b.point c.point }
 {
     0 < orientation_in_range(a, b, c)
 }

@@ -6,7 +6,6 @@ mod reading;
 
 ghost use Rattle.std.specs.Prelude.{◌≡◌, T, length};
 ghost use Rattle.finite.specs.Lists.{same_list};
-ghost use Rattle.model.specs.Shape.{Shaped};
 ghost use Rattle.model.specs.Saved.{file_in_form, saved_in, saved_length};
 ghost use Rattle.loading.specs.Opening.{opened};
 
@@ -14,7 +13,7 @@ use crate::reading::points_in;
 use comparing::same;
 use layout::numbers::number_at;
 use layout::{COUNT_PLACE, VERSION_PLACE};
-use model::{Map, Refusal};
+use model::{Map, Refusal, SoundMap};
 use saved::write_map;
 use soundness::rebuild;
 
@@ -30,19 +29,18 @@ pub fn map_of(file: &[u8]) -> Result<Map, Refusal>
     let points = points_in(file, count);
     let map = rebuild(&points, count).ok_or(Refusal::NotSound)?;
     let version = number_at(file, VERSION_PLACE, 1);
-    if !writes(&map, version, file) {
+    if !writes(SoundMap { map: &map }, version, file) {
         return Err(Refusal::NotSound);
     }
     Ok(map)
 }
 
 // Whether a map writes this file in a version.
-fn writes<'a>(map: &'a Map, version: usize, file: &'a [u8]) -> bool
-    requires shaped { Shaped map.now }
-    requires file_len { length file.now ≡ saved_length version map.now.count }
-    ensures { result ≡ same_list (saved_in version map.now) file.now }
+fn writes(sound: SoundMap<'_>, version: usize, file: &[u8]) -> bool
+    requires { length file.now ≡ saved_length version sound.map.now.count }
+    ensures { result ≡ same_list (saved_in version sound.entry.map.now) file.now }
 {
     let mut written = [0u8; FILE_LIMIT];
-    write_map(map, version, &mut written);
+    write_map(sound, version, &mut written);
     same(&written[..file.len()], file)
 }

@@ -6,7 +6,6 @@
 --     Outline      the outline is the one circuit that is a closed walk
 --     Soundness    what makes a map sound, with an outline and without
 --     Referenced   a sound map with another reference on its outline keeps what is asked of it
---     Ranges       two points of a list and a point beside them are in range
 --     Equal        what `==` finds of points; a slice that is asked for a point
 --     Same         two sound maps that agree at every place are equal
 --     Points       a map with one point more: its points
@@ -25,7 +24,6 @@ pub mod Circuits
 pub mod Outline
 pub mod Soundness
 pub mod Referenced
-pub mod Ranges
 pub mod Equal
 pub mod Same
 pub mod Points

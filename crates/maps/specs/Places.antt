@@ -1,5 +1,5 @@
--- Points in a list, by their places, in the order of this page: that all of them, and a point beside them, are in
--- range; whether a point is new among them; whether a point lies beside an edge.
+-- Points in a list, by their places, in the order of this page: that all of them are in range; whether a point is
+-- new among them; whether a point lies beside an edge.
 use Rattle.std.specs.Prelude.{Bool, not, ◌&&◌, List, ℕ, T, eqb, length}
 use Rattle.finite.specs.Tests.{◌⇒◌}
 use Rattle.finite.specs.Bounded.{all}
@@ -10,11 +10,6 @@ use Rattle.model.specs.Maps.{point_in}
 -- points in range, as those of a sound map are past its last point too
 abbrev pub AllRanged : List Point → Type 0
 AllRanged points = (k : ℕ) → T (in_range (point_in points k))
-
--- such points, and a point in range
-pub record RangedQuery (points : List Point) (p : Point) : Type 0 where
-  pub places : AllRanged points
-  pub offered : T (in_range p)
 
 -- p is none of the points
 abbrev pub new_in : List Point → Point → Bool

@@ -4,19 +4,19 @@
 ghost use Rattle.std.specs.Prelude.{◌≡◌, ◌≤◌, T};
 ghost use Rattle.orbits.specs.Walks.{walk, walker_at};
 ghost use Rattle.model.specs.Maps.{point_limit, is_present, edge_link, point_link};
-ghost use Rattle.model.specs.Shape.{Shaped};
 ghost use Rattle.model.specs.Reading.{along, orbit_set, counts, darts};
 
 use super::arrays::{point_link, point_links, present_darts};
-use model::{Counts, Kind, Link, Map};
+use model::{Counts, Kind, Link, Map, SoundMap};
 use orbits::steps::walk;
 use orbits::{DartSet, Walk, Walker, compose, orbit, orbit_count, part};
 
 // The orbit of a present dart: its edge, its vertex, its face, or its connected part.
-pub fn orbit_of(map: &Map, kind: Kind, d: usize) -> DartSet
-    requires { Shaped map.now × T (is_present map.now d) }
-    ensures { result ≡ orbit_set map.now kind d }
+pub fn orbit_of(sound: SoundMap<'_>, kind: Kind, d: usize) -> DartSet
+    requires { T (is_present sound.map.now d) }
+    ensures { result ≡ orbit_set sound.entry.map.now kind d }
 {
+    let map = sound.map;
     let n = map.count;
     let point = point_links(map);
     match kind {
@@ -33,10 +33,10 @@ pub fn orbit_of(map: &Map, kind: Kind, d: usize) -> DartSet
 
 // The numbers of darts, vertices, edges, faces and connected parts. Since the numbers balance, vertices +
 // edges + faces - darts = 2 × parts, no part has to be visited for its own sake.
-pub fn counts_of(map: &Map) -> Counts
-    requires { Shaped map.now }
-    ensures { result ≡ counts map.now }
+pub fn counts_of(sound: SoundMap<'_>) -> Counts
+    ensures { result ≡ counts sound.entry.map.now }
 {
+    let map = sound.map;
     let n = map.count;
     let point = point_links(map);
     let mut face = point;
@@ -67,7 +67,8 @@ fn dart_count(map: &Map) -> usize
     darts
 }
 
-// The walk from a dart, edge and point in turn.
+// The walk from a dart, edge and point in turn. It takes any map of at most 512 points, and not a `SoundMap`, which
+// would ask more than it did.
 pub fn walk_of(map: &Map, d: usize) -> Walk
     requires { map.now.count ≤ point_limit }
     ensures { result ≡ walk (edge_link map.now) (point_link map.now) (darts map.now) d }

@@ -23,7 +23,6 @@ use Rattle.model.specs.Outline.{corners}
 use Rattle.model.specs.Outlines.{corner_points}
 use Rattle.model.specs.Shape.{Shaped}
 use Rattle.model.specs.Area.{fan, area_from, doubled_area, area_limit}
-use Rattle.model.proofs.Shape.{place_ranged}
 use Rattle.plane.proofs.Fan.{fan_fixed}
 use Rattle.plane.proofs.Convex.{fan_terms}
 use Rattle.corners.proofs.Listings.{elem_at}
@@ -65,8 +64,6 @@ module _ (m : Map) (place : ℕ) where
         subst (λ (t : List ℕ). T (elem c t)) are (elem_at listing place 0 h) in
         let points : map (point m) (corners m) ≡ map (point m) listing = ap (map (point m)) (sym are) in
         record {
-          ranged = place_ranged s;
-          offered = rw e (place_ranged s c);
           some = omega arith;
           terms =
               rw e

@@ -3,10 +3,12 @@
 // refusal.
 #![tactic(auto)]
 
-ghost use Rattle.std.specs.Prelude.{◌≡◌};
+ghost use Rattle.std.specs.Prelude.{◌≡◌, T};
 ghost use Rattle.model.specs.Refusals.{number};
+ghost use Rattle.model.specs.Plane.{in_range};
 ghost use Rattle.model.specs.Maps.{edge_link, has_helper, is_present, point, point_in};
 ghost use Rattle.model.specs.Outline.{next_corner, previous_corner};
+ghost use Rattle.model.specs.Shape.{Shaped};
 
 use orbits::{DART_LIMIT, link_of};
 
@@ -24,6 +26,13 @@ pub const NONE_FREED: u16 = 1024;
 pub struct Point {
     pub x: i64,
     pub y: i64,
+}
+
+// A point in range: whoever makes one proves it.
+#[derive(Clone, Copy)]
+pub struct Ranged {
+    pub point: Point,
+    pub ghost ranged: { T (in_range point) },
 }
 
 // What is noted of a point: its arrival (0 first, 1 second, 2 inside, 3 outside), and the darts that it
@@ -109,6 +118,26 @@ impl Map {
             self.edge_link(2 * a + 1) / 2
         } else {
             a
+        }
+    }
+}
+
+// A map of which all holds that document 01 says of a sound one: whoever makes one proves it. The map is lent,
+// not copied.
+#[derive(Clone, Copy)]
+pub struct SoundMap<'a> {
+    pub map: &'a Map,
+    pub ghost shaped: { Shaped map.now },
+}
+
+#[tactic(auto, using(crate::proofs::Shape::place_ranged))]
+impl SoundMap<'_> {
+    // Point k, which is in range, as a place without a point is.
+    pub fn point(self, k: usize) -> Ranged
+        ensures { result.point ≡ point self.entry.map.now k }
+    {
+        Ranged {
+            point: self.map.point(k),
         }
     }
 }

@@ -15,10 +15,10 @@ ghost use Rattle.model.specs.Marking.{mark_call, points_of};
 
 use corners::listing::corners_of;
 use drawings::{text_length, write_text};
-use engine::checks::check_map;
 use measures::area_of;
 use model::{Map, Refusal};
 use removal::taken_back;
+use soundness::checked;
 
 // The text of a map's outline, written into a lent list: numbers 1 and 10. A longer list keeps its tail,
 // and a refused call writes nothing.
@@ -26,8 +26,8 @@ pub fn write_outline(map: &Map, lent: &mut [u8]) -> Result<usize, Refusal>
     ensures { Wrote (unsound map.now ∷ []) (outline_text (corner_points map.now))
         lent.old lent.new result }
 {
-    check_map(map)?;
-    let list = corners_of(map);
+    let sound = checked(map)?;
+    let list = corners_of(sound);
     let corners = list.as_slice();
     let length = text_length(map, corners);
     if lent.len() < length {
@@ -51,8 +51,7 @@ pub fn read_outline(text: &[u8], lent: &mut [i64]) -> Result<usize, Refusal>
 pub fn area(map: &Map, place: usize) -> Result<i64, Refusal>
     ensures { Answered (area_call map.now place) result }
 {
-    check_map(map)?;
-    area_of(map, place)
+    area_of(checked(map)?, place)
 }
 
 // Whether a claimed list of point numbers is the corner listing of the points, begun at any corner, or the first
@@ -68,7 +67,7 @@ pub fn mark(points: &[i64], claim: &[usize]) -> Result<bool, Refusal>
 pub fn remove_last(map: &Map) -> Result<Map, Refusal>
     ensures { Answered (remove_call map.now) result }
 {
-    check_map(map)?;
+    checked(map)?;
     if map.count == 0 {
         return Err(Refusal::NoPoint);
     }

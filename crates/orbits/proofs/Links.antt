@@ -1,50 +1,19 @@
--- The laws of lists that hold links, in the order of this page: reading a link; a list that is filled
--- with the links "f, then g", which permutes what both permute.
-use mathlib.Core.Path.{◌≡◌, sym, ◌∙◌, ap, subst⁻¹, fun_ext}
-use mathlib.Core.Logic.{⊎_elim}
+-- The laws of lists that hold links, in the order of this page: reading a link; the link "f, then g", which
+-- permutes what both permute.
+use mathlib.Core.Path.{◌≡◌, subst⁻¹}
 use mathlib.Core.Bool.{Bool}
 use mathlib.Core.List.{List}
-use Prim.Native.Nat.{ℕ, ◌≤◌, ◌<◌}
+use Prim.Native.Nat.{ℕ, ◌<◌}
 use native.Mathlib.Omega.{arith}
-use lib.ListN.{length, get_or, get_or-eq_default}
-use Rattle.finite.specs.Bounded.{lt_or_ge}
+use lib.ListN.{length, get_or}
 use Rattle.finite.specs.ListLaws.{get_d_any}
-use Rattle.finite.specs.Loops.{Filled}
 use Rattle.orbits.specs.Sets.{dart_limit}
-use Rattle.orbits.specs.Links.{link_of, ◌then◌, Composable, Composed, Permutes, Permutation, Permuted}
+use Rattle.orbits.specs.Links.{link_of, Composed, Permutes, Permutation, Permuted}
 use Rattle.orbits.proofs.Permutations.{compose_permutes}
 
-module _ (s : List ℕ) (whole : length s ≡ dart_limit) where
-  -- within the list, what lies past it does not matter
-  pub link_read : (d : ℕ) → d < dart_limit → get_or s d 0 ≡ link_of s d
-  link_read d h = get_d_any s d 0 d (omega arith)
-
-  pub link_past : (d : ℕ) → dart_limit ≤ d → d ≡ link_of s d
-  link_past d h = sym (get_or-eq_default s d {n = d} (omega arith))
-
--- from where f moves nothing on, a list that holds g holds the links of f and then g
-pub composable_rest : {f g both : List ℕ} {n : ℕ} → Composable f g n both → (j : ℕ) → n ≤ j → j < dart_limit →
-    get_or both j 0 ≡ (link_of f then link_of g) j
-composable_rest {f} {g} c j h l =
-    ap (λ (s : List ℕ). get_or s j 0) c.begun
-    ∙ link_read g c.second_whole j l
-    ∙ ap (link_of g) (sym (c.fixed j h))
-
--- a list filled with the links of f and then g is their composition
-pub filled_composed : {f g h : List ℕ} {k : ℕ} → length f ≡ dart_limit → length g ≡ dart_limit →
-    Filled (link_of f then link_of g) 0 dart_limit k h → dart_limit ≤ k → Composed f g h
-filled_composed {f} {g} {h} first second c l =
-    record {
-      whole = c.whole;
-      leads =
-          fun_ext
-          (λ k.
-          ⊎_elim
-          (λ (b : k < dart_limit). sym (link_read h c.whole k b) ∙ c.so_far k (omega arith))
-          (λ (b : dart_limit ≤ k).
-          sym (link_past h c.whole k b) ∙ (link_past g second k b ∙ ap (link_of g) (link_past f first k b)))
-          (lt_or_ge k dart_limit));
-    }
+-- within the list, what lies past it does not matter
+pub link_read : (s : List ℕ) → length s ≡ dart_limit → (d : ℕ) → d < dart_limit → get_or s d 0 ≡ link_of s d
+link_read s whole d h = get_d_any s d 0 d (omega arith)
 
 -- the link "f, then g" permutes what both permute
 pub composed_permutes : {n : ℕ} {present : ℕ → Bool} {f g h : List ℕ} → Composed f g h → Permutation n present f →

@@ -1,6 +1,6 @@
 -- The laws of the queue, in the order of this page: there is room for a dart that was not seen; a dart
 -- put at the end; what stays seen; growing twice; a visit from its start, step by step, to its end.
-use mathlib.Core.Path.{◌≡◌, refl, sym, ◌∙◌, ap, subst}
+use mathlib.Core.Path.{◌≡◌, sym, ◌∙◌, ap, subst}
 use mathlib.Core.Logic.{◌⊎◌, inl, inr, ⊎_elim, ◌≢◌}
 use mathlib.Core.Bool.{true, false, not}
 use mathlib.Core.List.{List}
@@ -111,14 +111,6 @@ module _ (q : Queue) {d : ℕ} (h : d < dart_limit) (new : test_of q.seen d ≡ 
         };
         start = rw s (of_true (test_of (set q.seen d true) d) seen_at);
       }
-
--- a dart that was seen
-pub put_old : {q : Queue} {d : ℕ} → test_of q.seen d ≡ true → Put d q q
-put_old {q} {d} old =
-    record {
-      lengthened = record { longer = le_refl _; same = λ i l. refl; added = λ i l m. absurd (omega arith) };
-      start = of_true (test_of q.seen d) old;
-    }
 
 -- ---- growing
 

@@ -17,7 +17,8 @@ use visits::Queue;
 // Darts are numbered 0 to 1,023.
 pub const DART_LIMIT: usize = 1024;
 
-// A set of the darts, beside its size: bit j of word w stands for dart 64 * w + j.
+// A set of the darts, beside its size: bit j of word w stands for dart 64 * w + j. Document 01 names
+// this form.
 #[derive(Clone, Copy)]
 pub struct DartSet {
     pub words: [u64; 16],
@@ -60,7 +61,7 @@ impl DartSet {
         }
         let mut words = self.words;
         let w = d / 64;
-        words[w] = words[w] | 1u64 << (d % 64);
+        words[w] |= 1u64 << (d % 64);
         let size = if self.size < DART_LIMIT {
             self.size + 1
         } else {
@@ -85,7 +86,7 @@ pub struct Walk {
     pub moves: usize,
 }
 
-// A walker stands at a dart.
+// A walker stands at a dart. Document 01 names this form.
 #[derive(Clone, Copy)]
 pub struct Walker {
     pub dart: usize,
@@ -133,6 +134,7 @@ pub fn compose(
     requires { Composable f.now g.now n both.old }
     ensures { Composed f.now g.now both.new }
 {
+    // By number: d is the dart that the links are asked of, and not only a place of `both`.
     for d in 0..n {
         both[d] = link_of(g, link_of(f, d));
     }

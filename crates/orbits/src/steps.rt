@@ -1,5 +1,6 @@
 // The walk along two links in turn: an edge step and a point step that call each other, with one move
-// less left at each call. The links are lent as slices, and any number may stand in them.
+// less left at each call. Document 01 names this form. The links are lent as slices, and any number may
+// stand in them.
 
 ghost use Rattle.std.specs.Prelude.{◌≡◌, ◌+◌, ◌<◌, ◌^◌};
 ghost use Rattle.orbits.specs.Walks.{ends, edge_step, point_step, walk};

@@ -54,7 +54,7 @@ impl Queue {
     {
         let mut head = self.end;
         self.put(d);
-        // A `while`, since the queue grows while it is read.
+        // Counted by hand: a `for` would hold the queue, which `put` lengthens.
         while head < self.end {
             let a = self.order[head];
             self.put(f[a]);

@@ -4,12 +4,12 @@
 pub mod between;
 pub mod lower;
 
-ghost use Rattle.std.specs.Prelude.{◌≡◌, ◌&&◌, T};
+ghost use Rattle.std.specs.Prelude.{◌≡◌};
 ghost use Rattle.model.specs.Plane.{at, beside, coordinate_in_range, in_range, orientation, same_point, sees_edge};
-ghost use Rattle.plane.specs.OrientedAnswer.{RangedCoordinates, OrientedAnswer};
+ghost use Rattle.plane.specs.OrientedAnswer.{RangedAnswer, RangedCoordinates, OrientedAnswer};
 
 use crate::between::are_opposite;
-use model::{Point, Refusal};
+use model::{Point, Ranged, Refusal};
 
 // Coordinates run from -COORDINATE_LIMIT to COORDINATE_LIMIT.
 pub const COORDINATE_LIMIT: i64 = 1000000000;
@@ -18,17 +18,18 @@ pub const COORDINATE_LIMIT: i64 = 1000000000;
 pub fn orientation_of(a: Point, b: Point, c: Point) -> Result<i64, Refusal>
     ensures { OrientedAnswer a b c result }
 {
-    if all_in_range(a, b, c) {
-        Ok(orientation_in_range(a, b, c))
+    Ok(orientation_in_range(ranged(a)?, ranged(b)?, ranged(c)?))
+}
+
+// A point as one that is in range, or number 3.
+pub fn ranged(p: Point) -> Result<Ranged, Refusal>
+    ensures { RangedAnswer p result }
+{
+    if in_range(p) {
+        Ok(Ranged { point: p })
     } else {
         Err(Refusal::OutOfRange)
     }
-}
-
-fn all_in_range(a: Point, b: Point, c: Point) -> bool
-    ensures { result ≡ (in_range a && in_range b && in_range c) }
-{
-    in_range(a) && in_range(b) && in_range(c)
 }
 
 // Whether both coordinates of a point are in range.
@@ -56,11 +57,10 @@ pub fn is_same(p: Point, q: Point) -> bool
 }
 
 // Whether c lies beside the edge from a to b, left of it or on it between its ends, as all other
-// points of a sound map lie beside each outline edge, for points that are in range.
+// points of a sound map lie beside each outline edge.
 #[tactic(auto, using(crate::proofs::Betweenness::beside_positive, crate::proofs::Betweenness::beside_negative))]
-pub fn is_beside(a: Point, b: Point, c: Point) -> bool
-    requires { T (in_range a && in_range b && in_range c) }
-    ensures { result ≡ beside a b c }
+pub fn is_beside(a: Ranged, b: Ranged, c: Ranged) -> bool
+    ensures { result ≡ beside a.point b.point c.point }
 {
     let z = orientation_in_range(a, b, c);
     if 0 < z {
@@ -72,22 +72,21 @@ pub fn is_beside(a: Point, b: Point, c: Point) -> bool
     are_opposite(a, b, c)
 }
 
-// Whether a point c that arrives sees the edge from a to b, which it is not beside, for points that
-// are in range.
+// Whether a point c that arrives sees the edge from a to b, which it is not beside.
 #[tactic(auto, unfolding(model::specs::Plane::sees_edge))]
-pub fn sees_edge(a: Point, b: Point, c: Point) -> bool
-    requires { T (in_range a && in_range b && in_range c) }
-    ensures { result ≡ sees_edge a b c }
+pub fn sees_edge(a: Ranged, b: Ranged, c: Ranged) -> bool
+    ensures { result ≡ sees_edge a.point b.point c.point }
 {
     !is_beside(a, b, c)
 }
 
-// The orientation of three points that are in range, for callers that know it.
-pub fn orientation_in_range(a: Point, b: Point, c: Point) -> i64
-    requires { T (in_range a && in_range b && in_range c) }
-    ensures { result ≡ orientation a b c }
+// The orientation of three points that are in range.
+pub fn orientation_in_range(a: Ranged, b: Ranged, c: Ranged) -> i64
+    ensures { result ≡ orientation a.point b.point c.point }
 {
-    determinant(a.x, a.y, b.x, b.y, c.x, c.y)
+    determinant(
+        a.point.x, a.point.y, b.point.x, b.point.y, c.point.x, c.point.y,
+    )
 }
 
 // The orientation of three points by their coordinates, which are in range: Knuth's determinant

@@ -13,7 +13,7 @@ use maps::arrays::fixed_links;
 use model::{Map, NO_DART, Note, POINT_LIMIT, Point};
 use orbits::DART_LIMIT;
 
-// The map before its last point.
+// The map before its last point. It asks more than a `SoundMap` knows: that the points build this map.
 pub fn taken_back(map: &Map) -> Map
     requires { T (sound map.now) × (0 < map.now.count) }
     ensures { result ≡ before_last map.now }

@@ -5,7 +5,6 @@ ghost use Rattle.std.specs.Prelude.{◌≡◌, true, Ok, ◌||◌, ltb, [], ◌�
 ghost use Rattle.model.specs.Refusals.{number, ◌when◌};
 ghost use Rattle.model.specs.declared.Refusal.{Refusal};
 ghost use Rattle.model.specs.Answers.{arrival_answer, outcome_by};
-ghost use Rattle.model.specs.Shape.{Shaped};
 ghost use Rattle.model.specs.Outline.{corners};
 ghost use Rattle.model.specs.Arrival.{admission_rules, arrive};
 ghost use Rattle.model.specs.Saved.{saved};
@@ -18,7 +17,7 @@ use crate::values::arrival_values;
 use corners::listing::{corners_of, write_corners};
 use hull::admitted;
 use layout::{VERSION, saved_length};
-use model::{Map, Offered, Point, Refusal};
+use model::{Arrival, Point, Refusal, SoundMap};
 use orbits::DartSet;
 use saved::write_map;
 use survey::lines::is_too_long;
@@ -72,54 +71,60 @@ pub fn write_darts(orbit: &DartSet, out: &mut [u64]) -> Result<(), Refusal>
 // Offers a point to a sound map, and writes the bytes of the map after it and the arrival:
 // numbers 2 to 4 and 10.
 pub fn write_admitted(
-    map: &Map,
+    sound: SoundMap<'_>,
     p: Point,
     out: &mut [u8],
     arrival: &mut [u64],
 ) -> Result<(), Refusal>
-    requires { Shaped map.now }
-    ensures { ServedBoth (admission_rules map.now p) (saved (arrive map.now p).map)
-        (arrival_told (arrival_answer (Ok (arrive map.now p).arrival))) out.old out.new
+    ensures { ServedBoth (admission_rules sound.entry.map.now p) (saved (arrive sound.entry.map.now p).map)
+        (arrival_told (arrival_answer (Ok (arrive sound.entry.map.now p).arrival))) out.old out.new
         arrival.old arrival.new (code_of result) }
 {
-    let offered = admitted(map, p)?;
-    write_offered(&offered, out, arrival)
+    let offered = admitted(sound, p)?;
+    let grown = SoundMap { map: &offered.map };
+    write_offered(grown, offered.arrival, out, arrival)
 }
 
 // Writes the bytes of a sound map, and an arrival: number 10.
-fn write_offered(offered: &Offered, out: &mut [u8], arrival: &mut [u64]) -> Result<(), Refusal>
-    requires { Shaped offered.now.map }
-    ensures { ServedBoth [] (saved offered.now.map)
-        (arrival_told (arrival_answer (Ok offered.now.arrival))) out.old out.new
+fn write_offered(
+    sound: SoundMap<'_>,
+    arrived: Arrival,
+    out: &mut [u8],
+    arrival: &mut [u64],
+) -> Result<(), Refusal>
+    ensures { ServedBoth [] (saved sound.entry.map.now)
+        (arrival_told (arrival_answer (Ok arrived))) out.old out.new
         arrival.old arrival.new (code_of result) }
 {
-    let values = arrival_values(offered.arrival);
-    let length = saved_length(VERSION, offered.map.count);
+    let values = arrival_values(arrived);
+    let length = saved_length(VERSION, sound.map.count);
     check_room(length, out, values.len(), arrival)?;
-    write_map(&offered.map, VERSION, out);
+    write_map(sound, VERSION, out);
     write_values(&values, arrival)
 }
 
 // Writes the bytes of a sound map, and how many they are: number 10.
-pub fn write_saved(map: &Map, out: &mut [u8], length: &mut [usize]) -> Result<(), Refusal>
-    requires { Shaped map.now }
-    ensures { ServedBoth [] (saved map.now) (length_told (saved map.now))
+pub fn write_saved(sound: SoundMap<'_>, out: &mut [u8], length: &mut [usize]) -> Result<(), Refusal>
+    ensures { ServedBoth [] (saved sound.entry.map.now) (length_told (saved sound.entry.map.now))
         out.old out.new length.old length.new (code_of result) }
 {
-    let bytes = saved_length(VERSION, map.count);
+    let bytes = saved_length(VERSION, sound.map.count);
     check_room(bytes, out, 1, length)?;
-    write_map(map, VERSION, out);
+    write_map(sound, VERSION, out);
     length[0] = bytes;
     Ok(())
 }
 
 // Lists the corners of a sound map, and writes how many they are: number 10.
-pub fn write_corner_list(map: &Map, out: &mut [usize], count: &mut [usize]) -> Result<(), Refusal>
-    requires { Shaped map.now }
-    ensures { ServedBoth [] (corners map.now) (length (corners map.now) ∷ [])
+pub fn write_corner_list(
+    sound: SoundMap<'_>,
+    out: &mut [usize],
+    count: &mut [usize],
+) -> Result<(), Refusal>
+    ensures { ServedBoth [] (corners sound.entry.map.now) (length (corners sound.entry.map.now) ∷ [])
         out.old out.new count.old count.new (code_of result) }
 {
-    let list = corners_of(map);
+    let list = corners_of(sound);
     let listed = list.count;
     check_room(listed, out, 1, count)?;
     write_corners(&list, out);

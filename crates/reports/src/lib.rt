@@ -16,7 +16,7 @@ use deciding::survey;
 use lines::positions::{Ends, Lines, Piece};
 use maps::empty_map;
 use maps::traversal::counts_of;
-use model::{Map, POINT_LIMIT};
+use model::{Map, POINT_LIMIT, SoundMap};
 use survey::lines::{TEXT_LIMIT, is_too_long};
 
 // What is decided of a text beside the answers of its lines: the corners, and the ends, or none where
@@ -83,8 +83,9 @@ pub fn decide(text: &[u8], answers: &mut [u32; TEXT_LIMIT]) -> Summary
         };
     }
     let Surveyed { map, lines } = decide_lines(text, answers);
-    let corners = corners_of(&map);
-    let counts = counts_of(&map);
+    let sound = SoundMap { map: &map };
+    let corners = corners_of(sound);
+    let counts = counts_of(sound);
     Summary {
         corners,
         ends: Some(Ends { lines, counts }),

@@ -3,41 +3,40 @@
 
 ghost use Rattle.std.specs.Prelude.{◌≡◌, ◌≤◌, length};
 ghost use Rattle.finite.specs.Overwriting.{over};
-ghost use Rattle.model.specs.Shape.{Shaped};
 ghost use Rattle.model.specs.Saved.{notes_place, saved_in, saved_length};
 ghost use Rattle.saved.specs.Fields.{unnoted};
 
 use layout::{HEADER_LENGTH, helpers_place, links_place, notes_place};
-use model::Map;
+use model::SoundMap;
 
 mod writing;
 
 use writing::{coordinate_field, note_field, noted_in, write_block, write_header};
 
 // Writes a map in a version over the front of the lent list, which keeps its tail.
-pub fn write_map(map: &Map, version: usize, lent: &mut [u8])
-    requires shaped { Shaped map.now }
-    requires count_in_bounds { saved_length version map.now.count ≤ length lent.old }
-    ensures { lent.new ≡ over (saved_in version map.now) lent.old }
+pub fn write_map(sound: SoundMap<'_>, version: usize, lent: &mut [u8])
+    requires { saved_length version sound.map.now.count ≤ length lent.old }
+    ensures { lent.new ≡ over (saved_in version sound.entry.map.now) lent.old }
 {
-    write_unnoted(map, version, lent);
-    let noted = noted_in(version, map.count);
-    let start = notes_place(map.count);
-    write_block(noted, 5, |k| note_field(map, k), &mut lent[start..]);
+    write_unnoted(sound, version, lent);
+    let count = sound.map.count;
+    let noted = noted_in(version, count);
+    let start = notes_place(count);
+    write_block(noted, 5, |k| note_field(sound, k), &mut lent[start..]);
 }
 
 // Writes all but the notes.
-fn write_unnoted(map: &Map, version: usize, lent: &mut [u8])
-    requires shaped { Shaped map.now }
-    requires count_in_bounds { notes_place map.now.count ≤ length lent.old }
-    ensures { lent.new ≡ over (unnoted version map.now) lent.old }
+fn write_unnoted(sound: SoundMap<'_>, version: usize, lent: &mut [u8])
+    requires { notes_place sound.map.now.count ≤ length lent.old }
+    ensures { lent.new ≡ over (unnoted version sound.entry.map.now) lent.old }
 {
+    let map = sound.map;
     let count = map.count;
     write_header(version, count, map.reference, lent);
     write_block(
         2 * count,
         4,
-        |i| coordinate_field(map, i),
+        |i| coordinate_field(sound, i),
         &mut lent[HEADER_LENGTH..],
     );
     let helpers_start = helpers_place(count);

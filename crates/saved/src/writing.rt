@@ -2,14 +2,13 @@
 
 ghost use Rattle.std.specs.Prelude.{◌≡◌, ℕ, ◌*◌, ◌≤◌, ◌<◌, length};
 ghost use Rattle.finite.specs.Overwriting.{over};
-ghost use Rattle.model.specs.Maps.{note, point_limit};
-ghost use Rattle.model.specs.Shape.{Fitting, Shaped};
+ghost use Rattle.model.specs.Maps.{point_limit};
 ghost use Rattle.model.specs.Saved.{block, complement, coordinate, header, header_length, packed_note};
 ghost use Rattle.saved.specs.Fields.{Gives, noted_in};
 
 use layout::numbers::{complement, put_number};
 use layout::{COUNT_PLACE, OLD_VERSION, REFERENCE_PLACE, VERSION_PLACE, saved_length};
-use model::Map;
+use model::SoundMap;
 
 // What a number of 2 bytes stands below.
 const HALF_WORD: usize = 65536;
@@ -42,11 +41,10 @@ pub fn write_block<F: Fn(usize) -> usize>(count: usize, width: usize, field: F, 
 }
 
 // What stands for coordinate i of the points, x and y in turn.
-pub fn coordinate_field(map: &Map, i: usize) -> usize
-    requires { Shaped map.now }
-    ensures { result ≡ complement (coordinate map.now i) }
+pub fn coordinate_field(sound: SoundMap<'_>, i: usize) -> usize
+    ensures { result ≡ complement (coordinate sound.entry.map.now i) }
 {
-    let p = map.point(i / 2);
+    let p = sound.point(i / 2).point;
     if i % 2 == 0 {
         complement(p.x)
     } else {
@@ -62,11 +60,11 @@ pub fn noted_in(version: usize, count: usize) -> usize
 }
 
 // What stands for what is noted of point k: its arrival, and two bytes for each freed dart.
-pub fn note_field(map: &Map, k: usize) -> usize
-    requires { (k < point_limit) × Fitting (note map.now k) }
-    ensures { result ≡ packed_note map.now k }
+pub fn note_field(sound: SoundMap<'_>, k: usize) -> usize
+    requires { k < point_limit }
+    ensures { result ≡ packed_note sound.entry.map.now k }
 {
-    let noted = map.notes[k];
+    let noted = sound.map.notes[k];
     let arrival = noted.arrival as usize;
     let left = noted.left as usize;
     let right = noted.right as usize;

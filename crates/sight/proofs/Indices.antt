@@ -1,26 +1,25 @@
 -- What the code reads from a sound map and takes for an index lies within the arrays, in the order of
--- this page: edge links; points in range; the corners; the left and the right corner.
+-- this page: edge links; the corners; the left and the right corner.
 use mathlib.Core.Path.{◌≡◌, sym, ap, subst}
 use mathlib.Core.Logic.{⊎_elim}
-use mathlib.Core.Bool.{Bool, true, false, cond, ◌&&◌}
+use mathlib.Core.Bool.{Bool, true, false, cond}
 use mathlib.Core.List.{List, [], ◌∷◌}
 use Prim.Native.Nat.{ℕ, ◌≤◌, ◌<◌}
 use native.Mathlib.Omega.{arith}
 use lib.Dec.{T, T_not}
 use lib.ListN.{get_or}
-use Rattle.finite.specs.Tests.{decide, and_both}
+use Rattle.finite.specs.Tests.{decide}
 use Rattle.finite.specs.Lists.{elem, first_in}
 use Rattle.finite.specs.ListLaws.{elem_head, elem_tail}
 use Rattle.finite.specs.ListLaws.{get_d_any}
 use Rattle.orbits.specs.Sets.{dart_limit}
 use Rattle.model.specs.declared.Point.{Point}
 use Rattle.model.specs.declared.Map.{Map}
-use Rattle.model.specs.Plane.{in_range}
-use Rattle.model.specs.Maps.{point_limit, own, owner, point, is_present, edge_link}
+use Rattle.model.specs.Maps.{point_limit, own, owner, is_present, edge_link}
 use Rattle.model.specs.Outline.{next_corner, outline}
 use Rattle.model.specs.Shape.{Shaped}
 use Rattle.model.specs.Arrival.{turning_left, turning_right, farther, left_corner, right_corner}
-use Rattle.model.proofs.Shape.{place_ranged, present_below}
+use Rattle.model.proofs.Shape.{present_below}
 use Rattle.maps.proofs.Outline.{outline_circuit, outline_next}
 use Rattle.linking.specs.Requires.{Spliceable}
 use Rattle.sight.specs.Requires.{Accepted, OutlineFor}
@@ -36,17 +35,6 @@ module _ {m : Map} (s : Shaped m) where
       (λ (t : T (is_present m d)). omega (arith, present_below m (edge_link m d) (s.links.present d t), s.links.fits))
       (λ t. subst (λ (x : ℕ). x < dart_limit) (sym (s.links.absent d (T_not (is_present m d) t))) h)
       (decide (is_present m d))
-
--- ---- points
-
--- three points that are in range
-pub three_ranged : {m : Map} {p : Point} → OutlineFor m p → (a b : ℕ) →
-    T (in_range (point m a) && in_range (point m b) && in_range p)
-three_ranged {m} {p} o a b =
-    let ta = place_ranged o.accepted.is_sound a in
-    let tb = place_ranged o.accepted.is_sound b in
-    let tp = o.accepted.ranged in
-    search and_both
 
 -- ---- corners
 

@@ -6,7 +6,7 @@ ghost use Rattle.model.specs.Arrival.{farther, is_beyond};
 ghost use Rattle.sight.specs.Requires.{OutlineFor};
 ghost use Rattle.sight.specs.Sight.{seen, sought_at, turning};
 
-use model::{Map, Point};
+use model::{Map, Point, Ranged, SoundMap};
 use plane::between::are_opposite;
 use plane::sees_edge;
 
@@ -18,20 +18,27 @@ pub struct Seen {
     pub visible: usize,
 }
 
-// What is seen from p. Where some edge is visible and the outline has no corner at which that turns,
-// all of it is visible: p is in line beyond one of two corners, and both are the farther one.
-pub fn seen_from(map: &Map, p: Point) -> Seen
-    requires { OutlineFor map.now p }
-    ensures { result ≡ seen map.now p }
+// A map that has an outline, and a point that no condition refuses, which looks at it: whoever makes one proves it.
+#[derive(Clone, Copy)]
+pub struct Outlook<'a> {
+    pub map: &'a Map,
+    pub point: Point,
+    pub ghost outline: { OutlineFor map.now point },
+}
+
+// What is seen from the point. Where some edge is visible and the outline has no corner at which that turns,
+// all of it is visible: the point is in line beyond one of two corners, and both are the farther one.
+pub fn seen_from(outlook: Outlook<'_>) -> Seen
+    ensures { result ≡ seen outlook.entry.map.now outlook.entry.point }
 {
-    let turning = turning_from(map, p);
+    let turning = turning_from(outlook);
     if turning.visible == 0 {
         return turning;
     }
     if turning.left != turning.right {
         return turning;
     }
-    let far = farther_corner(map, p);
+    let far = farther_corner(outlook);
     Seen {
         left: far,
         right: far,
@@ -39,35 +46,45 @@ pub fn seen_from(map: &Map, p: Point) -> Seen
     }
 }
 
-// The corner farther from p, which is in line beyond one of two corners: the other one lies ahead of
-// it, between it and p.
-fn farther_corner(map: &Map, p: Point) -> usize
-    requires outline { OutlineFor map.now p }
-    requires beyond { T (is_beyond map.now p) }
-    ensures { result ≡ farther map.now p }
+// The corner farther from the point, which is in line beyond one of two corners: the other one lies ahead of
+// it, between it and the point.
+fn farther_corner(outlook: Outlook<'_>) -> usize
+    requires { T (is_beyond outlook.map.now outlook.point) }
+    ensures { result ≡ farther outlook.entry.map.now outlook.entry.point }
 {
+    let map = outlook.map;
+    let sound = SoundMap { map };
+    let p = Ranged {
+        point: outlook.point,
+    };
     let a = map.reference / 2;
     let b = map.next_corner(a);
-    let ahead = are_opposite(map.point(a), p, map.point(b));
+    let ahead = are_opposite(sound.point(a), p, sound.point(b));
     if ahead { a } else { b }
 }
 
-// What is seen from p once round the outline, with the corners where what is visible turns.
-fn turning_from(map: &Map, p: Point) -> Seen
-    requires { OutlineFor map.now p }
-    ensures { result ≡ turning map.now p }
+// What is seen from the point once round the outline, with the corners where what is visible turns.
+fn turning_from(outlook: Outlook<'_>) -> Seen
+    ensures { result ≡ turning outlook.entry.map.now outlook.entry.point }
 {
+    let map = outlook.map;
+    let sound = SoundMap { map };
+    let p = Ranged {
+        point: outlook.point,
+    };
     let start = map.reference / 2;
     let last = map.previous_corner(start);
-    let mut entering = sees_edge(map.point(last), map.point(start), p);
+    let mut entering = sees_edge(sound.point(last), sound.point(start), p);
     let mut left = None;
     let mut right = None;
     let mut visible = 0;
     let mut a = start;
-    let mut from = map.point(start);
+    let mut from = sound.point(start);
     for _ in 0..map.count {
         let b = map.edge[2 * a] / 2;
-        let to = map.points[b];
+        let to = Ranged {
+            point: map.points[b],
+        };
         let leaving = sees_edge(from, to, p);
         if entering != leaving {
             left = sought_at(left, entering, leaving, a);

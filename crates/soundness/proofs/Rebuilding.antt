@@ -5,7 +5,7 @@ use mathlib.Core.List.{List}
 use Prim.Native.Nat.{ℕ, ◌≤◌}
 use native.Mathlib.Omega.{arith}
 use lib.ListN.{length}
-use Rattle.std.specs.Prelude.{⊤, Option, Some, None}
+use Rattle.std.specs.Prelude.{Option, Some, None}
 use Rattle.std.specs.Result.{result_ok}
 use Rattle.std.specs.declared.result.Result.{Result}
 use Rattle.std.specs.declared.result.Result.TheVariants.{Ok, Err}
@@ -47,10 +47,10 @@ module _ (ps : List Point) where
       absurd (let z : ◌≡◌ {A = ℕ} 0 1 = cc in omega arith)
 
 -- what `ok()` tells of a result
-pub ok_some : (r : Result ⊤ Refusal) → result_ok r ≡ Some tt → r ≡ Ok tt
-ok_some (Ok u) e = refl
-ok_some (Err x) e = absurd (let z : ◌≡◌ {A = ℕ} 0 1 = cc in omega arith)
+pub ok_some : {A : Type 0} (r : Result A Refusal) (a : A) → result_ok r ≡ Some a → r ≡ Ok a
+ok_some (Ok u) a e = let same : u ≡ a = cc in ap Ok same
+ok_some (Err x) a e = absurd (let z : ◌≡◌ {A = ℕ} 0 1 = cc in omega arith)
 
-pub ok_none : (r : Result ⊤ Refusal) → result_ok r ≡ None → (x : Refusal) × (r ≡ Err x)
+pub ok_none : {A : Type 0} (r : Result A Refusal) → result_ok r ≡ None → (x : Refusal) × (r ≡ Err x)
 ok_none (Ok u) e = absurd (let z : ◌≡◌ {A = ℕ} 0 1 = cc in omega arith)
 ok_none (Err x) e = (x, refl)

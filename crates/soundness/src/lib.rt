@@ -5,13 +5,25 @@ ghost use Rattle.std.specs.Prelude.{◌≡◌};
 ghost use Rattle.finite.specs.Bounded.{table};
 ghost use Rattle.model.specs.Maps.{point_in};
 ghost use Rattle.model.specs.Sound.{agree, sound};
+ghost use Rattle.soundness.specs.Checking.{Checked};
 ghost use Rattle.soundness.specs.Rebuilding.{rebuilt};
 
 use admission::hashes::{Hashes, admission_hashed};
 use comparing::same;
 use hull::grow;
 use maps::empty_map;
-use model::{Map, Point, point_in};
+use model::{Map, Point, Refusal, SoundMap, point_in};
+
+// A map as a sound one, or number 1.
+pub fn checked(map: &Map) -> Result<SoundMap<'_>, Refusal>
+    ensures { Checked map.now result }
+{
+    if is_sound(map) {
+        Ok(SoundMap { map })
+    } else {
+        Err(Refusal::NotSound)
+    }
+}
 
 // Whether a map is sound, whatever its fields hold: any coordinate, link, note or reference, and any count.
 pub fn is_sound(map: &Map) -> bool
@@ -32,9 +44,9 @@ pub fn rebuild(points: &[Point], count: usize) -> Option<Map>
     let mut hashes = Hashes::empty();
     for k in 0..count {
         let p = point_in(points, k);
-        admission_hashed(&map.points[..map.count], &hashes, p).ok()?;
-        grow(&mut map, p);
-        hashes.put(p);
+        let accepted = admission_hashed(&map.points[..map.count], &hashes, p).ok()?;
+        grow(&mut map, accepted.point);
+        hashes.put(accepted);
     }
     Some(map)
 }

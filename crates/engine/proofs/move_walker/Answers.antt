@@ -12,4 +12,4 @@ returns-in_err-check_dart c =
 
 pub returns : goal.returns
 unfolding moved_answer
-returns c = checked_served (λ r. refl) c.in_ok-check_dart.ensures c.moved.ensures
+returns c = checked_served (λ r. refl) c.in_ok-check_dart.ensures.1 c.moved.ensures

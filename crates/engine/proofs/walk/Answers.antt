@@ -12,8 +12,8 @@ returns-in_err-check_dart c =
     rw (passed_up _ _ c.from_residual.ensures.1) (checked_refused (λ r. refl) c.in_err-check_dart.ensures)
 
 pub walk_of-requires : goal.walk_of-requires
-walk_of-requires c = (checked_sound _ _ c.in_ok-check_dart.ensures).links.fits
+walk_of-requires c = (checked_sound _ _ c.in_ok-check_dart.ensures.1).links.fits
 
 pub returns : goal.returns
 unfolding walked_answer
-returns c = checked_served (λ r. refl) c.in_ok-check_dart.ensures c.walk_of.ensures
+returns c = checked_served (λ r. refl) c.in_ok-check_dart.ensures.1 c.walk_of.ensures

@@ -4,7 +4,7 @@ use native.Mathlib.Nat.{sub-zero}
 use Rattle.model.specs.declared.Point.{Point}
 use Rattle.model.specs.Maps.{point_limit}
 use Rattle.listings.specs.Listings.{turns_at}
-use Rattle.listings.proofs.Listed.{front_ranged, few_points, many_points}
+use Rattle.listings.proofs.Listed.{front_ranged, front_held, few_points, many_points}
 use Rattle.listings.proofs.is_listable.Goals as goal
 use Rattle.listings.proofs.is_listable.Goals.{In-Some}
 
@@ -12,11 +12,11 @@ use Rattle.listings.proofs.is_listable.Goals.{In-Some}
 asked : (c : In-Some) → c.in-Some.corners.now ≡ take c.args.n c.args.points.now
 asked c = c.in-Some.ensures.lookup.0.2 ∙ ap (λ (k : ℕ). take k c.args.points.now) (sub-zero c.args.n)
 
-pub turn_left-requires : goal.turn_left-requires
-turn_left-requires c =
+pub invariant_of-turn_left : goal.invariant_of-turn_left
+invariant_of-turn_left c =
     let a = c.args in
-    let here = (goal.at.turn_left-requires c).In-Some in
-    rw (asked here) (front_ranged a.points.now a.n c.in-Some.ensures.lookup.0.1 c.requires)
+    let here = (goal.at.invariant_of-turn_left c).In-Some in
+    record { ranged = rw (asked here) (front_held a.points.now a.n c.in-Some.ensures.lookup.0.1 c.requires) }
 
 pub returns-then-lowest_is_first : goal.returns-then-lowest_is_first
 returns-then-lowest_is_first c =

@@ -19,7 +19,7 @@ tests cs =
 pub returns-then-not-turns_left_to : goal.returns-then-not-turns_left_to
 returns-then-not-turns_left_to c =
     one_failed (record { passed = c.loop-k.invariant; found = c.turns_left_to.ensures })
-    (tests c.args.corners.now) (omega arith) (ap not c.if-not-turns_left_to.true)
+    (tests c.args.corners.points.now) (omega arith) (ap not c.if-not-turns_left_to.true)
 
 pub returns : goal.returns
-returns c = all_passed (tests c.args.corners.now) c.loop-k.invariant (omega arith)
+returns c = all_passed (tests c.args.corners.points.now) c.loop-k.invariant (omega arith)

@@ -4,4 +4,4 @@ use Rattle.listings.specs.Listings.{turn_at}
 use Rattle.listings.proofs.turn_left.Given as goal
 
 abbrev pub invariant-loop-k : goal.invariant-loop-k
-invariant-loop-k l = Passed (turn_at l.corners) 2 l.k
+invariant-loop-k l = Passed (turn_at l.corners.points.now) 2 l.k

@@ -95,16 +95,19 @@ returns-in_err-map c =
     (c.in_err-map.ensures.value ∙ ap (λ (o : Option Map). ok_or o Refusal.NotSound) none
     ∙ opened_unsound (file d) (stopped d none))
 
-pub writes-requires-clause-shaped : goal.writes-requires-clause-shaped
-writes-requires-clause-shaped c =
-    shaped (goal.at.writes-requires-clause-shaped c).After-rebuild
-    (c.ok_or.ensures.ok_part ∙ ap result_ok c.in_ok-map.was)
+pub invariant_of-writes : goal.invariant_of-writes
+invariant_of-writes c =
+    record {
+      shaped =
+          shaped (goal.at.invariant_of-writes c).After-rebuild
+          (c.ok_or.ensures.ok_part ∙ ap result_ok c.in_ok-map.was);
+    }
 
-pub writes-requires-clause-file_len : goal.writes-requires-clause-file_len
-writes-requires-clause-file_len c =
-    let d = (goal.at.writes-requires-clause-file_len c).After-rebuild in
+pub writes-requires : goal.writes-requires
+writes-requires c =
+    let d = (goal.at.writes-requires c).After-rebuild in
     let n = counted d (c.ok_or.ensures.ok_part ∙ ap result_ok c.in_ok-map.was) in
-    (form (goal.at.writes-requires-clause-file_len c).Start).whole
+    (form (goal.at.writes-requires c).Start).whole
     ∙ (λ i. saved_length (sym c.number_at-version.ensures.0 i) (sym n i))
 
 pub returns-then-not-writes : goal.returns-then-not-writes

@@ -13,19 +13,19 @@ use Rattle.saved.proofs.Places.{length_saved_in}
 use Rattle.loading.proofs.writes.Goals as goal
 use Rattle.loading.proofs.writes.Goals.{After-write_map}
 
-pub write_map-requires-clause-count_in_bounds : goal.write_map-requires-clause-count_in_bounds
-write_map-requires-clause-count_in_bounds c =
-    omega (arith, c.requires.shaped.links.fits, notes_short c.args.version c.args.map.now.count)
+pub write_map-requires : goal.write_map-requires
+write_map-requires c =
+    omega (arith, c.args.sound.shaped.links.fits, notes_short c.args.version c.args.sound.map.now.count)
 
 module _ (c : After-write_map) where
   abbrev file : List ℕ
   file = c.args.file.now
 
   abbrev bytes : List ℕ
-  bytes = saved_in c.args.version c.args.map.now
+  bytes = saved_in c.args.version c.args.sound.map.now
 
   long : length bytes ≡ length file
-  long = length_saved_in c.args.version c.args.map.now ∙ sym c.requires.file_len
+  long = length_saved_in c.args.version c.args.sound.map.now ∙ sym c.requires
 
   front : take (length file) c.write_map.new.lent ≡ bytes
   front =
@@ -37,9 +37,9 @@ module _ (c : After-write_map) where
   whole =
       omega (
         arith,
-        c.requires.shaped.links.fits,
-        notes_short c.args.version c.args.map.now.count,
-        c.requires.file_len,
+        c.args.sound.shaped.links.fits,
+        notes_short c.args.version c.args.sound.map.now.count,
+        c.requires,
         c.write_map.auto.lent,
         length-replicate {A = ℕ} 9225 0,
       )

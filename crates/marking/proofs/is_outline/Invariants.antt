@@ -6,4 +6,4 @@ use Rattle.marking.specs.Claims.{edge_at}
 use Rattle.marking.proofs.is_outline.Given as goal
 
 abbrev pub invariant-loop-i : goal.invariant-loop-i
-invariant-loop-i l = Passed (edge_at (point_in l.points) (length l.points) l.claim) 0 l.i
+invariant-loop-i l = Passed (edge_at (point_in l.taken.points.now) (length l.taken.points.now) l.claim) 0 l.i

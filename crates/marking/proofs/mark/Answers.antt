@@ -22,12 +22,12 @@ returns-in_err-take_points c =
 pub slice_bounds-places-end : goal.slice_bounds-places-end
 slice_bounds-places-end c = place_count _ [] c.take_points.ensures c.in_ok-take_points.was
 
-pub slice_bounds-is_outline-end : goal.slice_bounds-is_outline-end
-slice_bounds-is_outline-end c =
+pub slice_bounds-taken-end : goal.slice_bounds-taken-end
+slice_bounds-taken-end c =
     sym (length-take-le _ _ (place_count _ [] c.take_points.ensures c.in_ok-take_points.was))
 
-pub is_outline-requires : goal.is_outline-requires
-is_outline-requires c = places_ranged _ [] c.take_points.ensures c.in_ok-take_points.was
+pub invariant_of-taken : goal.invariant_of-taken
+invariant_of-taken c = record { ranged = places_ranged _ [] c.take_points.ensures c.in_ok-take_points.was }
 
 -- the claim was tested, of points that are all accepted
 pub returns : goal.returns

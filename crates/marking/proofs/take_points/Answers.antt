@@ -1,5 +1,5 @@
 use borrow.Author.Rules.{rules}
-use mathlib.Core.Path.{◌≡◌, ap, ◌∙◌}
+use mathlib.Core.Path.{◌≡◌, subst, ◌∙◌}
 use mathlib.Core.List.{List}
 use Prim.Native.Nat.{ℕ}
 use native.Mathlib.Omega.{arith}
@@ -11,8 +11,8 @@ use Rattle.std.proofs.lemmas.Result.{err_from_is_err_and}
 use Rattle.model.specs.declared.Point.{Point}
 use Rattle.model.specs.Plane.{at}
 use Rattle.model.specs.Marking.{points_of}
-use Rattle.admission.specs.Admission.{admission_by}
-use Rattle.hull.proofs.Taking.{Asked, one_accepted, place_free, one_refused}
+use Rattle.admission.specs.Admission.{Admitted}
+use Rattle.hull.proofs.Taking.{Asked, place_free, one_refused}
 use Rattle.marking.proofs.Points.{none_placed, asked_for, one_placed, all_placed}
 use Rattle.marking.proofs.Points.{none_taken_off, more_ahead, pair_read, one_taken_off, all_taken_off}
 use Rattle.marking.proofs.take_points.Goals as goal
@@ -49,30 +49,27 @@ asked c =
     let two = step.0.1.1 ∙ c.loop-k.invariant.2 in
     asked_for c.loop-k.invariant.4 (more_ahead a x _ step.0.1.0 two)
     ((λ i. at (e i) (f i)) ∙ pair_read a x _ step.0.1.0 two)
-    (c.admission_hashed.ensures ∙ ap (λ (n : ℕ). admission_by (take n c.loop-k.places) (put x)) step.1)
+    (subst (λ (n : ℕ). Admitted (take n c.loop-k.places) (put x) c.admission_hashed.result) step.1
+    c.admission_hashed.ensures)
 
 pub bounds-pair-1 : goal.bounds-pair-1
 bounds-pair-1 c = omega (arith, c.in-Some.ensures.steps.0.1.1, c.loop-k.invariant.2)
 
-pub returns-in_err-admission_hashed : goal.returns-in_err-admission_hashed
-returns-in_err-admission_hashed c =
+pub returns-in_err-p : goal.returns-in_err-p
+returns-in_err-p c =
     let p = err_from_is_err_and c.from_residual.result c.from_residual.ensures.1 in
     rw (p.1, p.2)
     (record {
       answer =
-          one_refused (asked (goal.at.returns-in_err-admission_hashed c).After-admission_hashed) _
-          c.in_err-admission_hashed.was;
+          one_refused (asked (goal.at.returns-in_err-p c).After-admission_hashed) _
+          c.in_err-p.was;
       held = λ e. absurd (let z : ◌≡◌ {A = ℕ} 0 1 = cc in omega arith);
     })
 
 pub bounds-places-k : goal.bounds-places-k
 bounds-places-k c =
-    let free = place_free (asked (goal.at.bounds-places-k c).After-admission_hashed) c.in_ok-admission_hashed.was in
+    let free = place_free (asked (goal.at.bounds-places-k c).After-admission_hashed) c.in_ok-p.was in
     omega (arith, free, c.in-Some.ensures.steps.1)
-
-pub put-requires : goal.put-requires
-put-requires c =
-    (one_accepted (asked (goal.at.put-requires c).After-admission_hashed) c.in_ok-admission_hashed.was).ranged
 
 pub loop-k-preserved : goal.loop-k-preserved
 loop-k-preserved c =
@@ -84,7 +81,7 @@ loop-k-preserved c =
       rw step.2 (one_taken_off c.loop-k.invariant.3 c.in-Some.pair.now _ step.0.1.0 two),
       rw (step.2, step.1, c.put.ensures)
           (one_placed c.loop-k.invariant.4 (asked (goal.at.loop-k-preserved c).After-admission_hashed)
-          c.in_ok-admission_hashed.was),
+          c.in_ok-p.was),
     )
 
 pub returns : goal.returns

@@ -10,17 +10,17 @@ use Rattle.measures.proofs.area_of.Goals as goal
 
 pub returns-in_default : goal.returns-in_default
 returns-in_default c =
-    place_refused c.args.map.now c.args.place (c.as_slice-corners.ensures ∙ c.corners_of-list.ensures.members)
+    place_refused c.args.sound.map.now c.args.place (c.as_slice-corners.ensures ∙ c.corners_of-list.ensures.members)
     (omega arith) c.in_default.ensures.lookup.3
 
 pub fan_from-requires : goal.fan_from-requires
 fan_from-requires c =
-    fan_fits c.args.map.now c.args.place (c.as_slice-corners.ensures ∙ c.corners_of-list.ensures.members)
-    (omega arith) c.requires c.point.result c.in-Some.ensures.lookup.3.0
-    (c.point.ensures ∙ ap (point c.args.map.now) (c.in-Some.ensures.lookup.3.1 0))
+    fan_fits c.args.sound.map.now c.args.place (c.as_slice-corners.ensures ∙ c.corners_of-list.ensures.members)
+    (omega arith) c.args.sound.shaped c.point.result.point c.in-Some.ensures.lookup.3.0
+    (c.point.ensures ∙ ap (point c.args.sound.map.now) (c.in-Some.ensures.lookup.3.1 0))
 
 pub returns : goal.returns
 returns c =
-    place_served c.args.map.now c.args.place (c.as_slice-corners.ensures ∙ c.corners_of-list.ensures.members)
-    (omega arith) c.point.result _ c.in-Some.ensures.lookup.3.0
+    place_served c.args.sound.map.now c.args.place (c.as_slice-corners.ensures ∙ c.corners_of-list.ensures.members)
+    (omega arith) c.point.result.point _ c.in-Some.ensures.lookup.3.0
     (to_z-of_z w64 c.fan_from.result (record { sfits = c.fan_from.type_inv }) ∙ c.fan_from.ensures)

@@ -42,13 +42,13 @@ pub overflow_add-total : goal.overflow_add-total
 overflow_add-total c =
     let z = c.orientation_in_range-total in
     fits c.requires c.loop-b.invariant c.loop-b-test.true (record { sfits = z.type_inv })
-    (oriented c.args.map.now c.args.q _ _ c.point.ensures c.point-in-loop-b.ensures z.ensures)
+    (oriented c.args.sound.map.now c.args.q.point _ _ c.point.ensures c.point-in-loop-b.ensures z.ensures)
 
 pub loop-b-preserved : goal.loop-b-preserved
 loop-b-preserved c =
     let z = c.orientation_in_range-total in
     summed c.requires c.loop-b.invariant c.loop-b-test.true (record { sfits = z.type_inv })
-    (oriented c.args.map.now c.args.q _ _ c.point.ensures c.point-in-loop-b.ensures z.ensures)
+    (oriented c.args.sound.map.now c.args.q.point _ _ c.point.ensures c.point-in-loop-b.ensures z.ensures)
 
 pub returns : goal.returns
 returns c = at_end c.requires c.loop-b.invariant c.loop-b-test.false

@@ -4,4 +4,4 @@ use Rattle.measures.proofs.Sums.{SummingAt}
 use Rattle.measures.proofs.fan_from.Given as goal
 
 abbrev pub invariant-loop-b : goal.invariant-loop-b
-invariant-loop-b l = SummingAt l.map l.corners l.q l.total l.a l.b-index
+invariant-loop-b l = SummingAt l.sound.map.now l.corners l.q.point l.total l.a l.b-index

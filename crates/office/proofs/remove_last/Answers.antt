@@ -10,24 +10,24 @@ use Rattle.deciding.proofs.Verdicts.{passed_up}
 use Rattle.engine.proofs.Rules.{checked_whole, first_refuses, first_serves}
 use Rattle.office.proofs.remove_last.Goals as goal
 
-pub returns-in_err-check_map : goal.returns-in_err-check_map
+pub returns-in_err-checked : goal.returns-in_err-checked
 unfolding outcome_answer
-returns-in_err-check_map c =
+returns-in_err-checked c =
     rw (passed_up _ _ c.from_residual.ensures.1)
-    (answered _ (λ r. refl) (first_refuses _ _ _ _ c.in_err-check_map.ensures))
+    (answered _ (λ r. refl) (first_refuses _ _ _ _ c.in_err-checked.ensures))
 
 pub returns-then-map-eq0 : goal.returns-then-map-eq0
 unfolding outcome_answer
 returns-then-map-eq0 c =
     answered _ (λ r. refl)
-    (first_serves _ _ _ _ c.in_ok-check_map.ensures (rule_applies _ _ _ _ (eq-eqb _ 0 c.if-map-eq0.true)))
+    (first_serves _ _ _ _ c.in_ok-checked.ensures.1 (rule_applies _ _ _ _ (eq-eqb _ 0 c.if-map-eq0.true)))
 
 pub taken_back-requires : goal.taken_back-requires
-taken_back-requires c = (checked_whole _ c.in_ok-check_map.ensures, omega arith)
+taken_back-requires c = (checked_whole _ c.in_ok-checked.ensures.1, omega arith)
 
 pub returns : goal.returns
 unfolding outcome_answer
 returns c =
     answered _ (λ r. refl)
-    (first_serves _ _ _ _ c.in_ok-check_map.ensures
+    (first_serves _ _ _ _ c.in_ok-checked.ensures.1
     (rule_passes _ _ _ _ (ne_eqb _ 0 c.if-map-eq0.false) (ap Ok c.taken_back.ensures ∙ no_rule _ _)))

@@ -12,6 +12,6 @@ use Rattle.plane.proofs.is_beside.Goals as goal
 pub returns : goal.returns
 returns c =
     let z = c.orientation_in_range-z in
-    let v : to_z w64 (of_z w64 z.result) ≡ orientation c.args.a c.args.b c.args.c =
+    let v : to_z w64 (of_z w64 z.result) ≡ orientation c.args.a.point c.args.b.point c.args.c.point =
     to_z-of_z w64 z.result (record { sfits = z.type_inv }) ∙ z.ensures in
     c.are_opposite.ensures ∙ beside_on_line _ _ _ (omega (arith, machine))

@@ -15,13 +15,13 @@ use Rattle.saved.proofs.write_map.Goals.{After-notes_place-start}
 
 -- the notes fit behind all else
 long : (c : After-notes_place-start) →
-    notes_place c.args.map.now.count + 5 * c.noted_in-noted.result ≤ length c.args.lent.now
+    notes_place c.args.sound.map.now.count + 5 * c.noted_in-noted.result ≤ length c.args.lent.now
 long c =
     omega (
       arith,
-      c.requires.count_in_bounds,
+      c.requires,
       c.noted_in-noted.ensures,
-      noted_length c.args.version c.args.map.now.count,
+      noted_length c.args.version c.args.sound.map.now.count,
     )
 
 pub write_block-requires-clause-room : goal.write_block-requires-clause-room
@@ -32,7 +32,7 @@ write_block-requires-clause-room c =
 pub returns : goal.returns
 unfolding saved_in unnoted
 returns c =
-    let m = c.args.map.now in
+    let m = c.args.sound.map.now in
     let v = c.args.version in
     let before = c.args.lent.now in
     let l = long (goal.at.returns c).After-notes_place-start in

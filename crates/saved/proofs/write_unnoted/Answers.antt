@@ -52,7 +52,7 @@ module _ (v : ℕ) (m : Map) where
 pub returns : goal.returns
 unfolding unnoted one_if
 returns c =
-    let m = c.args.map.now in
+    let m = c.args.sound.map.now in
     let v = c.args.version in
     let before = c.args.lent.now in
     let after-2 =

@@ -4,21 +4,15 @@ use mathlib.Core.Path.{◌≡◌, sym, ap, subst, ◌∙◌}
 use mathlib.Core.Bool.{Bool}
 use Prim.Native.Nat.{ℕ}
 use lib.Dec.{T}
-use Rattle.finite.specs.Tests.{of_true, and_left, and_right, and_both}
+use Rattle.finite.specs.Tests.{of_true}
 use Rattle.model.specs.declared.Point.{Point}
 use Rattle.model.specs.declared.Map.{Map}
 use Rattle.model.specs.Maps.{owner, point}
 use Rattle.model.specs.Outline.{next_corner}
 use Rattle.plane.specs.Between.{opposite}
 use Rattle.maps.proofs.Outline.{outline_first}
-use Rattle.sight.proofs.Indices.{three_ranged}
 use Rattle.sight.proofs.Beyond.{farther_this, farther_next}
 use Rattle.sight.proofs.farther_corner.Goals as goal
-
-pub are_opposite-ahead-requires : goal.are_opposite-ahead-requires
-are_opposite-ahead-requires c =
-    let t = three_ranged c.requires.outline (owner c.args.map.now.reference) c.next_corner-b.result in
-    rw (c.point.ensures, c.point-2.ensures) (search (and_left, and_right, and_both))
 
 -- what is tested, of the first corner and the next
 module _ (m : Map) (p : Point) (a : ℕ) {ahead : Bool} {b : ℕ} {q r : Point} (next : b ≡ next_corner m a)
@@ -28,21 +22,21 @@ module _ (m : Map) (p : Point) (a : ℕ) {ahead : Bool} {b : ℕ} {q r : Point} 
 
 pub returns-then-ahead : goal.returns-then-ahead
 returns-then-ahead c =
-    let o = c.requires.outline in
-    farther_this o.accepted o.two c.requires.beyond (owner c.args.map.now.reference)
+    let o = c.args.outlook.outline in
+    farther_this o.accepted o.two c.requires (owner c.args.outlook.map.now.reference)
     (outline_first o.accepted.is_sound o.two)
     (of_true _
-    (sym (test_is c.args.map.now c.args.p (owner c.args.map.now.reference) c.next_corner-b.ensures c.are_opposite-ahead.ensures c.point.ensures c.point-2.ensures)
+    (sym (test_is c.args.outlook.map.now c.args.outlook.point (owner c.args.outlook.map.now.reference) c.next_corner-b.ensures c.are_opposite-ahead.ensures c.point.ensures c.point-2.ensures)
     ∙ c.if-ahead.true))
 
 pub returns-else-ahead : goal.returns-else-ahead
 returns-else-ahead c =
-    let o = c.requires.outline in
+    let o = c.args.outlook.outline in
     c.next_corner-b.ensures
-    ∙ farther_next o.accepted o.two c.requires.beyond (owner c.args.map.now.reference)
+    ∙ farther_next o.accepted o.two c.requires (owner c.args.outlook.map.now.reference)
     (outline_first o.accepted.is_sound o.two)
     (λ t.
     subst T
-    (sym (test_is c.args.map.now c.args.p (owner c.args.map.now.reference) c.next_corner-b.ensures c.are_opposite-ahead.ensures c.point.ensures c.point-2.ensures)
+    (sym (test_is c.args.outlook.map.now c.args.outlook.point (owner c.args.outlook.map.now.reference) c.next_corner-b.ensures c.are_opposite-ahead.ensures c.point.ensures c.point-2.ensures)
     ∙ c.if-ahead.false)
     t)

@@ -38,22 +38,18 @@ module _ {m : Map} {p : Point} (o : OutlineFor m p) (t : Seen) (round_is : t ≡
       (sym (ap (λ (s : Seen). s.left) round_is) ∙ nowhere ∙ ap (λ (s : Seen). s.right) round_is)
 
 pub returns-then-turning-eq0 : goal.returns-then-turning-eq0
-returns-then-turning-eq0 c = seen_unseen c.requires _ c.turning_from-turning.ensures c.if-turning-eq0.true
+returns-then-turning-eq0 c = seen_unseen c.args.outlook.outline _ c.turning_from-turning.ensures c.if-turning-eq0.true
 
 pub returns-then-turning : goal.returns-then-turning
-returns-then-turning c = seen_apart c.requires _ c.turning_from-turning.ensures c.if-turning.true
+returns-then-turning c = seen_apart c.args.outlook.outline _ c.turning_from-turning.ensures c.if-turning.true
 
 pub farther_corner-far-requires : goal.farther_corner-far-requires
 farther_corner-far-requires c =
-    record {
-      outline = c.requires;
-      beyond =
-          found_beyond c.requires _ c.turning_from-turning.ensures c.if-turning-eq0.false c.if-turning.false;
-    }
+    found_beyond c.args.outlook.outline _ c.turning_from-turning.ensures c.if-turning-eq0.false c.if-turning.false
 
 pub returns : goal.returns
 returns c =
-    let o = c.requires in
+    let o = c.args.outlook.outline in
     let round_is = c.turning_from-turning.ensures in
     (λ i. record { left = c.farther_corner-far.ensures i; right = c.farther_corner-far.ensures i; visible = (round_is i).visible })
     ∙ seen_beyond o.accepted o.two (found_beyond o _ round_is c.if-turning-eq0.false c.if-turning.false)

@@ -8,5 +8,5 @@ use Rattle.sight.proofs.turning_from.Given as goal
 
 abbrev pub invariant-loop : goal.invariant-loop
 invariant-loop l =
-    SightAhead l.map l.p l.entering l.left l.right l.visible l.a (l.map.count - l.counter)
-    × (l.from ≡ point l.map l.a)
+    SightAhead l.map l.outlook.point l.entering l.left l.right l.visible l.a (l.map.count - l.counter)
+    × (l.from.point ≡ point l.map l.a)

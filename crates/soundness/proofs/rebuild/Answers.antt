@@ -29,33 +29,28 @@ asked c =
       found = c.admission_hashed.ensures;
     }
 
-pub returns-in_err-ok : goal.returns-in_err-ok
-returns-in_err-ok c =
-    let refused = ok_none _ (sym c.ok.ensures.value ∙ c.in_err-ok.was) in
+pub returns-in_err-accepted : goal.returns-in_err-accepted
+returns-in_err-accepted c =
+    let refused = ok_none _ (sym c.ok.ensures.value ∙ c.in_err-accepted.was) in
     c.from_residual.ensures
     ∙ rebuilt_part _ refused.0
-    (one_refused (asked (goal.at.returns-in_err-ok c).After-admission_hashed) refused.0 refused.1)
+    (one_refused (asked (goal.at.returns-in_err-accepted c).After-admission_hashed) refused.0 refused.1)
 
 pub grow-requires : goal.grow-requires
 grow-requires c =
     one_accepted (asked (goal.at.grow-requires c).After-admission_hashed)
-    (ok_some _ (sym c.ok.ensures.value ∙ c.in_ok-ok.was))
-
-pub put-requires : goal.put-requires
-put-requires c =
-    (one_accepted (asked (goal.at.put-requires c).After-admission_hashed)
-    (ok_some _ (sym c.ok.ensures.value ∙ c.in_ok-ok.was))).ranged
+    (ok_some _ _ (sym c.ok.ensures.value ∙ c.in_ok-accepted.was))
 
 pub loop-k-preserved : goal.loop-k-preserved
 loop-k-preserved c =
     let taken =
     one_taken (asked (goal.at.loop-k-preserved c).After-admission_hashed)
-    (ok_some _ (sym c.ok.ensures.value ∙ c.in_ok-ok.was)) in
+    (ok_some _ _ (sym c.ok.ensures.value ∙ c.in_ok-accepted.was)) in
     rw c.put.ensures
     (subst
     (λ (o : Offered).
     Taking (table c.args.count (point_in c.args.points.now)) (c.loop-k.k + 1) o.map
-    (with_hash c.loop-k.hashes c.point_in-p.result))
+    (with_hash c.loop-k.hashes c.in_ok-accepted.accepted.point))
     (sym c.grow.ensures) taken)
 
 pub returns : goal.returns

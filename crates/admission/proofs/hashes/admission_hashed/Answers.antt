@@ -1,11 +1,12 @@
 -- `admission::hashes::admission_hashed` meets its contract: a point in range whose hash is not set is refused
 -- by no rule but the first.
 use mathlib.Core.Path.{sym, ap, ◌∙◌}
-use mathlib.Core.Bool.{not}
 use borrow.Author.Tests.{le-leb, lt-leb}
 use Rattle.std.specs.declared.result.Result.TheVariants.{Err}
-use Rattle.model.proofs.Answers.{rule_applies, rule_passes, no_rule}
+use Rattle.std.proofs.lemmas.Result.{err_from_is_err_and}
+use Rattle.model.proofs.Answers.{rule_applies}
 use Rattle.admission.specs.Admission.{admission_by}
+use Rattle.admission.proofs.Admitting.{out_of_range, admitted}
 use Rattle.admission.proofs.Hashing.{unhashed_new}
 use Rattle.admission.proofs.hashes.admission_hashed.Goals as goal
 
@@ -13,10 +14,16 @@ pub returns-then-points-ge-POINT_LIMIT : goal.returns-then-points-ge-POINT_LIMIT
 unfolding admission_by
 returns-then-points-ge-POINT_LIMIT c = rule_applies Err _ _ _ (le-leb _ _ c.if-points-ge-POINT_LIMIT.true)
 
+pub returns-in_err-accepted : goal.returns-in_err-accepted
+returns-in_err-accepted c =
+    let p = err_from_is_err_and c.from_residual.result c.from_residual.ensures.1 in
+    let e = c.in_err-accepted.ensures in
+    out_of_range c.args.points.now c.args.p (lt-leb _ _ c.if-points-ge-POINT_LIMIT.false) (p.1 ∙ ap Err (p.2 ∙ e.0)) e.1
+
 pub returns-then-not-has : goal.returns-then-not-has
-unfolding admission_by
 returns-then-not-has c =
-    rule_passes Err _ _ _ (lt-leb _ _ c.if-points-ge-POINT_LIMIT.false)
-    (rule_passes Err _ _ _ (ap not (sym c.in_range.ensures ∙ c.if-in_range.true))
-    (rule_passes Err _ _ _ (unhashed_new c.args.p c.requires (sym c.has.ensures ∙ c.if-not-has.true))
-    (no_rule Err _)))
+    let accepted = c.in_ok-accepted.accepted in
+    let e = c.in_ok-accepted.ensures in
+    admitted c.args.points.now c.args.p (lt-leb _ _ c.if-points-ge-POINT_LIMIT.false) accepted e
+    (unhashed_new c.args.p c.requires
+    (rw (sym e) (sym c.has.ensures ∙ c.if-not-has.true)))

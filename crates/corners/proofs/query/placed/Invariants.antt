@@ -3,4 +3,4 @@ use Rattle.corners.proofs.Views.{Scanning}
 use Rattle.corners.proofs.query.placed.Given as goal
 
 abbrev pub invariant-loop-a : goal.invariant-loop-a
-invariant-loop-a l = Scanning l.map l.p l.view l.a-index
+invariant-loop-a l = Scanning l.map l.p.point l.view l.a-index

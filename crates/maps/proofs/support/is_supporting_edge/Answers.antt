@@ -21,14 +21,14 @@ not_aside points a b c out not_a not_b = rw (ne_eqb c a not_a, ne_eqb c b not_b)
 pub returns-then-c-b : goal.returns-then-c-b
 returns-then-c-b c =
     let read = c.loop-c.invariant in
-    let out = (λ i. beside (sym read.0 i) (sym read.1 i) (point_in c.args.points.now c.loop-c.c))
+    let out = (λ i. beside (sym read.0 i) (sym read.1 i) (point_in c.args.ranged.points.now c.loop-c.c))
     ∙ sym c.is_beside.ensures ∙ c.if-not-is_beside.true in
     one_failed
     (record {
       passed = read.2;
-      found = not_aside c.args.points.now c.args.a c.args.b c.loop-c.c out c.if-c-a.true c.if-c-b.true;
+      found = not_aside c.args.ranged.points.now c.args.a c.args.b c.loop-c.c out c.if-c-a.true c.if-c-b.true;
     })
-    (below (length c.args.points.now) _) (omega arith) (ap not (λ i. false))
+    (below (length c.args.ranged.points.now) _) (omega arith) (ap not (λ i. false))
 
 pub returns : goal.returns
-returns c = all_passed (below (length c.args.points.now) _) c.loop-c.invariant.2 (omega arith)
+returns c = all_passed (below (length c.args.ranged.points.now) _) c.loop-c.invariant.2 (omega arith)

@@ -6,5 +6,5 @@ use Rattle.finite.specs.Loops.{Passed}
 use Rattle.maps.proofs.support.is_supporting_edge.Given as goal
 
 abbrev pub invariant-loop-c : goal.invariant-loop-c
-invariant-loop-c l =
-    (l.from ≡ point_in l.points l.a) × (l.to ≡ point_in l.points l.b) × Passed (aside_in l.points l.a l.b) 0 l.c
+invariant-loop-c l = let points = l.ranged.points.now in
+    (l.from.point ≡ point_in points l.a) × (l.to.point ≡ point_in points l.b) × Passed (aside_in points l.a l.b) 0 l.c

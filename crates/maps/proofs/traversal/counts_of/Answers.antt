@@ -67,57 +67,57 @@ few {m} sound kind =
     )
 
 pub overflow_mul-n : goal.overflow_mul-n
-overflow_mul-n c = omega (arith, c.requires.links.fits)
+overflow_mul-n c = omega (arith, c.args.sound.shaped.links.fits)
 
 pub compose-requires : goal.compose-requires
-compose-requires c = composable c.args.map.now c.requires (links_whole c.args.map.now c.point_links-point.ensures)
+compose-requires c = composable c.args.sound.map.now c.args.sound.shaped (links_whole c.args.sound.map.now c.point_links-point.ensures)
 
 pub orbit_count-vertices-requires : goal.orbit_count-vertices-requires
 orbit_count-vertices-requires c =
     permuted_second
-    (permuted c.args.map.now c.requires c.point_links-point.ensures
-    (links_held c.args.map.now c.requires.links.helpers_whole c.point_links-point.ensures) c.compose.ensures c.present_darts-present.ensures)
+    (permuted c.args.sound.map.now c.args.sound.shaped c.point_links-point.ensures
+    (links_held c.args.sound.map.now c.args.sound.shaped.links.helpers_whole c.point_links-point.ensures) c.compose.ensures c.present_darts-present.ensures)
 
 pub orbit_count-edges-requires : goal.orbit_count-edges-requires
 orbit_count-edges-requires c =
     permuted_first
-    (permuted c.args.map.now c.requires c.point_links-point.ensures
-    (links_held c.args.map.now c.requires.links.helpers_whole c.point_links-point.ensures) c.compose.ensures c.present_darts-present.ensures)
+    (permuted c.args.sound.map.now c.args.sound.shaped c.point_links-point.ensures
+    (links_held c.args.sound.map.now c.args.sound.shaped.links.helpers_whole c.point_links-point.ensures) c.compose.ensures c.present_darts-present.ensures)
 
 pub overflow_mul-n-4 : goal.overflow_mul-n-4
-overflow_mul-n-4 c = omega (arith, c.requires.links.fits)
+overflow_mul-n-4 c = omega (arith, c.args.sound.shaped.links.fits)
 
 pub orbit_count-faces-requires : goal.orbit_count-faces-requires
 orbit_count-faces-requires c =
     permuted_composed
-    (permuted c.args.map.now c.requires c.point_links-point.ensures
-    (links_held c.args.map.now c.requires.links.helpers_whole c.point_links-point.ensures) c.compose.ensures c.present_darts-present.ensures)
+    (permuted c.args.sound.map.now c.args.sound.shaped c.point_links-point.ensures
+    (links_held c.args.sound.map.now c.args.sound.shaped.links.helpers_whole c.point_links-point.ensures) c.compose.ensures c.present_darts-present.ensures)
     c.compose.ensures
 
 -- the numbers that are counted
 module _ (c : After-orbit_count-faces) where
-  darts_counted : c.dart_count-darts.result ≡ darts c.args.map.now
+  darts_counted : c.dart_count-darts.result ≡ darts c.args.sound.map.now
   darts_counted = c.dart_count-darts.ensures
 
-  vertices_counted : c.orbit_count-vertices.result ≡ number_of c.args.map.now Kind.Vertex
+  vertices_counted : c.orbit_count-vertices.result ≡ number_of c.args.sound.map.now Kind.Vertex
   vertices_counted =
       c.orbit_count-vertices.ensures
-      ∙ vertices_are c.args.map.now c.requires c.point_links-point.ensures
-      (links_held c.args.map.now c.requires.links.helpers_whole c.point_links-point.ensures) c.compose.ensures
+      ∙ vertices_are c.args.sound.map.now c.args.sound.shaped c.point_links-point.ensures
+      (links_held c.args.sound.map.now c.args.sound.shaped.links.helpers_whole c.point_links-point.ensures) c.compose.ensures
       c.present_darts-present.ensures
 
-  edges_counted : c.orbit_count-edges.result ≡ number_of c.args.map.now Kind.Edge
+  edges_counted : c.orbit_count-edges.result ≡ number_of c.args.sound.map.now Kind.Edge
   edges_counted =
       c.orbit_count-edges.ensures
-      ∙ edges_are c.args.map.now c.requires c.point_links-point.ensures
-      (links_held c.args.map.now c.requires.links.helpers_whole c.point_links-point.ensures) c.compose.ensures
+      ∙ edges_are c.args.sound.map.now c.args.sound.shaped c.point_links-point.ensures
+      (links_held c.args.sound.map.now c.args.sound.shaped.links.helpers_whole c.point_links-point.ensures) c.compose.ensures
       c.present_darts-present.ensures
 
-  faces_counted : c.orbit_count-faces.result ≡ number_of c.args.map.now Kind.Face
+  faces_counted : c.orbit_count-faces.result ≡ number_of c.args.sound.map.now Kind.Face
   faces_counted =
       c.orbit_count-faces.ensures
-      ∙ faces_are c.args.map.now c.requires c.point_links-point.ensures
-      (links_held c.args.map.now c.requires.links.helpers_whole c.point_links-point.ensures) c.compose.ensures
+      ∙ faces_are c.args.sound.map.now c.args.sound.shaped c.point_links-point.ensures
+      (links_held c.args.sound.map.now c.args.sound.shaped.links.helpers_whole c.point_links-point.ensures) c.compose.ensures
       c.present_darts-present.ensures
 
 pub overflow_add-result : goal.overflow_add-result
@@ -128,8 +128,8 @@ overflow_add-result c =
             arith,
             vertices_counted c,
             edges_counted c,
-            few c.requires Kind.Vertex,
-            few c.requires
+            few c.args.sound.shaped Kind.Vertex,
+            few c.args.sound.shaped
                 Kind.Edge,
           );
     }
@@ -143,9 +143,9 @@ overflow_add-result-2 c =
             vertices_counted c,
             edges_counted c,
             faces_counted c,
-            few c.requires Kind.Vertex,
-            few c.requires Kind.Edge,
-            few c.requires Kind.Face,
+            few c.args.sound.shaped Kind.Vertex,
+            few c.args.sound.shaped Kind.Edge,
+            few c.args.sound.shaped Kind.Face,
           );
     }
 
@@ -157,7 +157,7 @@ overflow_sub-result c =
       vertices_counted c,
       edges_counted c,
       faces_counted c,
-      counts_balance c.requires,
+      counts_balance c.args.sound.shaped,
     )
 
 pub returns : goal.returns
@@ -169,8 +169,8 @@ returns c =
     let present = darts_counted c in
     let parts :
     (c.orbit_count-vertices.result + c.orbit_count-edges.result + c.orbit_count-faces.result
-    - c.dart_count-darts.result) / 2 ≡ number_of c.args.map.now Kind.Part =
-    omega (arith, counts_balance c.requires) in
+    - c.dart_count-darts.result) / 2 ≡ number_of c.args.sound.map.now Kind.Part =
+    omega (arith, counts_balance c.args.sound.shaped) in
     λ i. record {
       darts = present i;
       vertices = vertices i;

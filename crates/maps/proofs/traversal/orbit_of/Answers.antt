@@ -40,36 +40,36 @@ unfolding links_of edge_link
 edges map = refl
 
 pub overflow_mul-n : goal.overflow_mul-n
-overflow_mul-n c = omega (arith, c.requires.0.links.fits)
+overflow_mul-n c = omega (arith, c.args.sound.shaped.links.fits)
 
 pub compose-requires : goal.compose-requires
-compose-requires c = composable c.args.map.now c.requires.0 (links_whole c.args.map.now c.point_links-point.ensures)
+compose-requires c = composable c.args.sound.map.now c.args.sound.shaped (links_whole c.args.sound.map.now c.point_links-point.ensures)
 
 pub orbit-requires : goal.orbit-requires
 orbit-requires c =
-    let s = c.requires.0 in
-    (s.links.edge_whole, read_stays s Kind.Edge _ (edges c.args.map.now) _ c.requires.1)
+    let s = c.args.sound.shaped in
+    (s.links.edge_whole, read_stays s Kind.Edge _ (edges c.args.sound.map.now) _ c.requires)
 
 pub orbit-requires-in-Vertex : goal.orbit-requires-in-Vertex
 orbit-requires-in-Vertex c =
-    let s = c.requires.0 in
+    let s = c.args.sound.shaped in
     let e = c.point_links-point.ensures in
-    (links_whole c.args.map.now e, read_stays s Kind.Vertex _ (vertices c.args.map.now s e) _ c.requires.1)
+    (links_whole c.args.sound.map.now e, read_stays s Kind.Vertex _ (vertices c.args.sound.map.now s e) _ c.requires)
 
 pub orbit-requires-in-Face : goal.orbit-requires-in-Face
 orbit-requires-in-Face c =
-    let s = c.requires.0 in
+    let s = c.args.sound.shaped in
     let e = c.point_links-point.ensures in
-    (c.compose.ensures.whole, read_stays s Kind.Face _ (faces c.args.map.now s e c.compose.ensures) _ c.requires.1)
+    (c.compose.ensures.whole, read_stays s Kind.Face _ (faces c.args.sound.map.now s e c.compose.ensures) _ c.requires)
 
 pub part-requires : goal.part-requires
 part-requires c =
-    let s = c.requires.0 in
+    let s = c.args.sound.shaped in
     let e = c.point_links-point.ensures in
     record {
       first_whole = s.links.edge_whole;
-      second_whole = links_whole c.args.map.now e;
-      below = read_stays s Kind.Part _ (parts c.args.map.now s e) _ c.requires.1;
+      second_whole = links_whole c.args.sound.map.now e;
+      below = read_stays s Kind.Part _ (parts c.args.sound.map.now s e) _ c.requires;
     }
 
 -- what is read, for the kind that was told
@@ -80,26 +80,26 @@ told_orbit map d e = ap (λ (k : Kind). orbit_set map k d) (sym e)
 pub returns-in-Edge : goal.returns-in-Edge
 returns-in-Edge c =
     c.orbit.ensures
-    ∙ read_orbit c.requires.0 Kind.Edge _ (edges c.args.map.now) _ c.requires.1
-    ∙ told_orbit c.args.map.now c.args.d c.in-Edge.is
+    ∙ read_orbit c.args.sound.shaped Kind.Edge _ (edges c.args.sound.map.now) _ c.requires
+    ∙ told_orbit c.args.sound.map.now c.args.d c.in-Edge.is
 
 pub returns-in-Vertex : goal.returns-in-Vertex
 returns-in-Vertex c =
     c.orbit-in-Vertex.ensures
-    ∙ read_orbit c.requires.0 Kind.Vertex _ (vertices c.args.map.now c.requires.0 c.point_links-point.ensures) _
-    c.requires.1
-    ∙ told_orbit c.args.map.now c.args.d c.in-Vertex.is
+    ∙ read_orbit c.args.sound.shaped Kind.Vertex _ (vertices c.args.sound.map.now c.args.sound.shaped c.point_links-point.ensures) _
+    c.requires
+    ∙ told_orbit c.args.sound.map.now c.args.d c.in-Vertex.is
 
 pub returns-in-Face : goal.returns-in-Face
 returns-in-Face c =
     c.orbit-in-Face.ensures
-    ∙ read_orbit c.requires.0 Kind.Face _
-    (faces c.args.map.now c.requires.0 c.point_links-point.ensures c.compose.ensures) _ c.requires.1
-    ∙ told_orbit c.args.map.now c.args.d c.in-Face.is
+    ∙ read_orbit c.args.sound.shaped Kind.Face _
+    (faces c.args.sound.map.now c.args.sound.shaped c.point_links-point.ensures c.compose.ensures) _ c.requires
+    ∙ told_orbit c.args.sound.map.now c.args.d c.in-Face.is
 
 pub returns-in-Part : goal.returns-in-Part
 returns-in-Part c =
     c.part.ensures
-    ∙ read_orbit c.requires.0 Kind.Part _ (parts c.args.map.now c.requires.0 c.point_links-point.ensures) _
-    c.requires.1
-    ∙ told_orbit c.args.map.now c.args.d c.in-Part.is
+    ∙ read_orbit c.args.sound.shaped Kind.Part _ (parts c.args.sound.map.now c.args.sound.shaped c.point_links-point.ensures) _
+    c.requires
+    ∙ told_orbit c.args.sound.map.now c.args.d c.in-Part.is

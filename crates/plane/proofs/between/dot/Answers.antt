@@ -1,64 +1,51 @@
 -- `plane::between::dot` meets its contract: at each operation the number that the machine has is built
 -- from the bounds of the coordinates, and its range is a comparison of numerals.
-use mathlib.Core.Bool.{◌&&◌}
-use lib.Dec.{T}
 use lib.IntN.{◌-ℤ◌, ◌*ℤ◌}
 use mir.Syntax.{w64}
 use Prim.Native.Nat.{◌*◌}
 use Rattle.integers.specs.Range.{Number, add}
 use Rattle.integers.proofs.Range.{back, fits}
-use Rattle.model.specs.declared.Point.{Point}
-use Rattle.model.specs.Plane.{in_range}
-use Rattle.plane.specs.OrientedAnswer.{RangedCoordinates}
-use Rattle.plane.proofs.Bounds.{span, side, product, points_near}
+use Rattle.model.specs.declared.Ranged.{Ranged}
+use Rattle.plane.proofs.Bounds.{x_near, y_near, span, side, product}
 use Rattle.plane.proofs.between.dot.Goals as goal
 
-module _ (a b p : Point) (t : T (in_range a && in_range b && in_range p)) where
-  near : RangedCoordinates a.x a.y b.x b.y p.x p.y
-  near = points_near a b p t
+-- the differences of two points, and the products that are added
+abbrev along_x : (a p : Ranged) → Number span (a.point.x -ℤ p.point.x)
+along_x a p = side (x_near a.point a.ranged) (x_near p.point p.ranged)
 
-  abbrev a_x : Number span (a.x -ℤ p.x)
-  a_x = side near.ax_near near.cx_near
+abbrev along_y : (a p : Ranged) → Number span (a.point.y -ℤ p.point.y)
+along_y a p = side (y_near a.point a.ranged) (y_near p.point p.ranged)
 
-  abbrev b_x : Number span (b.x -ℤ p.x)
-  b_x = side near.bx_near near.cx_near
+module _ (a b p : Ranged) where
+  abbrev across : Number (span * span) ((a.point.x -ℤ p.point.x) *ℤ (b.point.x -ℤ p.point.x))
+  across = product (along_x a p) (along_x b p)
 
-  abbrev a_y : Number span (a.y -ℤ p.y)
-  a_y = side near.ay_near near.cy_near
-
-  abbrev b_y : Number span (b.y -ℤ p.y)
-  b_y = side near.by_near near.cy_near
-
-  abbrev across : Number (span * span) ((a.x -ℤ p.x) *ℤ (b.x -ℤ p.x))
-  across = product a_x b_x
-
-  abbrev along : Number (span * span) ((a.y -ℤ p.y) *ℤ (b.y -ℤ p.y))
-  along = product a_y b_y
+  abbrev upward : Number (span * span) ((a.point.y -ℤ p.point.y) *ℤ (b.point.y -ℤ p.point.y))
+  upward = product (along_y a p) (along_y b p)
 
 pub overflow_sub-result : goal.overflow_sub-result
-overflow_sub-result c = fits w64 tt (a_x c.args.a c.args.b c.args.p c.requires)
+overflow_sub-result c = fits w64 tt (along_x c.args.a c.args.p)
 
 pub overflow_sub-result-2 : goal.overflow_sub-result-2
-overflow_sub-result-2 c = fits w64 tt (b_x c.args.a c.args.b c.args.p c.requires)
+overflow_sub-result-2 c = fits w64 tt (along_x c.args.b c.args.p)
 
 pub overflow_mul-result : goal.overflow_mul-result
-overflow_mul-result c = fits w64 tt (across c.args.a c.args.b c.args.p c.requires)
+overflow_mul-result c = fits w64 tt (across c.args.a c.args.b c.args.p)
 
 pub overflow_sub-result-3 : goal.overflow_sub-result-3
-overflow_sub-result-3 c = fits w64 tt (a_y c.args.a c.args.b c.args.p c.requires)
+overflow_sub-result-3 c = fits w64 tt (along_y c.args.a c.args.p)
 
 pub overflow_sub-result-4 : goal.overflow_sub-result-4
-overflow_sub-result-4 c = fits w64 tt (b_y c.args.a c.args.b c.args.p c.requires)
+overflow_sub-result-4 c = fits w64 tt (along_y c.args.b c.args.p)
 
 pub overflow_mul-result-2 : goal.overflow_mul-result-2
-overflow_mul-result-2 c = fits w64 tt (along c.args.a c.args.b c.args.p c.requires)
+overflow_mul-result-2 c = fits w64 tt (upward c.args.a c.args.b c.args.p)
 
 pub overflow_add-result : goal.overflow_add-result
 overflow_add-result c =
-    fits w64 tt (add (back w64 tt (across c.args.a c.args.b c.args.p c.requires))
-    (back w64 tt (along c.args.a c.args.b c.args.p c.requires)))
+    fits w64 tt (add (back w64 tt (across c.args.a c.args.b c.args.p)) (back w64 tt (upward c.args.a c.args.b c.args.p)))
 
 pub returns : goal.returns
 returns c =
-    (back w64 tt (add (back w64 tt (across c.args.a c.args.b c.args.p c.requires))
-    (back w64 tt (along c.args.a c.args.b c.args.p c.requires)))).is
+    (back w64 tt
+    (add (back w64 tt (across c.args.a c.args.b c.args.p)) (back w64 tt (upward c.args.a c.args.b c.args.p)))).is

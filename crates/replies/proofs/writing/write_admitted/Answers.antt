@@ -24,21 +24,22 @@ unfolding admitted
 shaped_after m p s e =
     subst (λ (o : Offered). Shaped o.map) (sym (value_by _ _ e)) (arrive_sound (accepted_by p s (free_by _ _ e)))
 
-pub write_offered-requires : goal.write_offered-requires
-write_offered-requires c = shaped_after c.args.map.now c.args.p c.requires c.in_ok-offered.ensures
+pub invariant_of-grown : goal.invariant_of-grown
+invariant_of-grown c =
+    record { shaped = shaped_after c.args.sound.map.now c.args.p c.args.sound.shaped c.in_ok-offered.ensures }
 
 pub returns-in_err-offered : goal.returns-in_err-offered
 unfolding admitted
 returns-in_err-offered c =
     rw (passed_up _ _ c.from_residual.ensures.1)
-    (both_refused_before (admission_rules c.args.map.now c.args.p) [] _ _ _ _ _ c.in_err-offered.ensures)
+    (both_refused_before (admission_rules c.args.sound.map.now c.args.p) [] _ _ _ _ _ c.in_err-offered.ensures)
 
 pub returns : goal.returns
 unfolding admitted
 returns c =
     let s = c.args in
     let e = c.in_ok-offered.ensures in
-    both_served_after (admission_rules s.map.now s.p) [] _ _ _ _ _ e
+    both_served_after (admission_rules s.sound.map.now s.p) [] _ _ _ _ _ e
     (both_at (λ o. []) (λ (o : Offered). saved o.map)
     (λ (o : Offered). arrival_told (arrival_answer (Ok o.arrival)))
     (value_by _ _ e) c.write_offered.ensures)

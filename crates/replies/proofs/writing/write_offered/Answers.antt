@@ -10,26 +10,29 @@ use Rattle.replies.proofs.writing.write_offered.Goals as goal
 use Rattle.replies.proofs.writing.write_offered.Goals.{After-saved_length-length}
 
 pub saved_length-length-requires : goal.saved_length-length-requires
-saved_length-length-requires c = c.requires.links.fits
+saved_length-length-requires c = c.args.sound.shaped.links.fits
 
 pub returns-in_err-check_room : goal.returns-in_err-check_room
 returns-in_err-check_room c =
-    let o = c.args.offered.now in
+    let m = c.args.sound.map.now in
+    let arrived = c.args.arrived in
     rw (passed_up _ _ c.from_residual.ensures.1)
-    (no_room _ _ _ _ (c.saved_length-length.ensures ∙ sym (length_saved o.map)) (sym (four_values o.arrival))
+    (no_room _ _ _ _ (c.saved_length-length.ensures ∙ sym (length_saved m)) (sym (four_values arrived))
     c.in_err-check_room.ensures)
 
-pub write_map-requires-clause-count_in_bounds : goal.write_map-requires-clause-count_in_bounds
-write_map-requires-clause-count_in_bounds c =
-    let o = c.args.offered.now in
-    let room = first_room _ _ _ _ (c.saved_length-length.ensures ∙ sym (length_saved o.map)) (sym (four_values o.arrival)) c.in_ok-check_room.ensures in
-    omega (arith, room, length_saved o.map)
+pub write_map-requires : goal.write_map-requires
+write_map-requires c =
+    let m = c.args.sound.map.now in
+    let arrived = c.args.arrived in
+    let room = first_room _ _ _ _ (c.saved_length-length.ensures ∙ sym (length_saved m)) (sym (four_values arrived)) c.in_ok-check_room.ensures in
+    omega (arith, room, length_saved m)
 
 pub returns : goal.returns
 returns c =
-    let o = c.args.offered.now in
-    let size = c.saved_length-length.ensures ∙ sym (length_saved o.map) in
-    let four = sym (four_values o.arrival) in
+    let m = c.args.sound.map.now in
+    let arrived = c.args.arrived in
+    let size = c.saved_length-length.ensures ∙ sym (length_saved m) in
+    let four = sym (four_values arrived) in
     let e = c.in_ok-check_room.ensures in
     let written = room_serves (second_room _ _ _ _ size four e) (served_as c.arrival_values-values.ensures c.write_values.ensures) in
     both_written _ _ _ _ size four e written.0 c.write_map.ensures written.1

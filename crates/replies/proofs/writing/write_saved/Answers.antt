@@ -10,18 +10,18 @@ use Rattle.replies.proofs.Serving.{not_counted, length_place, result_room, count
 use Rattle.replies.proofs.writing.write_saved.Goals as goal
 
 pub saved_length-bytes-requires : goal.saved_length-bytes-requires
-saved_length-bytes-requires c = c.requires.links.fits
+saved_length-bytes-requires c = c.args.sound.shaped.links.fits
 
 pub returns-in_err-check_room : goal.returns-in_err-check_room
 unfolding written_answer
 returns-in_err-check_room c =
-    let m = c.args.map.now in
+    let m = c.args.sound.map.now in
     rw (passed_up _ _ c.from_residual.ensures.1)
     (not_counted (saved m) _ _ (c.saved_length-bytes.ensures ∙ sym (length_saved m)) c.in_err-check_room.ensures)
 
-pub write_map-requires-clause-count_in_bounds : goal.write_map-requires-clause-count_in_bounds
-write_map-requires-clause-count_in_bounds c =
-    let m = c.args.map.now in
+pub write_map-requires : goal.write_map-requires
+write_map-requires c =
+    let m = c.args.sound.map.now in
     omega (
       arith,
       result_room (saved m) _ _ (c.saved_length-bytes.ensures ∙ sym (length_saved m)) c.in_ok-check_room.ensures,
@@ -30,12 +30,12 @@ write_map-requires-clause-count_in_bounds c =
 
 pub bounds-length-0 : goal.bounds-length-0
 bounds-length-0 c =
-    let m = c.args.map.now in
+    let m = c.args.sound.map.now in
     length_place (saved m) _ _ (c.saved_length-bytes.ensures ∙ sym (length_saved m)) c.in_ok-check_room.ensures
 
 pub returns : goal.returns
 unfolding written_answer
 returns c =
-    let m = c.args.map.now in
+    let m = c.args.sound.map.now in
     counted (saved m) _ _ (c.saved_length-bytes.ensures ∙ sym (length_saved m)) c.in_ok-check_room.ensures
     c.write_map.ensures

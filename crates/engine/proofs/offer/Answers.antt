@@ -10,7 +10,8 @@ use Rattle.engine.proofs.offer.Goals as goal
 pub returns-in_err-check_map : goal.returns-in_err-check_map
 unfolding arrival_answer arrival_of
 returns-in_err-check_map c =
-    rw (passed_up _ _ c.from_residual.ensures.1) (answered _ (λ r. refl) (first_refuses _ _ _ _ c.in_err-check_map.ensures))
+    rw (passed_up _ _ c.from_residual.ensures.1)
+    (answered _ (λ r. refl) (first_refuses _ _ _ _ c.in_err-check_map.ensures))
 
 pub admitted-requires : goal.admitted-requires
 admitted-requires c = checked_map _ c.in_ok-check_map.ensures

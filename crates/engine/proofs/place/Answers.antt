@@ -13,7 +13,8 @@ use Rattle.engine.proofs.place.Goals as goal
 pub returns-in_err-check_map : goal.returns-in_err-check_map
 unfolding placed_answer
 returns-in_err-check_map c =
-    rw (passed_up _ _ c.from_residual.ensures.1) (answered _ (λ r. refl) (first_refuses _ _ _ _ c.in_err-check_map.ensures))
+    rw (passed_up _ _ c.from_residual.ensures.1)
+    (answered _ (λ r. refl) (first_refuses _ _ _ _ c.in_err-check_map.ensures))
 
 pub returns-then-not-in_range : goal.returns-then-not-in_range
 unfolding placed_answer

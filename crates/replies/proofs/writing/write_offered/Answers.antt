@@ -22,7 +22,8 @@ returns-in_err-check_room c =
 pub write_map-requires-clause-count_in_bounds : goal.write_map-requires-clause-count_in_bounds
 write_map-requires-clause-count_in_bounds c =
     let o = c.args.offered.now in
-    let room = first_room _ _ _ _ (c.saved_length-length.ensures ∙ sym (length_saved o.map)) (sym (four_values o.arrival)) c.in_ok-check_room.ensures in
+    let size = c.saved_length-length.ensures ∙ sym (length_saved o.map) in
+    let room = first_room _ _ _ _ size (sym (four_values o.arrival)) c.in_ok-check_room.ensures in
     omega (arith, room, length_saved o.map)
 
 pub returns : goal.returns
@@ -31,5 +32,6 @@ returns c =
     let size = c.saved_length-length.ensures ∙ sym (length_saved o.map) in
     let four = sym (four_values o.arrival) in
     let e = c.in_ok-check_room.ensures in
-    let written = room_serves (second_room _ _ _ _ size four e) (served_as c.arrival_values-values.ensures c.write_values.ensures) in
+    let told = served_as c.arrival_values-values.ensures c.write_values.ensures in
+    let written = room_serves (second_room _ _ _ _ size four e) told in
     both_written _ _ _ _ size four e written.0 c.write_map.ensures written.1

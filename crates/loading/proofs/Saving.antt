@@ -79,9 +79,9 @@ module _ (s : List ℕ) where
 
 -- ---- saving and loading
 
--- the file is accepted, and its map is m
-abbrev pub Loads : List ℕ → Map → Type 0
-Loads s m = loaded s ≡ Ok m
+-- the file is accepted, with the map m
+abbrev pub Accepted : List ℕ → Map → Type 0
+Accepted s m = loaded s ≡ Ok m
 
 -- what an accepted file is
 pub record Taken (s : List ℕ) (m : Map) : Type 0 where
@@ -89,7 +89,7 @@ pub record Taken (s : List ℕ) (m : Map) : Type 0 where
   pub is_sound : T (sound (map_in s))
   pub map_is : m ≡ map_in s
 
-accepted_is : (s : List ℕ) (m : Map) → Loads s m → Taken s m
+accepted_is : (s : List ℕ) (m : Map) → Accepted s m → Taken s m
 unfolding loaded unless
 accepted_is s m a =
     ⊎_elim
@@ -119,20 +119,20 @@ load_of_save {v} is m t =
     rw (saved_map is m t, is_true (file_in_form (saved_in v m)) (saved_form is m t), is_true (sound m) t)
 
 -- "an accepted file is the only file that its map writes", in its version
-pub save_of_load : (s : List ℕ) → Bytes s → (m : Map) → Loads s m → saved_in (version_in_file s) m ≡ s
+pub save_of_load : (s : List ℕ) → Bytes s → (m : Map) → Accepted s m → saved_in (version_in_file s) m ≡ s
 save_of_load s b m a =
     let taken = accepted_is s m a in
     ap (saved_in (version_in_file s)) taken.map_is ∙ file_back b (in_form_is s taken.in_form).1
 
 -- no two accepted files of a version have the same map
-pub one_file_for_a_map : (s t : List ℕ) → Bytes s → Bytes t → (m n : Map) → Loads s m → Loads t n →
+pub one_file_for_a_map : (s t : List ℕ) → Bytes s → Bytes t → (m n : Map) → Accepted s m → Accepted t n →
     version_in_file s ≡ version_in_file t → m ≡ n → s ≡ t
 one_file_for_a_map s t b c m n p q v e =
     sym (save_of_load s b m p) ∙ (λ i. saved_in (v i) (e i)) ∙ save_of_load t c n q
 
 -- "each version's accepted files are the ones its own writer gives for maps sound in this new sense"
 pub files_of_version : {v : ℕ} → IsVersion v → (s : List ℕ) → Bytes s → (m : Map) →
-    (Loads s m × (version_in_file s ≡ v)) ↔ (T (sound m) × (s ≡ saved_in v m))
+    (Accepted s m × (version_in_file s ≡ v)) ↔ (T (sound m) × (s ≡ saved_in v m))
 files_of_version {v} is s b m = (
   λ h.
       let taken = accepted_is s m h.0 in (

@@ -3,9 +3,8 @@
 // edge of the claim is tested against all of them.
 #![tactic(auto)]
 
-ghost use Rattle.std.specs.Prelude.{◌≡◌, ◌+◌, ◌*◌, ◌<◌, get_or, length};
+ghost use Rattle.std.specs.Prelude.{◌≡◌, ◌<◌, length};
 ghost use Rattle.model.specs.Answers.{Answered};
-ghost use Rattle.model.specs.Plane.{origin};
 ghost use Rattle.model.specs.Maps.{empty_map, point_in};
 ghost use Rattle.model.specs.Marking.{mark_call, points_of};
 ghost use Rattle.maps.specs.Places.{AllRanged};
@@ -32,24 +31,16 @@ fn take_points(points: &[i64], places: &mut [Point; POINT_LIMIT]) -> Result<(), 
     ensures { PointsTaken (points_of points.now) result places.new }
 {
     let mut hashes = Hashes::empty();
-    for k in 0..points.len() / 2 {
-        let p = pair_at(points, k);
+    for (k, pair) in points.chunks_exact(2).enumerate() {
+        let p = Point {
+            x: pair[0],
+            y: pair[1],
+        };
         admission_hashed(&places[..k], &hashes, p)?;
         places[k] = p;
         hashes.put(p);
     }
     Ok(())
-}
-
-// Point k of a list of coordinates.
-fn pair_at(points: &[i64], k: usize) -> Point
-    requires { 2 * k + 1 < length points.now }
-    ensures { result ≡ get_or (points_of points.now) k origin }
-{
-    Point {
-        x: points[2 * k],
-        y: points[2 * k + 1],
-    }
 }
 
 // Whether a claim is the corner listing of the points, begun at any corner.

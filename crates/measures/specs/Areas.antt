@@ -1,5 +1,5 @@
--- The area of a map that is known to be sound, in the order of this page: the call; corners as points; a fan over them of
--- which no triangle is negative and the whole is within the limit.
+-- The area of a map that is known to be sound, in the order of this page: the call; corners as points; a fan over
+-- them of which no triangle is negative and the whole is within the limit.
 use Rattle.std.specs.Prelude.{List, [], ◌∷◌, map, ℕ, ◌≤◌, T, ℤ, pos, length, ◌≤ℤ◌}
 use Rattle.finite.specs.Cycles.{Cycle}
 use Rattle.model.specs.declared.Point.{Point}

@@ -57,7 +57,7 @@ pub fn is_same(p: Point, q: Point) -> bool
 
 // Whether c lies beside the edge from a to b, left of it or on it between its ends, as all other
 // points of a sound map lie beside each outline edge, for points that are in range.
-#[tactic(auto, using(crate::proofs::Betweenness::beside_on_line, crate::proofs::Betweenness::beside_positive, crate::proofs::Betweenness::beside_negative))]
+#[tactic(auto, using(crate::proofs::Betweenness::beside_positive, crate::proofs::Betweenness::beside_negative))]
 pub fn is_beside(a: Point, b: Point, c: Point) -> bool
     requires { T (in_range a && in_range b && in_range c) }
     ensures { result ≡ beside a b c }

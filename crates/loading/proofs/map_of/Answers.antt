@@ -60,7 +60,9 @@ module _ (c : After-rebuild) where
 
   -- where one of them was refused
   stopped : c.rebuild.result ≡ None → sound (map_in file) ≡ false
-  stopped e = is_false (sound (map_in file)) (λ t. rebuilt_none (points_in_file file) (sym made ∙ e) (points_free file t))
+  stopped e =
+      is_false (sound (map_in file))
+      (λ t. rebuilt_none (points_in_file file) (sym made ∙ e) (points_free file t))
 
   -- where all of them were accepted
   module _ {m : Map} (e : c.rebuild.result ≡ Some m) where
@@ -75,7 +77,8 @@ module _ (c : After-rebuild) where
     shaped : Shaped m
     shaped = subst Shaped (sym both.1) (anew_shaped file bytes c.requires both.0)
 
-    decided : {v : ℕ} → v ≡ version_in_file file → {r : Bool} → r ≡ same_list (saved_in v m) file → r ≡ sound (map_in file)
+    decided : {v : ℕ} → v ≡ version_in_file file → {r : Bool} → r ≡ same_list (saved_in v m) file →
+        r ≡ sound (map_in file)
     decided is found =
         found ∙ (λ i. same_list (saved_in (is i) (both.1 i)) file)
         ∙ writes_decides file bytes c.requires both.0

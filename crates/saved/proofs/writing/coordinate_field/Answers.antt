@@ -25,12 +25,14 @@ module _ {p q : Point} (e : q ≡ p) where
 pub complement-requires : goal.complement-requires
 complement-requires c =
     let is : to_z w64 (of_z w64 c.point-p.result.x) ≡ c.point-p.result.x = search rules in
-    subst (Bounded coordinate_limit) (sym (x_is c.point-p.ensures is)) (x_near _ (place_ranged c.requires (c.args.i / 2)))
+    subst (Bounded coordinate_limit) (sym (x_is c.point-p.ensures is))
+    (x_near _ (place_ranged c.requires (c.args.i / 2)))
 
 pub complement-requires-else-i-eq0 : goal.complement-requires-else-i-eq0
 complement-requires-else-i-eq0 c =
     let is : to_z w64 (of_z w64 c.point-p.result.y) ≡ c.point-p.result.y = search rules in
-    subst (Bounded coordinate_limit) (sym (y_is c.point-p.ensures is)) (y_near _ (place_ranged c.requires (c.args.i / 2)))
+    subst (Bounded coordinate_limit) (sym (y_is c.point-p.ensures is))
+    (y_near _ (place_ranged c.requires (c.args.i / 2)))
 
 pub returns-then-i-eq0 : goal.returns-then-i-eq0
 unfolding coordinate

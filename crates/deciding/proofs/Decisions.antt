@@ -102,7 +102,8 @@ grown_hashed {m} {p} s a h =
     (omega (arith, points_put m room, points_put (arrive m p).map room', more))
     (λ k l.
     let below : k < m.count = omega (arith, l, points_put m room) in
-    point_put (arrive m p).map room' k (omega (arith, below, more)) ∙ put.0 k below ∙ sym (point_put m room k below))
+    point_put (arrive m p).map room' k (omega (arith, below, more)) ∙ put.0 k below
+    ∙ sym (point_put m room k below))
     (ap (point_in (put_points (arrive m p).map)) (points_put m room)
     ∙ point_put (arrive m p).map room' m.count (omega (arith, more)) ∙ put.1)
 
@@ -194,7 +195,8 @@ module _ {text answers : List ℕ} {m : Map} {hashes : Hashes} {n at : ℕ}
           ≡ arrivals empty_map 0 (lines text)
       together_next a after answered left p =
           (λ i. (answer_more answers n (packed a) (omega (arith, s.whole, free))
-          ∙ ap (λ (b : Result Arrival Refusal). answer_lines answers n ++ arrival_line n b) (unpacked_packed p)) i
+          ∙ ap (λ (b : Result Arrival Refusal). answer_lines answers n ++ arrival_line n b)
+          (unpacked_packed p)) i
           ++ arrivals after (add-one n i) (lines (drop (next_line text at) text)))
           ∙ append_assoc (answer_lines answers n) (arrival_line n a) _
           ∙ ap (λ (l : List ℕ). answer_lines answers n ++ l)

@@ -1,5 +1,6 @@
--- What becomes of a line on a sound map, in the order of this page: a refusal that is passed up; its point is accepted and arrives, or the line
--- is refused, and for which numbers; what an arrival reports is small; what the code finds of the map's points.
+-- What becomes of a line on a sound map, in the order of this page: a refusal that is passed up; its point
+-- is accepted and arrives, or the line is refused, and for which numbers; what an arrival reports is small;
+-- what the code finds of the map's points.
 use mathlib.Core.Path.{◌≡◌, refl, sym, ap, subst, ◌∙◌}
 use Prim.Native.Nat.{ℕ, ◌≤◌}
 use lib.Dec.{T}
@@ -68,7 +69,8 @@ module _ (m : Map) (s : T (sound m)) (p : Point) where
     unfolding offer
     point_taken = unless_none Err (Ok (arrive m p)) (nor (sound_passes m s) f)
 
-pub line_decides : (m : Map) → T (sound m) → (line : Result Point Refusal) → Decides m line (offer_line m line)
+pub line_decides : (m : Map) → T (sound m) → (line : Result Point Refusal) →
+    Decides m line (offer_line m line)
 unfolding offer_line
 line_decides m s (Err r) = refused
 line_decides m s (Ok p) = go (unless_decides Err (admission_rules m p) (Ok (arrive m p)))
@@ -113,7 +115,8 @@ module _ (m : Map) (s : T (sound m)) (p : Point) where
     where
       go : {o : Result (Unit {0}) Refusal} → RulesDecide Err (admission_rules m p) (Ok tt) o → Err r ≡ o →
           Refuses r (admission_rules m p)
-      go (refuses q f) e = let same : q ≡ r = cc in subst (λ (x : Refusal). Refuses x (admission_rules m p)) same f
+      go (refuses q f) e =
+          let same : q ≡ r = cc in subst (λ (x : Refusal). Refuses x (admission_rules m p)) same f
       go (serves f) e = absurd (let z : ◌≡◌ {A = ℕ} 0 1 = cc in omega arith)
 
   pub found_free : Ok tt ≡ admission_by (put_points m) p → NoneApplies (admission_rules m p)

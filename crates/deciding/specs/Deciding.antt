@@ -1,6 +1,6 @@
--- How far the lines of a text are decided, in the order of this page: the points that a map has; the answers
--- before a line and the lines ahead make up the report; what it takes to decide a line, and what is decided of
--- it; a text at the start; all lines. Document 01, "The text program".
+-- How far the lines of a text are decided, in the order of this page: the points that a map has; the
+-- answers before a line and the lines ahead make up the report; what it takes to decide a line, and what is
+-- decided of it; a text at the start; all lines. Document 01, "The text program".
 use Rattle.std.specs.Prelude.{◌≡◌, List, ◌++◌, ℕ, ◌≤◌, T, length, take, drop}
 use Rattle.std.specs.declared.result.Result.{Result}
 use Rattle.std.specs.declared.result.Result.TheVariants.{Err}

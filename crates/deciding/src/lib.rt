@@ -30,7 +30,7 @@ fn decide_line(
 
 // Decides every line of a text: the answer of each is put down at its number. The reader is made once,
 // and has come to the end of the text when the last line is decided. How many lines there are is
-// returned.
+// returned, and counted for that.
 pub fn survey(
     text: &[u8],
     map: &mut Map,

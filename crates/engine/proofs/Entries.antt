@@ -28,7 +28,8 @@ module _ {A : Type 0} {c : Call A} (same : (x : Refusal) → c.meaning (Err x) �
 
 -- a result that is written into a lent list, after one rule
 module _ {A : Type 0} {rule : Rule} {result lent : List A} where
-  pub rule_refused : {r : Refusal} → Err r ≡ outcome_by (rule ∷ []) → Wrote (rule ∷ []) result lent lent (Err r)
+  pub rule_refused : {r : Refusal} → Err r ≡ outcome_by (rule ∷ []) →
+      Wrote (rule ∷ []) result lent lent (Err r)
   rule_refused e = wrote_nothing _ _ _ _ (first_refuses Err (rule ∷ []) _ _ e)
 
   module _ (passed : Ok tt ≡ outcome_by (rule ∷ [])) where
@@ -61,5 +62,6 @@ pub written_within : {A : Type 0} {rules : List Rule} {result before after : Lis
     Wrote rules result before after (Ok n) → n ≤ length after
 written_within {before = before} {n = n} wrote =
     let size : n ≡ length _ = value_by _ _ wrote.answer.equal in
-    let held : _ ≡ over _ before = wrote.list ∙ unless_none (λ y. before) _ (free_by _ _ wrote.answer.equal) in
+    let held : _ ≡ over _ before =
+    wrote.list ∙ unless_none (λ y. before) _ (free_by _ _ wrote.answer.equal) in
     omega (arith, size, simp length-append at (ap length held))

@@ -34,7 +34,8 @@ module _ (before : List ℕ) (filled : ℕ) (last : List ℕ) where
       take (filled + more) left_as ≡ take filled before ++ take more last
   bytes_more inside more fits =
       let rest = post_of filled (length before - filled) before in
-      ap (λ (n : ℕ). take (n + more) (take filled before ++ (last ++ rest))) (sym (length-take-le filled before inside))
+      ap (λ (n : ℕ). take (n + more) (take filled before ++ (last ++ rest)))
+      (sym (length-take-le filled before inside))
       ∙ take-append-add (take filled before) (last ++ rest) more
       ∙ ap (λ (s : List ℕ). take filled before ++ s) (take-append-le more last rest fits)
 
@@ -49,19 +50,25 @@ pub none_read : (input : Option (List ℕ)) (lent : List ℕ) → Filling input 
 none_read input lent =
     record { reads = begun; inside = omega arith; as_long = refl; bytes = Consumes-nil input }
 
-module _ {input left later : Option (List ℕ)} {lent now : List ℕ} {filled : ℕ} (f : Filling input left lent now filled)
-    (last : List ℕ) (as_long : length (left_as now filled last) ≡ length now) where
+within : {input left : Option (List ℕ)} {lent now : List ℕ} {filled : ℕ} →
+    Filling input left lent now filled → filled ≤ length now
+within f = omega (arith, f.inside, f.as_long)
+
+module _ {input left later : Option (List ℕ)} {lent now : List ℕ} {filled : ℕ}
+    (f : Filling input left lent now filled) (last : List ℕ)
+    (as_long : length (left_as now filled last) ≡ length now)
+  where
   -- a read that brings some bytes more, or none
   module _ (more : ℕ) (fits : filled + more ≤ length now) (few : more ≤ length last)
       (lost : Consumes left later (take more last)) where
     pub one_read : Filling input later lent (left_as now filled last) (filled + more)
     one_read =
         record {
-          reads = continued f.reads (read_more now filled last (omega (arith, f.inside, f.as_long)) as_long more fits);
+          reads = continued f.reads (read_more now filled last (within f) as_long more fits);
           inside = omega (arith, fits, f.as_long);
           as_long = as_long ∙ f.as_long;
           bytes =
-              subst (Consumes input later) (sym (bytes_more now filled last (omega (arith, f.inside, f.as_long)) more few))
+              subst (Consumes input later) (sym (bytes_more now filled last (within f) more few))
               (Consumes-trans input left later (take filled now) (take more last) f.bytes lost);
         }
 
@@ -70,7 +77,7 @@ module _ {input left later : Option (List ℕ)} {lent now : List ℕ} {filled : 
         ReadText {E = E} input later lent (left_as now filled last) (Ok (filled + more))
     none_more none ended =
         let same : filled ≡ filled + more = omega (arith, none) in
-        let read = read_more now filled last (omega (arith, f.inside, f.as_long)) as_long 0 (omega (arith, f.inside, f.as_long)) in
+        let read = read_more now filled last (within f) as_long 0 (omega (arith, within f)) in
         record {
           as_long = one_read.as_long;
           read =
@@ -85,7 +92,8 @@ module _ {input left later : Option (List ℕ)} {lent now : List ℕ} {filled : 
         }
 
   -- one that fails
-  pub read_failed : {E : Type 0} (r : Result ℕ E) → IsErr r → ReadText input later lent (left_as now filled last) r
+  pub read_failed : {E : Type 0} (r : Result ℕ E) → IsErr r →
+      ReadText input later lent (left_as now filled last) r
   read_failed (Ok n) e = absurd (let z : ◌≡◌ {A = ℕ} 0 1 = cc in omega arith)
   read_failed (Err x) e =
       record {
@@ -93,7 +101,6 @@ module _ {input left later : Option (List ℕ)} {lent now : List ℕ} {filled : 
         read = tt;
         failed = (
           filled + 0,
-          continued f.reads
-              (read_more now filled last (omega (arith, f.inside, f.as_long)) as_long 0 (omega (arith, f.inside, f.as_long))),
+          continued f.reads (read_more now filled last (within f) as_long 0 (omega (arith, within f))),
         );
       }

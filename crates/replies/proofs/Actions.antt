@@ -104,8 +104,9 @@ module _ (m : Map) (t : T (sound m)) where
   -- a call whose refusals keep the map: what it leaves of the file is the file of the map after it
   file_of : {A : Type 0} (map_of : Result A Refusal → Map) (rules : List Rule) (value : A) →
       ((r : Refusal) → map_of (Err r) ≡ m) →
-      unless (λ r. saved m) ((Refusal.BadFile when not (file_in_form (saved m))) ∷ rules) (saved (map_of (Ok value))) ≡
-      saved (map_of (unless Err rules (Ok value)))
+      unless (λ r. saved m) ((Refusal.BadFile when not (file_in_form (saved m))) ∷ rules)
+      (saved (map_of (Ok value)))
+      ≡ saved (map_of (unless Err rules (Ok value)))
   file_of map_of rules value keeps =
       sym
       (rule_passes (λ r. saved m) (Refusal.BadFile when not (file_in_form (saved m))) rules
@@ -163,7 +164,8 @@ served_takes : (r : Run) → NoneApplies (remove_call r.map).rules →
     points (taken_back r) ≡ take (length (points r) - 1) (points r)
 unfolding taken_back taken_back_by remove
 served_takes r free =
-    ap (λ (o : Result Map Refusal). points (taken_back_by r o)) (unless_none Err (Ok (before_last r.map)) free)
+    ap (λ (o : Result Map Refusal). points (taken_back_by r o))
+    (unless_none Err (Ok (before_last r.map)) free)
     ∙ map_take offered_point (length r.history - 1) r.history
     ∙ ap (λ (n : ℕ). take (n - 1) (points r)) (sym (length-map r.history offered_point))
 
@@ -173,7 +175,8 @@ module _ (r : Run) (t : T (sound r.map)) {s : List ℕ} (same : s ≡ saved r.ma
       points (acted r act) ≡ stands (points r) act
   unfolding acted stands
   served_stands (offered {p} o) =
-      served_adds r p (free_of_map r.map t (λ m. (offer_call m p).rules) same (free (offer_writes s p o) refl))
+      served_adds r p
+      (free_of_map r.map t (λ m. (offer_call m p).rules) same (free (offer_writes s p o) refl))
   served_stands (removed o) =
       served_takes r (free_of_map r.map t (λ m. (remove_call m).rules) same (free (removal_writes s o) refl))
 

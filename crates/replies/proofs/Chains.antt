@@ -178,6 +178,7 @@ unfolding run run_from offered_point
 calls_history begun = refl
 calls_history (served {s} {ps} p c o) =
     ap (λ (r : Run). map offered_point r.history) (one_more ps p)
-    ∙ served_adds (run ps) p (free_of_map (run ps).map (run_sound ps) p (calls_run c) (served_free s p o refl))
+    ∙ served_adds (run ps) p
+    (free_of_map (run ps).map (run_sound ps) p (calls_run c) (served_free s p o refl))
     ∙ ap (λ (qs : List Point). qs ++ p ∷ []) (calls_history c)
 calls_history (refused p c o n) = calls_history c

@@ -37,12 +37,15 @@ loads a = record { equal = a.equal }
 
 module _ (s : List ℕ) (rules : List Rule) (rule : Rule) where
   -- what the rules come to with it
-  further : unless Err rules (unless Err (rule ∷ []) (Ok (map_in s))) ≡ unless Err (rules ++ rule ∷ []) (Ok (map_in s))
+  further : unless Err rules (unless Err (rule ∷ []) (Ok (map_in s)))
+      ≡ unless Err (rules ++ rule ∷ []) (Ok (map_in s))
   further = sym (unless_append Err rules (rule ∷ []) (Ok (map_in s)))
 
   pub refused_already : {r : Refusal} → Opened s rules (Err r) → Opened s (rules ++ rule ∷ []) (Err r)
   refused_already o =
-      record { equal = refused_by rules (map_in s) o.equal Err (unless Err (rule ∷ []) (Ok (map_in s))) ∙ further }
+      record {
+        equal = refused_by rules (map_in s) o.equal Err (unless Err (rule ∷ []) (Ok (map_in s))) ∙ further;
+      }
 
   module _ {m : Map} (o : Opened s rules (Ok m)) where
     last_rule : unless Err (rule ∷ []) (Ok (map_in s)) ≡ unless Err (rules ++ rule ∷ []) (Ok (map_in s))
@@ -66,7 +69,8 @@ module _ (s : List ℕ) (rules : List Rule) (rule : Rule) where
 pub opened_map : {s : List ℕ} {rules : List Rule} {m : Map} → Opened s rules (Ok m) → m ≡ map_in s
 opened_map o = value_by _ _ o.equal
 
-module _ {s : List ℕ} {more : List Rule} {m : Map} (o : Opened s (of_file s (λ n. unsound n ∷ more)) (Ok m)) where
+module _ {s : List ℕ} {more : List Rule} {m : Map}
+    (o : Opened s (of_file s (λ n. unsound n ∷ more)) (Ok m)) where
   parts : NoneApplies (of_file s (λ n. unsound n ∷ more)) → T (sound (map_in s)) × NoneApplies more
   parts (nor form (nor unsound rest)) = (not_not (sound (map_in s)) unsound, rest)
 

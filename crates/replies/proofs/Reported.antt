@@ -95,7 +95,8 @@ module _ {A : Type 0} (rules : List Rule) (u before : List A) (before' : List �
           both_by short same
           (served_by _ _ p.answer number 0)
           p.list
-          (ap (set before' 0) (value_by _ _ p.answer) ∙ (room_serves length_room (stored v before' length_room)).1
+          (ap (set before' 0) (value_by _ _ p.answer)
+          ∙ (room_serves length_room (stored v before' length_room)).1
           ∙ served_by _ _ p.answer (λ x. before') (over v before'))
 
   -- .. in a list of its own, where there is room for the length

@@ -55,8 +55,8 @@ module _ {text : List ℕ} (r : Reader) (same : r.text.now ≡ text) where
         sym (ap (λ (q : Reader). q.at) moved ∙ ap (λ (t : List ℕ). next_line t r.at) same)
 
     -- the line is decided, and the reader stands at the next one
-    goes_on : {m after : Map} {hashes more : Hashes} {answers : List ℕ} {n v : ℕ} {line : Result Point Refusal}
-        {a : Result Arrival Refusal} →
+    goes_on : {m after : Map} {hashes more : Hashes} {answers : List ℕ} {n v : ℕ}
+        {line : Result Point Refusal} {a : Result Arrival Refusal} →
         Surveying text m hashes answers n r.at → Some line ≡ taken r → DecidedLine m after more line a →
         v ≡ packed a → Surveying text after more (set answers n v) (n + 1) later.at
     goes_on {after = after} {more = more} {answers = answers} {n = n} s e d put =

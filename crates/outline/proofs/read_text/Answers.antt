@@ -9,7 +9,8 @@ loop-filled-init g c = none_read _ _
 
 pub returns-in_err-more : goal.returns-in_err-more
 returns-in_err-more g c =
-    read_failed c.loop-filled.invariant c.read.new.buf (omega arith) c.from_residual.result c.from_residual.ensures.0
+    read_failed c.loop-filled.invariant c.read.new.buf (omega arith) c.from_residual.result
+    c.from_residual.ensures.0
 
 pub loop-filled-preserved : goal.loop-filled-preserved
 loop-filled-preserved g c =

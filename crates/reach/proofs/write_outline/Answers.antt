@@ -10,8 +10,10 @@ write_outline_text-requires c = opened_sound (loads c.in_ok-map.ensures)
 
 pub returns-in_err-map : goal.returns-in_err-map
 returns-in_err-map c =
-    rw (passed_up _ _ c.from_residual.ensures.1) (not_told (λ m. outline_text (corner_points m)) (loads c.in_err-map.ensures))
+    rw (passed_up _ _ c.from_residual.ensures.1)
+    (not_told (λ m. outline_text (corner_points m)) (loads c.in_err-map.ensures))
 
 pub returns : goal.returns
 unfolding written_answer
-returns c = told (λ m. outline_text (corner_points m)) (loads c.in_ok-map.ensures) c.write_outline_text.ensures
+returns c =
+    told (λ m. outline_text (corner_points m)) (loads c.in_ok-map.ensures) c.write_outline_text.ensures

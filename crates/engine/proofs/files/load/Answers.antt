@@ -12,7 +12,8 @@ use Rattle.engine.proofs.files.load.Goals as goal
 pub returns-then-not-is_in_form : goal.returns-then-not-is_in_form
 unfolding outcome_answer
 returns-then-not-is_in_form c =
-    answered _ (λ r. refl) (rule_applies _ _ _ _ (tested c.is_in_form.ensures (ap not c.if-not-is_in_form.true)))
+    answered _ (λ r. refl)
+    (rule_applies _ _ _ _ (tested c.is_in_form.ensures (ap not c.if-not-is_in_form.true)))
 
 pub map_of-requires : goal.map_of-requires
 map_of-requires c =

@@ -12,10 +12,14 @@ pub returns-then-out-first : goal.returns-then-out-first
 returns-then-out-first g c =
     elim c.then-out-first.branch [
       | then-out-first-via-then-out-first w ↦
-          rule_found _ (ap (λ (b : Bool). b || ltb (length c.args.beside.now) c.args.second) (lt-ltb _ _ w.if-out-first.true))
+          rule_found _
+          (ap (λ (b : Bool). b || ltb (length c.args.beside.now) c.args.second)
+          (lt-ltb _ _ w.if-out-first.true))
       | then-out-first-via-else-out-first+then-beside-second w ↦
           rule_found _
-          (ap (λ (b : Bool). ltb (length c.args.out.now) c.args.first || b) (lt-ltb _ _ w.if-beside-second.true) ∙ or-true _)
+          (ap (λ (b : Bool). ltb (length c.args.out.now) c.args.first || b)
+          (lt-ltb _ _ w.if-beside-second.true)
+          ∙ or-true _)
     ]
 
 pub returns : goal.returns

@@ -22,7 +22,8 @@ use Rattle.replies.proofs.writing.write_admitted.Goals as goal
 shaped_after : (m : Map) (p : Point) → Shaped m → {o : Offered} → Ok o ≡ admitted m p → Shaped o.map
 unfolding admitted
 shaped_after m p s e =
-    subst (λ (o : Offered). Shaped o.map) (sym (value_by _ _ e)) (arrive_sound (accepted_by p s (free_by _ _ e)))
+    subst (λ (o : Offered). Shaped o.map) (sym (value_by _ _ e))
+    (arrive_sound (accepted_by p s (free_by _ _ e)))
 
 pub invariant_of-grown : goal.invariant_of-grown
 invariant_of-grown c =

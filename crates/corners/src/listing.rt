@@ -36,6 +36,7 @@ pub fn corners_of(sound: SoundMap<'_>) -> CornerList
     }
     let first = lowest_corner(map, map.reference / 2);
     let mut a = first;
+    // By number: a walk of at most so many corners, which fills the places from the first on.
     for i in 0..count {
         points[i] = a;
         a = map.next_corner(a);
@@ -56,6 +57,7 @@ fn lowest_corner(map: &Map, start: usize) -> usize
 {
     let mut lowest = start;
     let mut a = start;
+    // A walk of at most so many corners; no number is counted.
     for _ in 0..map.count {
         lowest = lower_of(map, lowest, a);
         a = map.next_corner(a);

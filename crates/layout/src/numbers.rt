@@ -12,6 +12,7 @@ pub fn put_number(lent: &mut [u8], width: usize, value: usize)
     ensures { lent.new ≡ over (big_endian width value) lent.old }
 {
     let mut rest = value;
+    // By number: the width may be less than the lent list has, and the last byte comes first.
     for place in (0..width).rev() {
         lent[place] = (rest % 256) as u8;
         rest /= 256;

@@ -117,6 +117,7 @@ impl<'a> Lines<'a> {
             (line_count self.now.ends)) }
     {
         let mut total = 0;
+        // By number: a printed line is asked for by its position.
         for j in 0..self.line_count() {
             total += self.line_length(j);
         }
@@ -132,6 +133,7 @@ impl<'a> Lines<'a> {
     {
         let count = self.line_count();
         let mut end = 0;
+        // By number: a printed line is asked for by its position.
         for next in from..count {
             if lent.len() - end < self.line_length(next) {
                 return Piece { next, length: end };

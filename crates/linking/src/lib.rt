@@ -13,6 +13,7 @@ use model::{Map, NONE_FREED, Note, Point};
 use orbits::{DART_LIMIT, link_of};
 
 // How a point arrived, as it is noted.
+// Numbers, as `note` of the definitions and the file have them.
 pub const FIRST: u8 = 0;
 
 pub const SECOND: u8 = 1;

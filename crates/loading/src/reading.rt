@@ -14,6 +14,7 @@ pub(crate) fn points_in(file: &[u8], count: usize) -> [Point; POINT_LIMIT]
     ensures { result ≡ places_in_file file.now count }
 {
     let mut points = [Point { x: 0, y: 0 }; POINT_LIMIT];
+    // By number: point k stands at a place of the file that k tells.
     for k in 0..count {
         points[k] = Point {
             x: coordinate_in(file, 2 * k),

@@ -19,6 +19,7 @@ pub fn orbit_of(sound: SoundMap<'_>, kind: Kind, d: usize) -> DartSet
     let map = sound.map;
     let n = map.count;
     let point = point_links(map);
+    // A case for each kind, as `links_of` of the definitions has it: a closure would name the same four.
     match kind {
         Kind::Edge => orbit(&map.edge, d),
         Kind::Vertex => orbit(&point, d),
@@ -61,6 +62,7 @@ fn dart_count(map: &Map) -> usize
     ensures { result ≡ darts map.now }
 {
     let mut darts = 0;
+    // By number: d is a dart, and no list holds the darts.
     for d in 0..2 * map.count {
         darts += map.is_present(d) as usize;
     }
@@ -84,6 +86,7 @@ pub fn walk_of(map: &Map, d: usize) -> Walk
 pub fn moved(map: &Map, link: Link, walker: Walker) -> Walker
     ensures { result ≡ walker_at (along link map.now walker.dart) }
 {
+    // A case for each link, as `along` has it.
     match link {
         Link::None => walker,
         Link::Edge => Walker::starting_at(map.edge_link(walker.dart)),

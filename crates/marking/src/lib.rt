@@ -52,6 +52,7 @@ fn is_outline(taken: RangedPoints<'_>, claim: &[usize]) -> bool
     if claim.is_empty() {
         return taken.points.is_empty();
     }
+    // By number: an edge is a place of the claim and the next one round.
     for i in 0..claim.len() {
         if !is_edge(taken, claim, i) {
             return false;

@@ -173,6 +173,7 @@ pub fn part_count(
 {
     let mut queue = Queue::empty();
     let mut parts = 0;
+    // By number: a is a dart, and no list holds the darts.
     for a in 0..n {
         if queue.is_unseen(present, a) {
             queue.visit(f, g, a);

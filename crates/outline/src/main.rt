@@ -49,6 +49,7 @@ fn read_text<R: Read>(stdin: &mut R, text: &mut [u8]) -> io::Result<usize>
     ensures { ReadText (R.remaining stdin.old) (R.remaining stdin.new) text.old text.new result }
 {
     let mut filled = 0;
+    // By how much was read, which no range tells beforehand.
     while filled < text.len() {
         let more = stdin.read(&mut text[filled..])?;
         filled += more;
@@ -75,6 +76,7 @@ fn print_lines(rt: &impl Print, answers: &[u32], decided: &Summary) -> io::Resul
 {
     let mut buffer = empty_buffer();
     let mut from = 0;
+    // By how far each piece came, which no range tells beforehand.
     loop {
         let piece = write_lines(answers, decided, from, &mut buffer);
         if piece.length == 0 {

@@ -32,6 +32,7 @@ pub struct Step {
 #[derive(Clone, Copy)]
 pub struct Listed {
     pub count: usize,
+    // Beside the list, and no `Option`: number 3 is given only where all else is in form.
     pub ranged: bool,
     pub last: Point,
 }
@@ -80,6 +81,7 @@ pub fn read_positions(s: &[u8], closing: &[u8], points: &mut [Point; POINT_LIMIT
     let mut place = 0;
     let mut count = 0;
     let mut ranged = true;
+    // By how many bytes each position takes, which no range tells beforehand.
     loop {
         let step = next_position(&s[place..], closing)?;
         keep(points, count, step.point);

@@ -56,6 +56,7 @@ pub fn put_natural(lent: &mut [u8], at: usize, n: u64) -> usize
 {
     let end = at + natural_length(n);
     let mut rest = n;
+    // By number: the last digit comes first, and its place is counted down.
     for place in (at + 1..end).rev() {
         lent[place] = digit(rest % 10);
         rest /= 10;

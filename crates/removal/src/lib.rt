@@ -62,6 +62,7 @@ fn latest(notes: &[Note]) -> usize
     requires { length notes.now ≤ point_limit }
     ensures { result ≡ latest notes.now (length notes.now) }
 {
+    // By number: what is answered is a dart of the point, which its number tells.
     for j in (0..notes.len()).rev() {
         if is_corner(notes[j].arrival) {
             return 2 * j;

@@ -16,6 +16,7 @@ pub fn point(x: i64, y: i64) -> Point
 }
 
 // The last dart of a walk, the number of its ending, and its moves.
+// Functions and no `From`: the numbers are those of the boundary (`walk_told` and its like), not the values' own.
 pub fn walk_values(walk: Walk) -> [u64; 3]
     ensures { result ≡ walk_told (walked_answer (Ok walk)) }
 {

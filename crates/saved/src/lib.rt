@@ -14,6 +14,7 @@ mod writing;
 use writing::{coordinate_field, note_field, noted_in, write_block, write_header};
 
 // Writes a map in a version over the front of the lent list, which keeps its tail.
+// The version is a number, since what is promised (`saved_in`) holds of any.
 pub fn write_map(sound: SoundMap<'_>, version: usize, lent: &mut [u8])
     requires { saved_length version sound.map.now.count ≤ length lent.old }
     ensures { lent.new ≡ over (saved_in version sound.entry.map.now) lent.old }

@@ -33,6 +33,7 @@ pub fn write_block<F: Fn(usize) -> usize>(count: usize, width: usize, field: F, 
     requires callable { (i : ℕ) → i < count → F.pre field i }
     ensures { (f : ℕ → ℕ) → Gives (F.post field) count f → lent.new ≡ over (block count width f) lent.old }
 {
+    // By number: the closure is asked for field i.
     for i in 0..count {
         let at = width * i;
         let number = field(i);

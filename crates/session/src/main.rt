@@ -263,6 +263,7 @@ fn unsound(rt: &impl Print, map: &Map) -> io::Result<()> {
 // As many points as a map has, along a parabola.
 fn full_map() -> Map {
     let mut map = engine::empty_map();
+    // By number: k is the coordinate.
     for k in 0..POINT_LIMIT {
         let x = k as i64;
         if let Ok(offered) = engine::offer(&map, at(x, x * x)) {

@@ -46,6 +46,7 @@ pub(crate) fn tell_refused(rt: &impl Print, refusal: Refusal) -> io::Result<()> 
 // Ends a line with the darts of a set.
 pub(crate) fn tell_darts(rt: &impl Print, darts: DartSet) -> io::Result<()> {
     rt.print(": darts")?;
+    // By number: d is a dart that the set is asked for.
     for d in 0..DART_LIMIT {
         if darts.contains(d) {
             print!(rt; " {d}")?;
@@ -55,6 +56,7 @@ pub(crate) fn tell_darts(rt: &impl Print, darts: DartSet) -> io::Result<()> {
 }
 
 // Ends a line with bytes, each as two hexadecimal digits.
+// Beside `tell_numbers`, since the two print in other bases.
 pub(crate) fn tell_bytes(rt: &impl Print, bytes: &[u8]) -> io::Result<()> {
     rt.print(": bytes")?;
     for byte in bytes {

@@ -80,6 +80,7 @@ fn turning_from(outlook: Outlook<'_>) -> Seen
     let mut visible = 0;
     let mut a = start;
     let mut from = sound.point(start);
+    // A walk of at most so many corners; no number is counted.
     for _ in 0..map.count {
         let b = map.edge[2 * a] / 2;
         let to = Ranged {

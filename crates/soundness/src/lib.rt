@@ -42,6 +42,7 @@ pub fn rebuild(points: &[Point], count: usize) -> Option<Map>
 {
     let mut map = empty_map();
     let mut hashes = Hashes::empty();
+    // By number: the count may go beyond the list, where points lie at 0, 0.
     for k in 0..count {
         let p = point_in(points, k);
         let accepted = admission_hashed(&map.points[..map.count], &hashes, p).ok()?;

@@ -10,7 +10,6 @@ ghost use Rattle.model.specs.declared.Link.{Link};
 ghost use Rattle.model.specs.Plane.{at, orientation_call};
 ghost use Rattle.model.specs.Maps.{empty_map};
 ghost use Rattle.model.specs.Outline.{corners};
-ghost use Rattle.model.specs.Shape.{Shaped};
 ghost use Rattle.model.specs.Reading.{unsound};
 ghost use Rattle.model.specs.Saved.{load_call, map_in, saved};
 ghost use Rattle.model.specs.Text.{line_call};
@@ -36,7 +35,7 @@ use maps::empty_map;
 use maps::traversal::{counts_of, moved, orbit_of, walk_of};
 use marking::mark;
 use measures::area_of;
-use model::{Kind, Link, Map, Point, Refusal};
+use model::{Kind, Link, Point, Ranged, Refusal, SoundMap};
 use orbits::Walker;
 use plane::orientation_of;
 use replies::opening::{load_at, load_near};
@@ -90,7 +89,9 @@ fn write_empty(out: &mut [u8]) -> Result<(), Refusal>
     if out.len() < length {
         return Err(Refusal::ShortList);
     }
-    write_map(&empty_map(), VERSION, out);
+    let map = empty_map();
+    let sound = SoundMap { map: &map };
+    write_map(sound, VERSION, out);
     Ok(())
 }
 
@@ -119,7 +120,8 @@ fn write_loaded(file: &[u8], out: &mut [u8], length: &mut [usize]) -> Result<(),
         out.old out.new length.old length.new (code_of result) }
 {
     let map = load(file)?;
-    write_saved(&map, out, length)
+    let sound = SoundMap { map: &map };
+    write_saved(sound, out, length)
 }
 
 // A point offered to a map: numbers 7, 1, 2 to 4 and 10.
@@ -143,7 +145,8 @@ fn write_offer(map: &[u8], p: Point, out: &mut [u8], arrival: &mut [u64]) -> Res
         arrival.old arrival.new (code_of result) }
 {
     let map = load(map)?;
-    write_admitted(&map, p, out, arrival)
+    let sound = SoundMap { map: &map };
+    write_admitted(sound, p, out, arrival)
 }
 
 // The numbers of darts, vertices, edges, faces and connected parts: numbers 7, 1 and 10.
@@ -161,7 +164,8 @@ fn write_counts(map: &[u8], out: &mut [u64]) -> Result<(), Refusal>
         out.old out.new (code_of result) }
 {
     let map = load(map)?;
-    let n = counts_of(&map);
+    let sound = SoundMap { map: &map };
+    let n = counts_of(sound);
     let values = [
         n.darts as u64,
         n.vertices as u64,
@@ -178,7 +182,8 @@ fn write_orbit(map: &[u8], kind: Kind, dart: usize, out: &mut [u64]) -> Result<(
         out.old out.new (code_of result) }
 {
     let map = load_at(map, dart)?;
-    write_darts(&orbit_of(&map, kind, dart), out)
+    let sound = SoundMap { map: &map };
+    write_darts(&orbit_of(sound, kind, dart), out)
 }
 
 // The edge of a dart: numbers 7, 1, 6 and 10.
@@ -287,7 +292,9 @@ fn write_placed(map: &[u8], p: Point, out: &mut [u64]) -> Result<(), Refusal>
         out.old out.new (code_of result) }
 {
     let map = load_near(map, p)?;
-    write_values(&placed_values(placed(&map, p)), out)
+    let sound = SoundMap { map: &map };
+    let p = Ranged { point: p };
+    write_values(&placed_values(placed(sound, p)), out)
 }
 
 // The corners in listing order, and how many they are: numbers 7, 1 and 10.
@@ -307,7 +314,8 @@ fn write_corners(map: &[u8], out: &mut [usize], count: &mut [usize]) -> Result<(
         out.old out.new count.old count.new (code_of result) }
 {
     let map = load(map)?;
-    write_corner_list(&map, out, count)
+    let sound = SoundMap { map: &map };
+    write_corner_list(sound, out, count)
 }
 
 // The point that a text line names, with its one line feed or without it: numbers 8 and 10.
@@ -371,17 +379,22 @@ fn write_outline(map: &[u8], out: &mut [u8], count: &mut [usize]) -> Result<(), 
         out.old out.new count.old count.new (code_of result) }
 {
     let map = load(map)?;
-    write_outline_text(&map, out, count)
+    let sound = SoundMap { map: &map };
+    write_outline_text(sound, out, count)
 }
 
 // Writes the text of a sound map's outline, and how many bytes it has: number 10.
-fn write_outline_text(map: &Map, out: &mut [u8], count: &mut [usize]) -> Result<(), Refusal>
-    requires { Shaped map.now }
-    ensures { ServedBoth [] (outline_text (corner_points map.now))
-        (length (outline_text (corner_points map.now)) ∷ [])
+fn write_outline_text(
+    sound: SoundMap<'_>,
+    out: &mut [u8],
+    count: &mut [usize],
+) -> Result<(), Refusal>
+    ensures { ServedBoth [] (outline_text (corner_points sound.entry.map.now))
+        (length (outline_text (corner_points sound.entry.map.now)) ∷ [])
         out.old out.new count.old count.new (code_of result) }
 {
-    let list = corners_of(map);
+    let map = sound.map;
+    let list = corners_of(sound);
     let corners = list.as_slice();
     let written = text_length(map, corners);
     check_room(written, out, 1, count)?;
@@ -429,16 +442,16 @@ fn write_loaded_area(map: &[u8], place: usize, out: &mut [i64]) -> Result<(), Re
         out.old out.new (code_of result) }
 {
     let map = load(map)?;
-    write_area(&map, place, out)
+    let sound = SoundMap { map: &map };
+    write_area(sound, place, out)
 }
 
 // Writes twice the area of a sound map's outline: numbers 6 and 10.
-fn write_area(map: &Map, place: usize, out: &mut [i64]) -> Result<(), Refusal>
-    requires { Shaped map.now }
-    ensures { Served (reply values_of (sound_area_call map.now place))
+fn write_area(sound: SoundMap<'_>, place: usize, out: &mut [i64]) -> Result<(), Refusal>
+    ensures { Served (reply values_of (sound_area_call sound.entry.map.now place))
         out.old out.new (code_of result) }
 {
-    let z = area_of(map, place)?;
+    let z = area_of(sound, place)?;
     write_values(&[z], out)
 }
 

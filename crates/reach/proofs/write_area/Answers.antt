@@ -15,11 +15,11 @@ use Rattle.reach.proofs.write_area.Goals as goal
 pub returns-in_err-z : goal.returns-in_err-z
 returns-in_err-z c =
     rw (passed_up _ _ c.from_residual.ensures.1)
-    (answer_refused values_of (sound_area_call c.args.map.now c.args.place) _ c.in_err-z.ensures)
+    (answer_refused values_of (sound_area_call c.args.sound.map.now c.args.place) _ c.in_err-z.ensures)
 
 pub returns : goal.returns
 unfolding doubled_answer
 returns c =
     let bits : to_z w64 (of_z w64 c.in_ok-z.z) ≡ c.in_ok-z.z = search rules in
-    answer_written values_of (sound_area_call c.args.map.now c.args.place) _ c.in_ok-z.ensures
+    answer_written values_of (sound_area_call c.args.sound.map.now c.args.place) _ c.in_ok-z.ensures
     (served_as (ap (λ (i : ℤ). i ∷ []) bits) c.write_values.ensures)

@@ -8,8 +8,8 @@ use Rattle.replies.specs.Replies.{counts_reply}
 use Rattle.replies.proofs.OpenedFiles.{loads, opened_sound, opened_refused, opened_served}
 use Rattle.reach.proofs.write_counts.Goals as goal
 
-pub counts_of-n-requires : goal.counts_of-n-requires
-counts_of-n-requires c = opened_sound (loads c.in_ok-map.ensures)
+pub invariant_of-sound : goal.invariant_of-sound
+invariant_of-sound c = record { shaped = opened_sound (loads c.in_ok-map.ensures) }
 
 pub returns-in_err-map : goal.returns-in_err-map
 unfolding counted_answer

@@ -18,15 +18,15 @@ unfolding empty_map
 returns-then-out-length c = short_list _ _ (omega
     (arith, length_saved empty_map, c.saved_length-length.ensures, c.if-out-length.true))
 
+pub invariant_of-sound : goal.invariant_of-sound
+unfolding empty_map
+invariant_of-sound c = record { shaped = subst Shaped (sym c.empty_map-map.ensures) empty_sound }
+
 pub write_map-requires : goal.write_map-requires
 unfolding empty_map
-write_map-requires c = let e = c.empty_map.ensures in
-    record {
-      shaped = subst Shaped (sym e) empty_sound;
-      count_in_bounds =
-          subst (λ (m : Map). saved_length version m.count ≤ length c.args.out.now) (sym e)
-          (omega (arith, c.saved_length-length.ensures, c.if-out-length.false));
-    }
+write_map-requires c =
+    subst (λ (m : Map). saved_length version m.count ≤ length c.args.out.now) (sym c.empty_map-map.ensures)
+    (omega (arith, c.saved_length-length.ensures, c.if-out-length.false))
 
 pub returns : goal.returns
 unfolding empty_map
@@ -34,4 +34,4 @@ returns c = let s = c.args in
     with_room (saved empty_map) _
     (omega (arith, length_saved empty_map, c.saved_length-length.ensures, c.if-out-length.false))
     (c.write_map.ensures
-    ∙ ap (λ (m : Map). over (saved m) s.out.now) c.empty_map.ensures)
+    ∙ ap (λ (m : Map). over (saved m) s.out.now) c.empty_map-map.ensures)

@@ -7,8 +7,8 @@ use Rattle.replies.proofs.OpenedFiles.{loads, opened_sound, opened_map}
 use Rattle.replies.proofs.Serving.{refused_before, served_after, served_at}
 use Rattle.reach.proofs.write_loaded_area.Goals as goal
 
-pub write_area-requires : goal.write_area-requires
-write_area-requires c = opened_sound (loads c.in_ok-map.ensures)
+pub invariant_of-sound : goal.invariant_of-sound
+invariant_of-sound c = record { shaped = opened_sound (loads c.in_ok-map.ensures) }
 
 pub returns-in_err-map : goal.returns-in_err-map
 returns-in_err-map c = let s = c.args in

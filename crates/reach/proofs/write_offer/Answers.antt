@@ -10,8 +10,8 @@ use Rattle.replies.proofs.OpenedFiles.{loads, opened_sound, opened_map}
 use Rattle.replies.proofs.Serving.{both_refused_before, both_served_after, both_at}
 use Rattle.reach.proofs.write_offer.Goals as goal
 
-pub write_admitted-requires : goal.write_admitted-requires
-write_admitted-requires c = opened_sound (loads c.in_ok-map.ensures)
+pub invariant_of-sound : goal.invariant_of-sound
+invariant_of-sound c = record { shaped = opened_sound (loads c.in_ok-map.ensures) }
 
 pub returns-in_err-map : goal.returns-in_err-map
 returns-in_err-map c = let s = c.args in

@@ -9,8 +9,11 @@ use Rattle.replies.proofs.OpenedFiles.{opened_sound, opened_present}
 use Rattle.replies.proofs.OpenedFiles.{opened_refused, opened_served}
 use Rattle.reach.proofs.write_orbit.Goals as goal
 
+pub invariant_of-sound : goal.invariant_of-sound
+invariant_of-sound c = record { shaped = opened_sound c.in_ok-map.ensures }
+
 pub orbit_of-requires : goal.orbit_of-requires
-orbit_of-requires c = let o = c.in_ok-map.ensures in (opened_sound o, opened_present _ o)
+orbit_of-requires c = opened_present _ c.in_ok-map.ensures
 
 pub returns-in_err-map : goal.returns-in_err-map
 returns-in_err-map c = rw (passed_up _ _ c.from_residual.ensures.1) (opened_refused c.in_err-map.ensures)

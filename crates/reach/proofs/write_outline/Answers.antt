@@ -5,8 +5,8 @@ use Rattle.deciding.proofs.Verdicts.{passed_up}
 use Rattle.replies.proofs.OpenedFiles.{loads, opened_sound, not_told, told}
 use Rattle.reach.proofs.write_outline.Goals as goal
 
-pub write_outline_text-requires : goal.write_outline_text-requires
-write_outline_text-requires c = opened_sound (loads c.in_ok-map.ensures)
+pub invariant_of-sound : goal.invariant_of-sound
+invariant_of-sound c = record { shaped = opened_sound (loads c.in_ok-map.ensures) }
 
 pub returns-in_err-map : goal.returns-in_err-map
 returns-in_err-map c =

@@ -9,8 +9,11 @@ use Rattle.replies.proofs.OpenedFiles.{opened_sound, opened_near}
 use Rattle.replies.proofs.OpenedFiles.{opened_refused, opened_served}
 use Rattle.reach.proofs.write_placed.Goals as goal
 
-pub placed-requires : goal.placed-requires
-placed-requires c = let o = c.in_ok-map.ensures in (opened_sound o, opened_near _ o)
+pub invariant_of-sound : goal.invariant_of-sound
+invariant_of-sound c = record { shaped = opened_sound c.in_ok-map.ensures }
+
+pub invariant_of-p : goal.invariant_of-p
+invariant_of-p c = record { ranged = opened_near _ c.in_ok-map.ensures }
 
 pub returns-in_err-map : goal.returns-in_err-map
 returns-in_err-map c = rw (passed_up _ _ c.from_residual.ensures.1) (opened_refused c.in_err-map.ensures)

@@ -21,6 +21,8 @@ use survey::lines::{TEXT_LIMIT, is_too_long};
 
 // What is decided of a text beside the answers of its lines: the corners, and the ends, or none where
 // the text is too long to be read.
+// That these are within their limits (`Fits`) is asked by the functions that print, and no field: the laws on
+// pieces (`pieces_are_the_report`) speak of any summary that fits, whoever made it.
 #[derive(Clone, Copy)]
 pub struct Summary {
     pub corners: CornerList,

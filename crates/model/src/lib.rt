@@ -1,6 +1,6 @@
 // The declared types of the engine: what goes in and what comes out. Their meaning is in specs/. A call
-// that can be refused answers a `Result` whose error is a `Refusal`. The one function is the number of a
-// refusal.
+// that can be refused answers a `Result` whose error is a `Refusal`. The functions are what is read of a map
+// or of a list of points, and the number of a refusal.
 #![tactic(auto)]
 
 ghost use Rattle.std.specs.Prelude.{◌≡◌, T};

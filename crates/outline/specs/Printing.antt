@@ -6,8 +6,8 @@ use Rattle.reports.specs.declared.Summary.{Summary}
 use Rattle.lines.specs.Lines.{line_count}
 use Rattle.reports.specs.Pieces.{Pieces}
 
--- pieces lead up to the position that was reached, with these bytes, and where nothing failed that is
--- the end
+-- pieces lead up to some position, with these bytes, and where nothing failed that is the end; where a write
+-- failed, how far printing came is not told
 pub record PrintsLines {A E : Type 0} (answers : List ℕ) (d : Summary) (r : Result A E) : Type 0 where
   pub next : ℕ
   pub bytes : List ℕ

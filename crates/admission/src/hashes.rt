@@ -51,6 +51,7 @@ impl Hashes {
 
 // A point that is accepted, as one in range, or why it is refused, where the hashes of the map's points are set: a
 // point in range whose hash is not set is none of them, and is refused only by a full map.
+// The first two tests are those of `admission` again: a point whose hash is not set does not reach it.
 pub fn admission_hashed(points: &[Point], hashes: &Hashes, p: Point) -> Result<Ranged, Refusal>
     requires { AllHashed points.now hashes.now }
     ensures { Admitted points.now p result }

@@ -17,6 +17,7 @@ use printing::writing::{put_byte, put_word};
 
 // How many bytes the text of an outline takes that has these corners: what opens the positions, the positions and what
 // closes them, with the lengths of the words that are written.
+// The map and its corners stay two parameters: the recursion is over the corners, which are cut.
 pub fn text_length(map: &Map, corners: &[usize]) -> usize
     requires { length corners.now ≤ point_limit }
     ensures { result ≡ length (outline_text (points_at map.now corners.now)) }

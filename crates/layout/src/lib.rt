@@ -29,6 +29,7 @@ pub const REFERENCE_PLACE: usize = 7;
 pub const HEADER_LENGTH: usize = 9;
 
 // How many bytes the file in a version of a map of so many points has.
+// Each place asks for a count that a map has: a type for it would be opened at every sum, and is no plainer.
 pub fn saved_length(version: usize, count: usize) -> usize
     requires { count ≤ point_limit }
     ensures { result ≡ saved_length version count }

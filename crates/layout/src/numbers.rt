@@ -12,7 +12,7 @@ pub fn put_number(lent: &mut [u8], width: usize, value: usize)
     ensures { lent.new ≡ over (big_endian width value) lent.old }
 {
     let mut rest = value;
-    // By number: the width may be less than the lent list has, and the last byte comes first.
+    // By number, as the width is a parameter: `lent[..width].iter_mut().rev()` would say no more.
     for place in (0..width).rev() {
         lent[place] = (rest % 256) as u8;
         rest /= 256;

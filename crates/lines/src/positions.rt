@@ -52,6 +52,7 @@ impl<'a> Lines<'a> {
     }
 
     // How many bytes the printed line at position j takes.
+    // By position, as `report_line` of the definitions has it.
     pub fn line_length(&self, j: usize) -> usize
         requires { length self.now.corners.now ≤ point_limit }
         ensures { result ≡

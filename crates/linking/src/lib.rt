@@ -43,6 +43,7 @@ pub fn join(edge: &mut [usize; DART_LIMIT], a: usize, b: usize)
 }
 
 // Point p is the next one, and this is noted of it.
+// This and the functions that call it ask for room: they write the map, and no type that lends it can hold the fact.
 #[tactic(auto, unfolding(model::specs::Arrival::with_point))]
 fn put_point(map: &mut Map, p: Point, note: Note)
     requires { map.old.count < point_limit }

@@ -20,6 +20,7 @@ use survey::lines::is_too_long;
 
 // Reads the corners of a text, and writes their coordinates into a lent list, x and y in turn: numbers 9, 11,
 // 3, 12, and 10, which a caller also asks for that has no room for their number.
+// `room` is a flag, since number 10 comes after the numbers that only this function finds.
 pub fn read_outline(text: &[u8], lent: &mut [i64], room: bool) -> Result<usize, Refusal>
     ensures { CoordinatesWritten text.now room lent.old lent.new result }
 {

@@ -14,7 +14,7 @@ pub(crate) fn points_in(file: &[u8], count: usize) -> [Point; POINT_LIMIT]
     ensures { result ≡ places_in_file file.now count }
 {
     let mut points = [Point { x: 0, y: 0 }; POINT_LIMIT];
-    // By number: point k stands at a place of the file that k tells.
+    // By number: k tells the place in the file and in the list; `enumerate` would name the place of the list too.
     for k in 0..count {
         points[k] = Point {
             x: coordinate_in(file, 2 * k),

@@ -62,7 +62,7 @@ fn dart_count(map: &Map) -> usize
     ensures { result ≡ darts map.now }
 {
     let mut darts = 0;
-    // By number: d is a dart, and no list holds the darts.
+    // By number: d is a dart that the map is asked of; a chain would have to name the sum's step beside it.
     for d in 0..2 * map.count {
         darts += map.is_present(d) as usize;
     }

@@ -50,6 +50,8 @@ pub struct Note {
 // helpers. What is noted of point k stands at place k of `notes`. A place without a point holds the point
 // 0, 0 and the note 0, 1,024, 1,024. `reference` is a dart of the outline, or 1,024 for none, as document 01
 // has it and the file.
+// The arrays stay apart, with the count beside them: there is no heap, `helpers` alone tells the point links and
+// the present darts (`point_link_by`, `present_by`), and `edge` has a number for each dart.
 #[derive(Clone, Copy)]
 pub struct Map {
     pub points: [Point; POINT_LIMIT],
@@ -100,6 +102,7 @@ impl Map {
     }
 
     // The corner after corner a.
+    // Two methods, as the definitions have two; the dart is all in which they differ.
     pub fn next_corner(&self, a: usize) -> usize
         ensures { result ≡ next_corner self.now a }
     {
@@ -222,6 +225,7 @@ pub struct Counts {
 }
 
 // By which link a walker is moved.
+// `None` is a link, and no `Option`: it is the word of `along`, and of `reach_walker`.
 #[derive(Clone, Copy)]
 pub enum Link {
     None,
@@ -230,6 +234,7 @@ pub enum Link {
 }
 
 // Where a query point lies. Corners, and the ends of an edge, are named by their point numbers.
+// `NoOutline` is a place, and no `Option`: document 01 has it as an answer, "none".
 #[derive(Clone, Copy)]
 pub enum Placed {
     NoOutline,

@@ -125,6 +125,8 @@ pub fn link_of(links: &[usize], d: usize) -> usize
 }
 
 // Makes the link g, which `both` holds, the link "f, then g". From n on f moves nothing, and g is both.
+// f and g stay two parameters, here and below: `orbit` gives one link twice, and a struct would be named by its
+// fields in each clause.
 pub fn compose(
     f: &[usize; DART_LIMIT],
     g: &[usize; DART_LIMIT],
@@ -134,7 +136,7 @@ pub fn compose(
     requires { Composable f.now g.now n both.old }
     ensures { Composed f.now g.now both.new }
 {
-    // By number: d is the dart that the links are asked of, and not only a place of `both`.
+    // By number: `both.iter_mut().take(n).enumerate()` would say the same with a name more.
     for d in 0..n {
         both[d] = link_of(g, link_of(f, d));
     }
@@ -173,7 +175,7 @@ pub fn part_count(
 {
     let mut queue = Queue::empty();
     let mut parts = 0;
-    // By number: a is a dart, and no list holds the darts.
+    // By number: the queue is asked of the dart too, and not only the list of those present.
     for a in 0..n {
         if queue.is_unseen(present, a) {
             queue.visit(f, g, a);

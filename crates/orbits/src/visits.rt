@@ -9,6 +9,7 @@ use crate::{DART_LIMIT, DartSet};
 
 // The first `end` places of `order` are the queue, and `seen` marks the darts that stand in it. So no dart
 // is put twice, and what is reached from a dart is found in as many steps as it has darts.
+// There is no heap, so that the queue is an array and its end.
 #[derive(Drop)]
 pub(crate) struct Queue {
     order: [usize; DART_LIMIT],

@@ -14,7 +14,7 @@ use positions::{Listed, read_positions};
 #[derive(Clone, Copy)]
 pub struct Corners {
     pub count: usize,
-    // Beside the list, and no `Option`: number 3 is given only where all else is in form.
+    // Beside the count, and no `Option`: number 3 is given only where all else is in form.
     pub ranged: bool,
 }
 

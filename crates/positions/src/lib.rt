@@ -29,10 +29,11 @@ pub struct Step {
 }
 
 // Positions that were read: how many, whether all are in range, and the last of them.
+// The points stand in a lent array, since there is no heap, and the count may be more than it holds.
 #[derive(Clone, Copy)]
 pub struct Listed {
     pub count: usize,
-    // Beside the list, and no `Option`: number 3 is given only where all else is in form.
+    // Beside the count, and no `Option`: number 3 is given only where all else is in form.
     pub ranged: bool,
     pub last: Point,
 }

@@ -50,13 +50,14 @@ pub fn number_length(z: i64) -> usize
 }
 
 // Writes a number without a sign in decimal, from its last digit to its first.
+// By hand and no `write!`: the promise is `spelt`, at a place of the lent list.
 pub fn put_natural(lent: &mut [u8], at: usize, n: u64) -> usize
     requires { Room lent.old at (spelt (pos n)) }
     ensures { PutAt lent.old at (spelt (pos n)) lent.new result }
 {
     let end = at + natural_length(n);
     let mut rest = n;
-    // By number: the last digit comes first, and its place is counted down.
+    // By number: `lent[at + 1..end].iter_mut().rev()` would say no more.
     for place in (at + 1..end).rev() {
         lent[place] = digit(rest % 10);
         rest /= 10;

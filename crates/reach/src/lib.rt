@@ -177,6 +177,7 @@ fn write_counts(map: &[u8], out: &mut [u64]) -> Result<(), Refusal>
 }
 
 // The orbit of a dart: numbers 7, 1, 6 and 10.
+// The four exports below differ in a kind, and three more in a link: C has no generic functions.
 fn write_orbit(map: &[u8], kind: Kind, dart: usize, out: &mut [u64]) -> Result<(), Refusal>
     ensures { Served (from_file (orbit_reply kind dart) map.now)
         out.old out.new (code_of result) }

@@ -14,6 +14,7 @@ use model::{Map, NO_DART, Note, POINT_LIMIT, Point};
 use orbits::DART_LIMIT;
 
 // The map before its last point. It asks more than a `SoundMap` knows: that the points build this map.
+// The notes' numbers are compared as numbers, and 1,024 stands for no dart, as in `linking` and the file.
 pub fn taken_back(map: &Map) -> Map
     requires { T (sound map.now) × (0 < map.now.count) }
     ensures { result ≡ before_last map.now }
@@ -62,7 +63,7 @@ fn latest(notes: &[Note]) -> usize
     requires { length notes.now ≤ point_limit }
     ensures { result ≡ latest notes.now (length notes.now) }
 {
-    // By number: what is answered is a dart of the point, which its number tells.
+    // By number: what is answered is the point's dart; with `enumerate` the note would be named beside it.
     for j in (0..notes.len()).rev() {
         if is_corner(notes[j].arrival) {
             return 2 * j;

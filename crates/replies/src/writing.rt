@@ -34,6 +34,7 @@ pub fn code<T: Copy>(answer: Result<T, Refusal>) -> u32
 }
 
 // Whether two lent lists have room for so many members each: number 10.
+// The two lent lists stay apart here and below, as C lends them.
 pub fn check_room<A, B>(first: usize, out: &[A], second: usize, beside: &[B]) -> Result<(), Refusal>
     ensures { result ≡ outcome_by
         ((Refusal.ShortList when (ltb (length out.now) first || ltb (length beside.now) second)) ∷ []) }

@@ -33,7 +33,7 @@ pub fn write_block<F: Fn(usize) -> usize>(count: usize, width: usize, field: F, 
     requires callable { (i : ℕ) → i < count → F.pre field i }
     ensures { (f : ℕ → ℕ) → Gives (F.post field) count f → lent.new ≡ over (block count width f) lent.old }
 {
-    // By number: the closure is asked for field i.
+    // By number: i is what the closure is asked and tells the place; `chunks_exact_mut` would name the place too.
     for i in 0..count {
         let at = width * i;
         let number = field(i);
@@ -61,6 +61,7 @@ pub fn noted_in(version: usize, count: usize) -> usize
 }
 
 // What stands for what is noted of point k: its arrival, and two bytes for each freed dart.
+// Packed as `packed_note` has it.
 pub fn note_field(sound: SoundMap<'_>, k: usize) -> usize
     requires { k < point_limit }
     ensures { result ≡ packed_note sound.entry.map.now k }

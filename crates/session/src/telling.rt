@@ -2,10 +2,11 @@
 
 use model::{Point, Refusal};
 use orbits::{DART_LIMIT, DartSet};
+use std::fmt::Display;
 use std::io;
 
-// Writes numbers without a sign, each after a space.
-pub(crate) fn say_naturals(rt: &impl Print, values: &[usize]) -> io::Result<()> {
+// Writes values, each after a space.
+pub(crate) fn say_values<T: Display>(rt: &impl Print, values: &[T]) -> io::Result<()> {
     for value in values {
         print!(rt; " {value}")?;
     }
@@ -20,7 +21,7 @@ pub(crate) fn say_point(rt: &impl Print, p: Point) -> io::Result<()> {
 // Ends a line with the word of an answer and its values.
 pub(crate) fn tell(rt: &impl Print, word: &str, values: &[usize]) -> io::Result<()> {
     print!(rt; ": {word}")?;
-    say_naturals(rt, values)?;
+    say_values(rt, values)?;
     rt.println("")
 }
 
@@ -32,9 +33,7 @@ pub(crate) fn tell_number(rt: &impl Print, z: i64) -> io::Result<()> {
 // Ends a line with numbers.
 pub(crate) fn tell_numbers(rt: &impl Print, values: &[i64]) -> io::Result<()> {
     rt.print(": numbers")?;
-    for z in values {
-        print!(rt; " {z}")?;
-    }
+    say_values(rt, values)?;
     rt.println("")
 }
 

@@ -11,6 +11,7 @@ use plane::between::are_opposite;
 use plane::sees_edge;
 
 // The corners between which the visible edges lie, and their number.
+// No `Option` where nothing is visible: `seen` and `turning` tell all three numbers of any point.
 #[derive(Clone, Copy)]
 pub struct Seen {
     pub left: usize,

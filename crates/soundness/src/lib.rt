@@ -53,6 +53,7 @@ pub fn rebuild(points: &[Point], count: usize) -> Option<Map>
 }
 
 // Whether two maps have the same fields.
+// Field by field as `agree` of the definitions has it, the numbers first: a derive would compare the points first.
 fn agree(m: &Map, n: &Map) -> bool
     ensures { result ≡ agree m.now n.now }
 {

@@ -130,6 +130,7 @@ fn front_at(text: &[u8], at: usize) -> Option<Front>
 }
 
 // What stands at a place of a list, or 0 past its end.
+// 0 past the end, and no `Option`: so `get_or` of the definitions has it.
 pub fn byte_at(list: &[u8], at: usize) -> u8
     ensures { result ≡ get_or list.now at 0 }
 {

@@ -10,6 +10,7 @@ ghost use Rattle.survey.specs.Numbers.{front_number, is_magnitude, magnitude_rea
 pub const DIGIT_LIMIT: usize = 10;
 
 // What the digits at the front of a list stand for, and how many they are.
+// A type of its own beside `Front` and `Read`: the definitions name the fields of each.
 #[derive(Clone, Copy)]
 pub struct Magnitude {
     pub value: u64,
@@ -24,6 +25,7 @@ pub struct Front {
 }
 
 // The number at the front of a list: an optional minus and all digits that follow.
+// By hand and no `parse`, which takes a plus sign, and zeros in front, and ends at the list's end.
 pub fn front_number(s: &[u8]) -> Option<Front>
     ensures { result ≡ front_number s.now }
 {

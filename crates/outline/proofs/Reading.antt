@@ -58,49 +58,49 @@ module _ {input left later : Option (List ℕ)} {lent now : List ℕ} {filled : 
     (f : Filling input left lent now filled) (last : List ℕ)
     (as_long : length (left_as now filled last) ≡ length now)
   where
-  -- a read that brings some bytes more, or none
-  module _ (more : ℕ) (fits : filled + more ≤ length now) (few : more ≤ length last)
-      (lost : Consumes left later (take more last)) where
-    pub one_read : Filling input later lent (left_as now filled last) (filled + more)
-    one_read =
+    -- a read that brings some bytes more, or none
+    module _ (more : ℕ) (fits : filled + more ≤ length now) (few : more ≤ length last)
+        (lost : Consumes left later (take more last)) where
+      pub one_read : Filling input later lent (left_as now filled last) (filled + more)
+      one_read =
+          record {
+            reads = continued f.reads (read_more now filled last (within f) as_long more fits);
+            inside = omega (arith, fits, f.as_long);
+            as_long = as_long ∙ f.as_long;
+            bytes =
+                subst (Consumes input later) (sym (bytes_more now filled last (within f) more few))
+                (Consumes-trans input left later (take filled now) (take more last) f.bytes lost);
+          }
+
+      -- where it brings none, reading ends
+      pub none_more : {E : Type 0} → more ≡ 0 → IsAtEnd later →
+          ReadText {E = E} input later lent (left_as now filled last) (Ok (filled + more))
+      none_more none ended =
+          let same : filled ≡ filled + more = omega (arith, none) in
+          let read = read_more now filled last (within f) as_long 0 (omega (arith, within f)) in
+          record {
+            as_long = one_read.as_long;
+            read =
+                record {
+                  reads = one_read.reads;
+                  inside = one_read.inside;
+                  told = λ h. (now, subst (λ (n : ℕ). ReadMore now n (left_as now filled last) 0) same read);
+                  ended = λ h. ended;
+                  bytes = one_read.bytes;
+                };
+            failed = tt;
+          }
+
+    -- one that fails
+    pub read_failed : {E : Type 0} (r : Result ℕ E) → IsErr r →
+        ReadText input later lent (left_as now filled last) r
+    read_failed (Ok n) e = absurd (let z : ◌≡◌ {A = ℕ} 0 1 = cc in omega arith)
+    read_failed (Err x) e =
         record {
-          reads = continued f.reads (read_more now filled last (within f) as_long more fits);
-          inside = omega (arith, fits, f.as_long);
           as_long = as_long ∙ f.as_long;
-          bytes =
-              subst (Consumes input later) (sym (bytes_more now filled last (within f) more few))
-              (Consumes-trans input left later (take filled now) (take more last) f.bytes lost);
+          read = tt;
+          failed = (
+            filled + 0,
+            continued f.reads (read_more now filled last (within f) as_long 0 (omega (arith, within f))),
+          );
         }
-
-    -- where it brings none, reading ends
-    pub none_more : {E : Type 0} → more ≡ 0 → IsAtEnd later →
-        ReadText {E = E} input later lent (left_as now filled last) (Ok (filled + more))
-    none_more none ended =
-        let same : filled ≡ filled + more = omega (arith, none) in
-        let read = read_more now filled last (within f) as_long 0 (omega (arith, within f)) in
-        record {
-          as_long = one_read.as_long;
-          read =
-              record {
-                reads = one_read.reads;
-                inside = one_read.inside;
-                told = λ h. (now, subst (λ (n : ℕ). ReadMore now n (left_as now filled last) 0) same read);
-                ended = λ h. ended;
-                bytes = one_read.bytes;
-              };
-          failed = tt;
-        }
-
-  -- one that fails
-  pub read_failed : {E : Type 0} (r : Result ℕ E) → IsErr r →
-      ReadText input later lent (left_as now filled last) r
-  read_failed (Ok n) e = absurd (let z : ◌≡◌ {A = ℕ} 0 1 = cc in omega arith)
-  read_failed (Err x) e =
-      record {
-        as_long = as_long ∙ f.as_long;
-        read = tt;
-        failed = (
-          filled + 0,
-          continued f.reads (read_more now filled last (within f) as_long 0 (omega (arith, within f))),
-        );
-      }

@@ -2,7 +2,7 @@
 // the answer.
 
 use crate::telling::{
-    say_point, say_values, tell, tell_bytes, tell_darts, tell_number, tell_numbers, tell_refused,
+    say_naturals, say_point, tell, tell_bytes, tell_darts, tell_number, tell_numbers, tell_refused,
 };
 use model::{Arrival, Kind, Link, Map, Placed, Point};
 use orbits::{Ending, Walk, Walker};
@@ -218,7 +218,7 @@ pub(crate) fn area(rt: &impl Print, map: &Map, place: usize) -> io::Result<()> {
 
 pub(crate) fn mark(rt: &impl Print, points: &[i64], claim: &[usize]) -> io::Result<()> {
     rt.print("mark")?;
-    say_values(rt, claim)?;
+    say_naturals(rt, claim)?;
     match office::mark(points, claim) {
         Ok(true) => tell(rt, "right", &[]),
         Ok(false) => tell(rt, "wrong", &[]),

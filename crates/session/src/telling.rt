@@ -2,11 +2,10 @@
 
 use model::{Point, Refusal};
 use orbits::{DART_LIMIT, DartSet};
-use std::fmt::Display;
 use std::io;
 
-// Writes values, each after a space.
-pub(crate) fn say_values<T: Display>(rt: &impl Print, values: &[T]) -> io::Result<()> {
+// Writes numbers without a sign, each after a space.
+pub(crate) fn say_naturals(rt: &impl Print, values: &[usize]) -> io::Result<()> {
     for value in values {
         print!(rt; " {value}")?;
     }
@@ -21,7 +20,7 @@ pub(crate) fn say_point(rt: &impl Print, p: Point) -> io::Result<()> {
 // Ends a line with the word of an answer and its values.
 pub(crate) fn tell(rt: &impl Print, word: &str, values: &[usize]) -> io::Result<()> {
     print!(rt; ": {word}")?;
-    say_values(rt, values)?;
+    say_naturals(rt, values)?;
     rt.println("")
 }
 
@@ -33,7 +32,9 @@ pub(crate) fn tell_number(rt: &impl Print, z: i64) -> io::Result<()> {
 // Ends a line with numbers.
 pub(crate) fn tell_numbers(rt: &impl Print, values: &[i64]) -> io::Result<()> {
     rt.print(": numbers")?;
-    say_values(rt, values)?;
+    for z in values {
+        print!(rt; " {z}")?;
+    }
     rt.println("")
 }
 

@@ -1,6 +1,6 @@
 -- Hashes, in the order of this page: what the machine computes of a point; the hashes of no
 -- point, and of one more; a point whose hash is not set is none of the points.
-use mathlib.Core.Path.{◌≡◌, subst, ◌∙◌}
+use mathlib.Core.Path.{◌≡◌, sym, subst, ◌∙◌}
 use mathlib.Core.Logic.{◌≢◌, ⊎_elim}
 use mathlib.Core.Bool.{true, false}
 use mathlib.Core.List.{List, []}
@@ -61,8 +61,12 @@ hash_below p = omega arith
 
 -- ---- the hashes of points
 
-pub none_hashed : AllHashed [] no_hashes
-none_hashed = record { whole = length-replicate hash_count false; hashed = λ k h. absurd (omega arith) }
+-- of no point any hashes are
+pub none_hashed : {hashes : Hashes} → hash_count ≡ length hashes.set → AllHashed [] hashes
+none_hashed whole = record { whole = sym whole; hashed = λ k h. absurd (omega arith) }
+
+pub no_hashes_whole : hash_count ≡ length no_hashes.set
+no_hashes_whole = sym (length-replicate hash_count false)
 
 -- one point more: those before it are where they were
 pub one_hashed : {points more : List Point} {hashes : Hashes} (p : Point) → AllHashed points hashes →

@@ -5,7 +5,7 @@ ghost use Rattle.std.specs.Prelude.{◌≡◌, false, get_or};
 ghost use Rattle.admission.specs.Admission.{Admitted};
 ghost use Rattle.admission.specs.Hashes.{AllHashed, hash, no_hashes, with_hash};
 
-use super::admission;
+use maps::places::is_new;
 use model::{POINT_LIMIT, Point, Ranged, Refusal};
 use plane::{COORDINATE_LIMIT, ranged};
 
@@ -51,7 +51,8 @@ impl Hashes {
 
 // A point that is accepted, as one in range, or why it is refused, where the hashes of the map's points are set: a
 // point in range whose hash is not set is none of them, and is refused only by a full map.
-// The first two tests are those of `admission` again: a point whose hash is not set does not reach it.
+// The rules of `admission`, one after another, with the hash asked before the points: to call `admission` for the rest
+// would test the first two rules again for each repeated point.
 pub fn admission_hashed(points: &[Point], hashes: &Hashes, p: Point) -> Result<Ranged, Refusal>
     requires { AllHashed points.now hashes.now }
     ensures { Admitted points.now p result }
@@ -63,7 +64,10 @@ pub fn admission_hashed(points: &[Point], hashes: &Hashes, p: Point) -> Result<R
     if !hashes.has(accepted) {
         return Ok(accepted);
     }
-    admission(points, p)
+    if !is_new(points, p) {
+        return Err(Refusal::Repeated);
+    }
+    Ok(accepted)
 }
 
 // The hash of a point.

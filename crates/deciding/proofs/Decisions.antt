@@ -34,7 +34,7 @@ use Rattle.survey.proofs.Texts.{next_further, line_at_refused}
 use Rattle.admission.specs.declared.hashes.Hashes.{Hashes}
 use Rattle.admission.specs.Admission.{Admitted, admission_by}
 use Rattle.admission.specs.Hashes.{AllHashed, no_hashes, with_hash}
-use Rattle.admission.proofs.Hashing.{none_hashed, one_hashed}
+use Rattle.admission.proofs.Hashing.{none_hashed, no_hashes_whole, one_hashed}
 use Rattle.printing.specs.Printing.{arrival_line}
 use Rattle.printing.proofs.Reports.{report_ended, report_goes_on}
 use Rattle.sight.specs.Requires.{Accepted}
@@ -69,7 +69,7 @@ unfolding answer_lines flatten table empty_map
 nothing_decided text answers r =
     record {
       is_sound = empty_is_sound;
-      all_hashed = none_hashed;
+      all_hashed = none_hashed no_hashes_whole;
       together = refl;
       few = omega arith;
       inside = omega arith;

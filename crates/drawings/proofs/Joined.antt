@@ -10,9 +10,8 @@ use lib.IntN.{ℤ, pos, negsuc}
 use lib.ListN.{length, get_or, take, drop, length-append, length-map, length-take, take-append-drop}
 use lib.Seq.{take-suc, take_all}
 use Rattle.model.specs.declared.Point.{Point}
-use Rattle.model.specs.declared.Map.{Map}
 use Rattle.model.specs.Spelling.{bytes, space, spelt}
-use Rattle.model.specs.Maps.{point}
+use Rattle.model.specs.Maps.{point_in}
 use Rattle.model.specs.Outlines.{point_text, joined}
 use Rattle.printing.specs.Writing.{Room, PutAt}
 use Rattle.printing.proofs.Decimals.{decimal_length}
@@ -91,81 +90,81 @@ joined_most p s = omega (arith, joined_length p s, position_most p, following_mo
 
 -- ---- those of the numbers before place i
 
-abbrev pub following_to : Map → List ℕ → ℕ → List ℕ
-following_to m others i = following (points_at m (take i others))
+abbrev pub following_to : List Point → List ℕ → ℕ → List ℕ
+following_to ps others i = following (points_at ps (take i others))
 
-module _ (m : Map) (others : List ℕ) where
+module _ (ps : List Point) (others : List ℕ) where
   -- one more, of the point that was read
   module _ {i : ℕ} (h : i < length others) {p : Point}
-      (read : p ≡ point m (get_or others i 0)) where
-    pub to_next : following_to m others (i + 1) ≡ following_to m others i ++ next_text p
+      (read : p ≡ point_in ps (get_or others i 0)) where
+    pub to_next : following_to ps others (i + 1) ≡ following_to ps others i ++ next_text p
     to_next =
         rw (add-one, take-suc others i 0 h, read)
-        (ap following (map-append (point m) (take i others) (get_or others i 0 ∷ []))
-        ∙ following_more (points_at m (take i others)) (point m (get_or others i 0)))
+        (ap following (map-append (point_in ps) (take i others) (get_or others i 0 ∷ []))
+        ∙ following_more (points_at ps (take i others)) (point_in ps (get_or others i 0)))
 
-    pub length_next : length (following_to m others (i + 1))
-        ≡ length (following_to m others i) + (2 + length (point_text p))
+    pub length_next : length (following_to ps others (i + 1))
+        ≡ length (following_to ps others i) + (2 + length (point_text p))
     length_next =
         omega (
           arith,
           ap length to_next,
-          length-append (following_to m others i) (next_text p),
+          length-append (following_to ps others i) (next_text p),
           next_length p,
         )
 
   pub to_all : {i : ℕ} → length others ≤ i →
-      following_to m others i ≡ following (points_at m others)
+      following_to ps others i ≡ following (points_at ps others)
   to_all {i} h = rw (take_all i others h)
 
-  pub to_most : (i : ℕ) → length (following_to m others i) ≤ 45 * length others
+  pub to_most : (i : ℕ) → length (following_to ps others i) ≤ 45 * length others
   to_most i =
       omega (
         arith,
-        following_most (points_at m (take i others)),
-        length-map (take i others) (point m),
+        following_most (points_at ps (take i others)),
+        length-map (take i others) (point_in ps),
         length-take i others,
       )
 
 -- ---- the loop that writes them
 
 -- the positions of the numbers before place i are written
-pub record Drawn (lent : List ℕ) (at : ℕ) (m : Map) (others now : List ℕ) (end i : ℕ)
+pub record Drawn (lent : List ℕ) (at : ℕ) (ps : List Point) (others now : List ℕ) (end i : ℕ)
     : Type 0 where
-  pub so_far : PutAt lent at (following_to m others i) now end
+  pub so_far : PutAt lent at (following_to ps others i) now end
   pub inside : i ≤ length others
 
-module _ {lent : List ℕ} {at : ℕ} (m : Map) (others : List ℕ) where
-  pub drawn_none : Drawn lent at m others lent at 0
+module _ {lent : List ℕ} {at : ℕ} (ps : List Point) (others : List ℕ) where
+  pub drawn_none : Drawn lent at ps others lent at 0
   drawn_none = record { so_far = wrote_none lent at; inside = omega arith }
 
-  module _ (r : Room lent at (following (points_at m others))) where
-    room_to : (i : ℕ) → Room lent at (following_to m others i)
+  module _ (r : Room lent at (following (points_at ps others))) where
+    room_to : (i : ℕ) → Room lent at (following_to ps others i)
     room_to i =
-        room_first (following_to m others i) (following (points_at m (drop i others)))
+        room_first (following_to ps others i) (following (points_at ps (drop i others)))
         (room_as
-        (ap (λ (s : List ℕ). following (points_at m s)) (sym (take-append-drop i others))
-        ∙ ap following (map-append (point m) (take i others) (drop i others))
-        ∙ following_append (points_at m (take i others)) (points_at m (drop i others)))
+        (ap (λ (s : List ℕ). following (points_at ps s)) (sym (take-append-drop i others))
+        ∙ ap following (map-append (point_in ps) (take i others) (drop i others))
+        ∙ following_append (points_at ps (take i others)) (points_at ps (drop i others)))
         r)
 
-    module _ {now : List ℕ} {end i : ℕ} (d : Drawn lent at m others now end i) where
+    module _ {now : List ℕ} {end i : ℕ} (d : Drawn lent at ps others now end i) where
       module _ (h : i < length others) {p : Point}
-          (read : p ≡ point m (get_or others i 0)) where
-        room_here : Room lent at (following_to m others i ++ next_text p)
-        room_here = room_as (to_next m others h read) (room_to (i + 1))
+          (read : p ≡ point_in ps (get_or others i 0)) where
+        room_here : Room lent at (following_to ps others i ++ next_text p)
+        room_here = room_as (to_next ps others h read) (room_to (i + 1))
 
         pub next_room : Room now end (next_text p)
         next_room = room_second d.so_far _ room_here
 
         pub drawn_next : {after : List ℕ} {end' : ℕ} → PutAt now end (next_text p) after end' →
-            Drawn lent at m others after end' (i + 1)
+            Drawn lent at ps others after end' (i + 1)
         drawn_next w =
             record {
-              so_far = wrote_as (to_next m others h read) (wrote_then d.so_far room_here w);
+              so_far = wrote_as (to_next ps others h read) (wrote_then d.so_far room_here w);
               inside = omega arith;
             }
 
-  pub drawn_whole : {now : List ℕ} {end i : ℕ} → Drawn lent at m others now end i →
-      length others ≤ i → PutAt lent at (following (points_at m others)) now end
-  drawn_whole d h = wrote_as (sym (to_all m others h)) d.so_far
+  pub drawn_whole : {now : List ℕ} {end i : ℕ} → Drawn lent at ps others now end i →
+      length others ≤ i → PutAt lent at (following (points_at ps others)) now end
+  drawn_whole d h = wrote_as (sym (to_all ps others h)) d.so_far

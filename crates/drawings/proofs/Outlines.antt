@@ -10,7 +10,7 @@ use lib.Seq.{take_all}
 use Rattle.model.specs.declared.Point.{Point}
 use Rattle.model.specs.declared.Map.{Map}
 use Rattle.model.specs.Spelling.{bytes}
-use Rattle.model.specs.Maps.{point, point_limit}
+use Rattle.model.specs.Maps.{point, point_in, point_limit}
 use Rattle.model.specs.Outlines.{outline_text, joined, corner_points}
 use Rattle.corners.specs.declared.listing.CornerList.{CornerList}
 use Rattle.corners.specs.Listing.{ListsCorners, listed}
@@ -19,11 +19,11 @@ use Rattle.drawings.proofs.Joined.{joined_more, joined_most}
 
 -- ---- by the number of corners
 
-pub text_none : (m : Map) (corners : List ℕ) → length corners ≡ 0 →
-    outline_text (points_at m corners) ≡ bytes "POLYGON EMPTY"
+pub text_none : (ps : List Point) (corners : List ℕ) → length corners ≡ 0 →
+    outline_text (points_at ps corners) ≡ bytes "POLYGON EMPTY"
 unfolding outline_text
-text_none m [] e = refl
-text_none m (a ∷ s) e = absurd (omega arith)
+text_none ps [] e = refl
+text_none ps (a ∷ s) e = absurd (omega arith)
 
 -- all corners but the first, as the code takes them
 abbrev pub others : List ℕ → List ℕ
@@ -33,38 +33,38 @@ others_are : (a : ℕ) (s : List ℕ) → others (a ∷ s) ≡ s
 others_are a s = take_all (length (a ∷ s) - 1) s (omega arith)
 
 -- where p was read for the first corner
-module _ (m : Map) where
-  pub text_one : (corners : List ℕ) {p : Point} → p ≡ point m (get_or corners 0 0) →
+module _ (ps : List Point) where
+  pub text_one : (corners : List ℕ) {p : Point} → p ≡ point_in ps (get_or corners 0 0) →
       length corners ≡ 1 →
-      outline_text (points_at m corners)
-      ≡ bytes "POINT (" ++ joined p (points_at m (others corners)) ++ bytes ")"
+      outline_text (points_at ps corners)
+      ≡ bytes "POINT (" ++ joined p (points_at ps (others corners)) ++ bytes ")"
   unfolding outline_text
   text_one [] read e = absurd (omega arith)
   text_one (a ∷ []) read e = rw read
   text_one (a ∷ b ∷ s) read e = absurd (omega arith)
 
-  pub text_two : (corners : List ℕ) {p : Point} → p ≡ point m (get_or corners 0 0) →
+  pub text_two : (corners : List ℕ) {p : Point} → p ≡ point_in ps (get_or corners 0 0) →
       length corners ≡ 2 →
-      outline_text (points_at m corners)
-      ≡ bytes "LINESTRING (" ++ joined p (points_at m (others corners)) ++ bytes ")"
+      outline_text (points_at ps corners)
+      ≡ bytes "LINESTRING (" ++ joined p (points_at ps (others corners)) ++ bytes ")"
   unfolding outline_text
   text_two [] read e = absurd (omega arith)
   text_two (a ∷ []) read e = absurd (omega arith)
   text_two (a ∷ b ∷ []) read e = rw read
   text_two (a ∷ b ∷ c ∷ s) read e = absurd (omega arith)
 
-  pub text_more : (corners : List ℕ) {p : Point} → p ≡ point m (get_or corners 0 0) →
+  pub text_more : (corners : List ℕ) {p : Point} → p ≡ point_in ps (get_or corners 0 0) →
       3 ≤ length corners →
-      outline_text (points_at m corners)
-      ≡ bytes "POLYGON ((" ++ joined p (points_at m (others corners)) ++ next_text p
+      outline_text (points_at ps corners)
+      ≡ bytes "POLYGON ((" ++ joined p (points_at ps (others corners)) ++ next_text p
       ++ bytes "))"
   unfolding outline_text
   text_more [] read h = absurd (omega arith)
   text_more (a ∷ []) read h = absurd (omega arith)
   text_more (a ∷ b ∷ []) read h = absurd (omega arith)
   text_more (a ∷ b ∷ c ∷ s) read h =
-      let p = point m a in
-      let rest = points_at m (b ∷ c ∷ s) in
+      let p = point_in ps a in
+      let rest = points_at ps (b ∷ c ∷ s) in
       rw (read, others_are a (b ∷ c ∷ s))
       (ap (λ (l : List ℕ). bytes "POLYGON ((" ++ l ++ bytes "))") (joined_more p rest p)
       ∙ ap (λ (l : List ℕ). l ++ bytes "))")
@@ -80,20 +80,20 @@ pub others_few : (corners : List ℕ) → length corners ≤ point_limit →
 others_few corners h =
     omega (arith, length-take (length corners - 1) (drop 1 corners), length-drop 1 corners)
 
-pub positions_most : (m : Map) (p : Point) (corners : List ℕ) →
+pub positions_most : (ps : List Point) (p : Point) (corners : List ℕ) →
     length corners ≤ point_limit →
-    length (joined p (points_at m (others corners))) ≤ 43 + 45 * point_limit
-positions_most m p corners h =
+    length (joined p (points_at ps (others corners))) ≤ 43 + 45 * point_limit
+positions_most ps p corners h =
     omega (
       arith,
-      joined_most p (points_at m (others corners)),
-      length-map (others corners) (point m),
+      joined_most p (points_at ps (others corners)),
+      length-map (others corners) (point_in ps),
       others_few corners h,
     )
 
 -- ---- of a map's corners
 
 module _ {m : Map} {list : CornerList} (l : ListsCorners m list) where
-  pub listed_text : outline_text (points_at m (listed list)) ≡ outline_text (corner_points m)
-  unfolding corner_points
-  listed_text = ap (λ (s : List ℕ). outline_text (points_at m s)) l.members
+  pub listed_text : outline_text (points_at m.points (listed list)) ≡ outline_text (corner_points m)
+  unfolding corner_points point
+  listed_text = ap (λ (s : List ℕ). outline_text (points_at m.points s)) l.members

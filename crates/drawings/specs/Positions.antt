@@ -3,14 +3,13 @@
 -- Document 02, request 101: "Write the corners as POLYGON ((0 0, 4 0, 6 7, 1 3, 0 0))".
 use Rattle.std.specs.Prelude.{List, ◌++◌, map, ℕ}
 use Rattle.model.specs.declared.Point.{Point}
-use Rattle.model.specs.declared.Map.{Map}
 use Rattle.model.specs.Spelling.{bytes}
-use Rattle.model.specs.Maps.{point}
+use Rattle.model.specs.Maps.{point_in}
 use Rattle.model.specs.Outlines.{point_text}
 
--- the points of a map that have these numbers
-abbrev pub points_at : Map → List ℕ → List Point
-points_at m = map (point m)
+-- those of the points that have these numbers
+abbrev pub points_at : List Point → List ℕ → List Point
+points_at points = map (point_in points)
 
 -- a comma, a space and the position
 unfoldable pub next_text : Point → List ℕ

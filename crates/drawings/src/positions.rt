@@ -7,7 +7,7 @@ ghost use Rattle.model.specs.Outlines.{joined, point_text};
 ghost use Rattle.printing.specs.Writing.{Room, PutAt};
 ghost use Rattle.drawings.specs.Positions.{next_text, points_at};
 
-use model::{Map, Point};
+use model::{Point, point_in};
 use printing::writing::{number_length, put_byte, put_number, put_word};
 
 // How many bytes a position takes.
@@ -41,13 +41,13 @@ pub fn put_next(lent: &mut [u8], at: usize, p: Point) -> usize
 
 // How many bytes the positions of a first point and of other ones take. They are a map's corners at
 // most.
-pub fn positions_length(map: &Map, first: Point, others: &[usize]) -> usize
+pub fn positions_length(points: &[Point], first: Point, others: &[usize]) -> usize
     requires { length others.now ≤ point_limit }
-    ensures { result ≡ length (joined first (points_at map.now others.now)) }
+    ensures { result ≡ length (joined first (points_at points.now others.now)) }
 {
     let mut total = position_length(first);
     for &a in others {
-        total += 2 + position_length(map.point(a));
+        total += 2 + position_length(point_in(points, a));
     }
     total
 }
@@ -57,17 +57,17 @@ pub fn put_positions<'a>(
     lent: &mut [u8],
     at: usize,
     word: &'a [u8],
-    map: &'a Map,
+    points: &'a [Point],
     first: Point,
     others: &'a [usize],
 ) -> usize
-    requires { Room lent.old at (word.now ++ joined first (points_at map.now others.now)) }
-    ensures { PutAt lent.old at (word.now ++ joined first (points_at map.now others.now)) lent.new result }
+    requires { Room lent.old at (word.now ++ joined first (points_at points.now others.now)) }
+    ensures { PutAt lent.old at (word.now ++ joined first (points_at points.now others.now)) lent.new result }
 {
     let position = put_word(lent, at, word);
     let mut end = put_position(lent, position, first);
     for &a in others {
-        end = put_next(lent, end, map.point(a));
+        end = put_next(lent, end, point_in(points, a));
     }
     end
 }

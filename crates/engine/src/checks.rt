@@ -6,7 +6,7 @@ use model::{Map, Refusal, SoundMap};
 use soundness::checked;
 
 // The map as a sound one where a dart of it is present: numbers 1 and 6.
-pub fn check_dart(map: &Map, dart: usize) -> Result<SoundMap<'_>, Refusal>
+pub(crate) fn check_dart(map: &Map, dart: usize) -> Result<SoundMap<'_>, Refusal>
     ensures { CheckedDart map.now dart result }
 {
     let sound = checked(map)?;

@@ -25,7 +25,7 @@ use Rattle.model.proofs.Answers.{unless_append, outcome_refuses, outcome_serves}
 use Rattle.maps.proofs.Empty.{empty_sound}
 use Rattle.admission.specs.declared.hashes.Hashes.{Hashes}
 use Rattle.admission.specs.Admission.{Admitted, admission_by}
-use Rattle.admission.specs.Hashes.{no_hashes, with_hash, AllHashed}
+use Rattle.admission.specs.Hashes.{hash_count, with_hash, AllHashed}
 use Rattle.admission.proofs.Hashing.{none_hashed}
 use Rattle.sight.specs.Requires.{Accepted}
 use Rattle.hull.proofs.Arrivals.{arrive_sound}
@@ -40,13 +40,13 @@ pub record Taking (ps : List Point) (k : ℕ) (m : Map) (hashes : Hashes) : Type
   outcome : outcome_by (building_rules m (drop k ps)) ≡ outcome_by (building_rules empty_map ps)
   map_is : built m (drop k ps) ≡ built empty_map ps
 
-pub none_taken : (ps : List Point) → Taking ps 0 empty_map no_hashes
+pub none_taken : (ps : List Point) {hashes : Hashes} → hash_count ≡ length hashes.set → Taking ps 0 empty_map hashes
 unfolding empty_map
-none_taken ps =
+none_taken ps whole =
     record {
       is_sound = empty_sound;
       counted = refl;
-      all_hashed = none_hashed;
+      all_hashed = none_hashed whole;
       outcome = refl;
       map_is = refl;
     }

@@ -6,7 +6,7 @@ ghost use Rattle.model.specs.Arrival.{admitted, arrive, arrived, later_point};
 ghost use Rattle.sight.specs.Requires.{Accepted, OutlineFor};
 
 use admission::admission;
-use linking::{FIRST, INSIDE, pair, put_alone, splice};
+use linking::{FIRST, INSIDE, put_alone, put_between, put_pair};
 use model::{Arrival, Map, Offered, Point, Refusal, SoundMap};
 use sight::{Outlook, seen_from};
 
@@ -35,7 +35,7 @@ pub fn grow(map: &mut Map, p: Point) -> Arrival
         return Arrival::First;
     }
     if map.count == 1 {
-        pair(map, p);
+        put_pair(map, p);
         return Arrival::Second;
     }
     grow_later(map, p)
@@ -51,7 +51,7 @@ fn grow_later(map: &mut Map, p: Point) -> Arrival
         put_alone(map, INSIDE, p);
         return Arrival::Inside;
     }
-    splice(map, p, seen.left, seen.right);
+    put_between(map, p, seen.left, seen.right);
     Arrival::Outside {
         left: seen.left,
         right: seen.right,

@@ -2,14 +2,14 @@
 // alone, the first two points and every later corner are linked.
 #![tactic(auto)]
 
-ghost use Rattle.std.specs.Prelude.{◌≡◌, ◌<◌};
+ghost use Rattle.std.specs.Prelude.{◌≡◌, ◌<◌, true, set};
 ghost use Rattle.orbits.specs.Sets.{dart_limit};
 ghost use Rattle.orbits.specs.Links.{link_of};
-ghost use Rattle.model.specs.Maps.{point_limit};
+ghost use Rattle.model.specs.Maps.{point_limit, own, helper};
 ghost use Rattle.model.specs.Arrival.{alone, cut, freed_by, freeing_by, freeing_none, join, pair, spliced, with_point};
 ghost use Rattle.linking.specs.Requires.{Cuttable, Linked, Spliceable};
 
-use model::{Map, NONE_FREED, Note, Point};
+use model::{Map, NONE_FREED, Note, POINT_LIMIT, Point};
 use orbits::{DART_LIMIT, link_of};
 
 // How a point arrived, as it is noted.
@@ -103,33 +103,58 @@ pub fn put_alone(map: &mut Map, kind: u8, p: Point)
 }
 
 // Points 0 and 1 have helpers, and an edge leads each way between them.
+pub fn pair(helpers: &mut [bool; POINT_LIMIT], edge: &mut [usize; DART_LIMIT])
+    ensures { (helpers.new ≡ set (set helpers.old 0 true) 1 true)
+        × (edge.new ≡ join 2 1 (join 0 3 edge.old)) }
+{
+    helpers[0] = true;
+    helpers[1] = true;
+    join(edge, 0, 3);
+    join(edge, 2, 1);
+}
+
+// Point k is a corner between the corners `left` and `right`.
+pub fn splice(
+    helpers: &mut [bool; POINT_LIMIT],
+    edge: &mut [usize; DART_LIMIT],
+    k: usize,
+    left: usize,
+    right: usize,
+)
+    requires room { k < point_limit }
+    requires linked { Linked edge.old left right }
+    ensures { (helpers.new ≡ set helpers.old k true)
+        × (edge.new ≡ join (own k) (helper right)
+        (join (own left) (helper k) (cut (helper right) (cut (own left) edge.old)))) }
+{
+    let l = 2 * left;
+    let r = 2 * right + 1;
+    helpers[k] = true;
+    cut(edge, l);
+    cut(edge, r);
+    join(edge, l, 2 * k + 1);
+    join(edge, 2 * k, r);
+}
+
+// The second point arrives: it is paired with the first.
 #[tactic(auto, unfolding(model::specs::Arrival::pair, model::specs::Arrival::with_point))]
-pub fn pair(map: &mut Map, p: Point)
+pub fn put_pair(map: &mut Map, p: Point)
     requires { map.old.count < point_limit }
     ensures { map.new ≡ pair map.old p }
 {
     put_point(map, p, freeing_none(SECOND));
-    map.helpers[0] = true;
-    map.helpers[1] = true;
-    join(&mut map.edge, 0, 3);
-    join(&mut map.edge, 2, 1);
+    pair(&mut map.helpers, &mut map.edge);
     map.reference = 2;
 }
 
-// The next point is a corner between the corners `left` and `right`.
-pub fn splice(map: &mut Map, p: Point, left: usize, right: usize)
+// A point arrives between the corners `left` and `right`.
+pub fn put_between(map: &mut Map, p: Point, left: usize, right: usize)
     requires { Spliceable map.old left right }
     ensures { map.new ≡ spliced map.old p left right }
 {
     let k = map.count;
     let note = freeing(&map.edge, left, right);
-    let l = 2 * left;
-    let r = 2 * right + 1;
-    map.helpers[k] = true;
-    cut(&mut map.edge, l);
-    cut(&mut map.edge, r);
-    join(&mut map.edge, l, 2 * k + 1);
-    join(&mut map.edge, 2 * k, r);
+    splice(&mut map.helpers, &mut map.edge, k, left, right);
     map.reference = 2 * k;
     put_point(map, p, note);
 }

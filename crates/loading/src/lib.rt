@@ -13,9 +13,10 @@ use crate::reading::points_in;
 use comparing::same;
 use layout::numbers::number_at;
 use layout::{COUNT_PLACE, VERSION_PLACE};
+use maps::empty_map;
 use model::{Map, Refusal, SoundMap};
 use saved::write_map;
-use soundness::rebuild;
+use soundness::rebuild_in;
 
 // How many bytes a file has at most.
 const FILE_LIMIT: usize = 9225;
@@ -27,7 +28,9 @@ pub fn map_of(file: &[u8]) -> Result<Map, Refusal>
 {
     let count = number_at(file, COUNT_PLACE, 2);
     let points = points_in(file, count);
-    let map = rebuild(&points, count).ok_or(Refusal::NotSound)?;
+    // In a map of its own, and not by `rebuild`, whose map would be copied out of what it answers.
+    let mut map = empty_map();
+    rebuild_in(&mut map, &points, count).ok_or(Refusal::NotSound)?;
     let version = number_at(file, VERSION_PLACE, 1);
     if !writes(SoundMap { map: &map }, version, file) {
         return Err(Refusal::NotSound);

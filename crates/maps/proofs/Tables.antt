@@ -3,21 +3,64 @@
 -- so with the present darts; and where the edge links undo themselves, both links permute the present darts.
 use mathlib.Core.Path.{◌≡◌, refl, sym, ap, subst, ◌∙◌}
 use mathlib.Core.Logic.{⊎_elim}
-use mathlib.Core.Bool.{Bool, false}
+use mathlib.Core.Bool.{Bool, true, false, cond}
 use mathlib.Core.List.{List}
-use Prim.Native.Nat.{ℕ, ◌≤◌, ◌<◌}
+use Prim.Native.Nat.{ℕ, ◌+◌, ◌-◌, ◌≤◌, ◌<◌}
 use native.Mathlib.Omega.{arith}
 use borrow.Author.Tests.{le-ltb}
-use lib.ListN.{length, get_or, get_or-eq_default}
+use mir.Val.{bool_byte}
+use lib.ListN.{length, get_or, set, replicate, get_or-eq_default}
 use Rattle.finite.specs.Bounded.{table, lt_or_ge, length_table, get_or_table}
+use Rattle.finite.specs.ListLaws.{replicate_at}
+use Rattle.finite.specs.Loops.{Filled, one_filled}
 use Rattle.orbits.specs.Sets.{dart_limit}
 use Rattle.orbits.specs.Links.{Composable, Permutes, Involutes, Permuted, link_of, test_of}
 use Rattle.orbits.proofs.Permutations.{involution_permutes}
 use Rattle.model.specs.declared.Map.{Map}
-use Rattle.model.specs.Maps.{point_limit, owner, has_helper, is_present, edge_link, point_link, dart_bound}
+use Rattle.model.specs.Maps.{point_limit, own, helper, owner, other_dart, present_by, point_link_by, has_helper, is_present, edge_link, point_link, dart_bound}
 use Rattle.model.specs.Shape.{Shaped}
-use Rattle.maps.proofs.Darts.{present_dart}
+use Rattle.maps.proofs.Darts.{owner_own, owner_helper, other_own, other_helper, present_dart}
 use Rattle.maps.proofs.Links.{point_involutes}
+
+-- ---- a loop that writes the point links, two for each point
+
+own_by : (b : Bool) (k : ℕ) → own k + bool_byte b ≡ cond b (other_dart (own k)) (own k)
+own_by true k = omega (arith, other_own k)
+own_by false k = omega arith
+
+helper_by : (b : Bool) (k : ℕ) → helper k - bool_byte b ≡ cond b (other_dart (helper k)) (helper k)
+helper_by true k = omega (arith, other_helper k)
+helper_by false k = omega arith
+
+module _ (helped : ℕ → Bool) (k : ℕ) where
+  own_linked : own k + bool_byte (helped k) ≡ point_link_by helped (own k)
+  own_linked =
+      own_by (helped k) k ∙ ap (λ (j : ℕ). cond (helped j) (other_dart (own k)) (own k)) (sym (owner_own k))
+
+  helper_linked : helper k - bool_byte (helped k) ≡ point_link_by helped (helper k)
+  helper_linked =
+      helper_by (helped k) k ∙ ap (λ (j : ℕ). cond (helped j) (other_dart (helper k)) (helper k)) (sym (owner_helper k))
+
+  pub pair_filled : {links : List ℕ} → Filled (point_link_by helped) 0 dart_limit (own k) links → k < point_limit →
+      Filled (point_link_by helped) 0 dart_limit (own (k + 1))
+      (set (set links (own k) (own k + bool_byte (helped k))) (helper k) (helper k - bool_byte (helped k)))
+  pair_filled {links} f l =
+      let first = one_filled (own k) f (omega arith) (own k + bool_byte (helped k)) own_linked in
+      subst
+      (λ (n : ℕ).
+      Filled (point_link_by helped) 0 dart_limit n
+      (set (set links (own k) (own k + bool_byte (helped k))) (helper k) (helper k - bool_byte (helped k))))
+      (let e : helper k + 1 ≡ own (k + 1) = omega arith in e)
+      (one_filled (helper k) first (omega arith) (helper k - bool_byte (helped k)) helper_linked)
+
+-- ---- a loop that asks which darts are present, up to those of the last point
+
+-- a list of no answers holds what is true from there on
+pub none_present : (helped : ℕ → Bool) (count : ℕ) (d : ℕ) → own count ≤ d →
+    get_or (replicate dart_limit false) d false ≡ present_by helped count d
+none_present helped count d h = replicate_at dart_limit false d ∙ sym (rw (le-ltb (owner d) count (omega arith)))
+
+-- ---- what such lists hold
 
 -- a table of a rule that gives the default past the table
 get_or_rule : {A : Type 0} (n : ℕ) (f past : ℕ → A) → ((d : ℕ) → n ≤ d → f d ≡ past d) →

@@ -29,11 +29,11 @@ pub fn write_outline(map: &Map, lent: &mut [u8]) -> Result<usize, Refusal>
     let sound = checked(map)?;
     let list = corners_of(sound);
     let corners = list.as_slice();
-    let length = text_length(map, corners);
+    let length = text_length(&map.points, corners);
     if lent.len() < length {
         return Err(Refusal::ShortList);
     }
-    write_text(map, corners, lent);
+    write_text(&map.points, corners, lent);
     Ok(length)
 }
 

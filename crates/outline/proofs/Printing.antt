@@ -53,10 +53,10 @@ module _ {answers : List ℕ} {d : Summary} {buffer after : List ℕ} {from : �
   goes_further some = (piece_further answers d w some, one_printed.inside)
 
   -- a piece that has no bytes is the last
-  pub all_printed : {A E : Type 0} (a : A) → Fits d → r.length ≡ 0 → PrintsLines {E = E} answers d (Ok a)
+  pub all_printed : {A E : Type 0} (a : A) → Fits d → r.length ≡ 0 →
+      PrintsLines {E = E} answers d r.next (Ok a)
   all_printed a f none =
       record {
-        next = r.next;
         bytes = one_printed.bytes;
         pieces = one_printed.pieces;
         whole = piece_last answers d w f (omega (arith, p.long)) p.inside none;
@@ -69,19 +69,18 @@ failed P (Err x) e = tt
 
 -- a piece that cannot be written is not counted
 pub print_failed : {A E : Type 0} {answers : List ℕ} {d : Summary} {buffer : List ℕ} {from : ℕ} →
-    Printing answers d buffer from → (r : Result A E) → IsErr r → PrintsLines answers d r
+    Printing answers d buffer from → (r : Result A E) → IsErr r → PrintsLines answers d from r
 print_failed {d = d} {from = from} p r e =
     record {
-      next = from;
       bytes = p.bytes;
       pieces = p.pieces;
       whole = failed (from ≡ line_count d.ends) r e;
     }
 
 -- pieces to the end are the report
-pub report_printed : {A E : Type 0} {text answers : List ℕ} {d : Summary} {r : Result A E} →
-    Decides text answers d → PrintsLines answers d r → PrintsReport text r
-report_printed {A} {E} {text} {answers} {d} {r} decides p =
+pub report_printed : {A E : Type 0} {text answers : List ℕ} {d : Summary} {next : ℕ} {r : Result A E} →
+    Decides text answers d → PrintsLines answers d next r → PrintsReport text next r
+report_printed {A} {E} {text} {answers} {d} {next} {r} decides p =
     record {
       answers = answers;
       decided = d;
@@ -89,6 +88,6 @@ report_printed {A} {E} {text} {answers} {d} {r} decides p =
       is_report = go r p.whole;
     }
   where
-    go : (r : Result A E) → OnOk r (p.next ≡ line_count d.ends) → OnOk r (p.bytes ≡ report text)
+    go : (r : Result A E) → OnOk r (next ≡ line_count d.ends) → OnOk r (p.bytes ≡ report text)
     go (Ok a) e = pieces_are_the_report decides (rw e at p.pieces)
     go (Err x) e = tt

@@ -32,7 +32,8 @@ fn main(rt: HostRuntime) {
         let _ = rt.eprintln("outline: standard input cannot be read");
         return;
     };
-    if print_report(&rt, &text[..length]).is_err() {
+    let mut next = 0;
+    if print_report(&rt, &text[..length], &mut next).is_err() {
         let _ = rt.eprintln("outline: standard output cannot be written");
     }
 }
@@ -60,30 +61,37 @@ fn read_text<R: Read>(stdin: &mut R, text: &mut [u8]) -> io::Result<usize>
     Ok(filled)
 }
 
-// Prints the report on a text.
-fn print_report(rt: &impl Print, text: &[u8]) -> io::Result<()>
-    ensures { PrintsReport text.now result }
+// Prints the report on a text. The position up to which it is printed stands in `next`, also where a
+// write failed.
+fn print_report(rt: &impl Print, text: &[u8], next: &mut usize) -> io::Result<()>
+    ensures { PrintsReport text.now next.new result }
 {
     let mut answers = no_answers();
     let decided = decide(text, &mut answers);
-    print_lines(rt, &answers, &decided)
+    print_lines(rt, &answers, &decided, next)
 }
 
 // Prints what was decided piece by piece, each of whole lines.
-fn print_lines(rt: &impl Print, answers: &[u32], decided: &Summary) -> io::Result<()>
+fn print_lines(
+    rt: &impl Print,
+    answers: &[u32],
+    decided: &Summary,
+    next: &mut usize,
+) -> io::Result<()>
     requires { Fits decided.now }
-    ensures { PrintsLines answers.now decided.now result }
+    ensures { PrintsLines answers.now decided.now next.new result }
 {
     let mut buffer = empty_buffer();
-    let mut from = 0;
+    *next = 0;
     // By how far each piece came, which no range tells beforehand.
     loop {
-        let piece = write_lines(answers, decided, from, &mut buffer);
+        let piece = write_lines(answers, decided, *next, &mut buffer);
         if piece.length == 0 {
+            *next = piece.next;
             return Ok(());
         }
         rt.write_all(&buffer[..piece.length])?;
-        from = piece.next;
+        *next = piece.next;
     }
 }
 

@@ -4,13 +4,11 @@
 -- one of `over_at`, with the place after what was written.
 use mathlib.Core.Path.{◌≡◌, refl, sym, ap, subst, ◌∙◌}
 use mathlib.Core.List.{List, [], ◌∷◌, ◌++◌}
-use Prim.Native.Nat.{ℕ, ◌+◌, ◌-◌}
+use Prim.Native.Nat.{ℕ, ◌+◌, ◌≤◌}
 use native.Mathlib.Omega.{arith}
 use lib.ListN.{length, set, length-append}
-use borrow.Rule.Slice.PartMut.{put_mid}
-use lib.Seq.{take-length}
-use Rattle.std.proofs.lemmas.Slice.{put_mid-paste}
-use Rattle.finite.specs.Overwriting.{over_at, over_stores, over_at_length, over_nothing, over_then, over_before}
+use Rattle.finite.specs.Overwriting.{over_stores, over_at_length, over_nothing, over_then}
+use Rattle.finite.specs.Overwriting.{over_before, Copied, all_copied}
 use Rattle.printing.specs.Writing.{Room, PutAt}
 
 pub wrote_byte : {lent : List ℕ} {at b : ℕ} → Room lent at (b ∷ []) →
@@ -54,17 +52,9 @@ wrote_before {lent} {s} {at = at} b r w =
 
 -- ---- a word
 
-pub wrote_part : (lent word : List ℕ) (at : ℕ) {now : List ℕ} → now ≡ word →
-    PutAt lent at word (put_mid at (at + length word - at) lent now) (at + length word)
-unfolding over_at
-wrote_part lent word at e =
-    let size : length word ≡ at + length word - at = omega arith in
-    record {
-      holds =
-          put_mid-paste at (at + length word - at) lent _ word (length word) e size refl
-          ∙ rw (take-length word);
-      ends = refl;
-    }
+pub wrote_word : {lent word now : List ℕ} {at i : ℕ} → Copied lent at word now i → length word ≤ i →
+    PutAt lent at word now (at + length word)
+wrote_word c h = record { holds = all_copied c h; ends = refl }
 
 -- ---- the same bytes, written in another way
 

@@ -16,13 +16,16 @@ pub fn put_byte(lent: &mut [u8], at: usize, b: u8) -> usize
 }
 
 // Writes a list of bytes.
+// Byte by byte and no `copy_from_slice`: where a word's length is not seen, that calls `memmove`, and the archive for C
+// needs `memcpy` and `memset` alone.
 pub fn put_word(lent: &mut [u8], at: usize, word: &[u8]) -> usize
     requires { Room lent.old at word.now }
     ensures { PutAt lent.old at word.now lent.new result }
 {
-    let end = at + word.len();
-    lent[at..end].copy_from_slice(word);
-    end
+    for i in 0..word.len() {
+        lent[at + i] = word[i];
+    }
+    at + word.len()
 }
 
 // Writes a number in decimal, with a minus where it is negative.

@@ -31,7 +31,6 @@ use engine::files::load;
 use engine::texts::report;
 use layout::{VERSION, saved_length};
 use listings::read_outline;
-use maps::empty_map;
 use maps::traversal::{counts_of, moved, orbit_of, walk_of};
 use marking::mark;
 use measures::area_of;
@@ -44,7 +43,6 @@ use replies::writing::{
     check_room, code, uncounted, write_admitted, write_corner_list, write_darts, write_saved,
     write_values,
 };
-use saved::write_map;
 use survey::lines::read_line;
 
 // The orientation of three points: numbers 3 and 10.
@@ -81,7 +79,8 @@ pub extern "C" fn reach_empty(out: &mut [u8]) -> u32
     code(write_empty(out))
 }
 
-// The bytes of the map without points.
+// The bytes of the map without points: 5 more after the first four, version 2, no point, and no reference.
+// As numbers and not by `write_map`, for which the whole map would be made.
 fn write_empty(out: &mut [u8]) -> Result<(), Refusal>
     ensures { Served (only (saved empty_map)) out.old out.new (code_of result) }
 {
@@ -89,9 +88,7 @@ fn write_empty(out: &mut [u8]) -> Result<(), Refusal>
     if out.len() < length {
         return Err(Refusal::ShortList);
     }
-    let map = empty_map();
-    let sound = SoundMap { map: &map };
-    write_map(sound, VERSION, out);
+    out[..length].copy_from_slice(&[0, 0, 0, 5, 2, 0, 0, 4, 0]);
     Ok(())
 }
 
@@ -295,7 +292,7 @@ fn write_placed(map: &[u8], p: Point, out: &mut [u64]) -> Result<(), Refusal>
     let map = load_near(map, p)?;
     let sound = SoundMap { map: &map };
     let p = Ranged { point: p };
-    write_values(&placed_values(placed(sound, p)), out)
+    write_values(&placed_values(Ok(placed(sound, p))), out)
 }
 
 // The corners in listing order, and how many they are: numbers 7, 1 and 10.
@@ -397,9 +394,9 @@ fn write_outline_text(
     let map = sound.map;
     let list = corners_of(sound);
     let corners = list.as_slice();
-    let written = text_length(map, corners);
+    let written = text_length(&map.points, corners);
     check_room(written, out, 1, count)?;
-    write_text(map, corners, out);
+    write_text(&map.points, corners, out);
     count[0] = written;
     Ok(())
 }

@@ -97,7 +97,7 @@ fn write_offered(
         (arrival_told (arrival_answer (Ok arrived))) out.old out.new
         arrival.old arrival.new (code_of result) }
 {
-    let values = arrival_values(arrived);
+    let values = arrival_values(Ok(arrived));
     let length = saved_length(VERSION, sound.map.count);
     check_room(length, out, values.len(), arrival)?;
     write_map(sound, VERSION, out);

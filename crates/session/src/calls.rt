@@ -1,6 +1,9 @@
 // One function for each entry that answers: it writes the call, asks the engine, and ends the line with
 // the answer.
 
+ghost use Rattle.std.specs.Prelude.{◌≡◌, IfOk};
+ghost use Rattle.model.specs.Offers.{map_after, offer};
+
 use crate::telling::{
     say_naturals, say_point, tell, tell_bytes, tell_darts, tell_number, tell_numbers, tell_refused,
 };
@@ -27,7 +30,9 @@ pub(crate) fn is_sound(rt: &impl Print, map: &Map) -> io::Result<()> {
 
 // The map that is returned goes on to the next call: where the point is refused, it is the one that was
 // lent.
-pub(crate) fn offer(rt: &impl Print, map: &Map, p: Point) -> io::Result<Map> {
+pub(crate) fn offer(rt: &impl Print, map: &Map, p: Point) -> io::Result<Map>
+    ensures { IfOk result (λ after. after ≡ map_after map.now (offer map.now p)) }
+{
     rt.print("offer")?;
     say_point(rt, p)?;
     match engine::offer(map, p) {

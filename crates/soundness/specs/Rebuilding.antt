@@ -8,3 +8,8 @@ use Rattle.model.specs.Building.{building_rules, built}
 
 abbrev pub rebuilt : List Point → Option Map
 rebuilt ps = unless (λ r. None) (building_rules empty_map ps) (Some (built empty_map ps))
+
+-- a map that was lent for it, where one is told
+abbrev pub rebuilt_in : {A : Type 0} → Option A → Map → Option Map
+rebuilt_in (Some a) m = Some m
+rebuilt_in None m = None

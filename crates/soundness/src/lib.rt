@@ -3,10 +3,10 @@
 
 ghost use Rattle.std.specs.Prelude.{◌≡◌};
 ghost use Rattle.finite.specs.Bounded.{table};
-ghost use Rattle.model.specs.Maps.{point_in};
+ghost use Rattle.model.specs.Maps.{empty_map, point_in};
 ghost use Rattle.model.specs.Sound.{agree, sound};
 ghost use Rattle.soundness.specs.Checking.{Checked};
-ghost use Rattle.soundness.specs.Rebuilding.{rebuilt};
+ghost use Rattle.soundness.specs.Rebuilding.{rebuilt, rebuilt_in};
 
 use admission::hashes::{Hashes, admission_hashed};
 use comparing::same;
@@ -35,21 +35,30 @@ pub fn is_sound(map: &Map) -> bool
     }
 }
 
-// The map of the first points of a list, offered one after another, or none where one is refused. No map has more than
-// 512 points, so this ends soon whatever the count.
+// The map of the first points of a list, offered one after another, or none where one is refused.
 pub fn rebuild(points: &[Point], count: usize) -> Option<Map>
     ensures { result ≡ rebuilt (table count (point_in points.now)) }
 {
     let mut map = empty_map();
+    rebuild_in(&mut map, points, count)?;
+    Some(map)
+}
+
+// The same in a map that is lent, the empty one, for a caller that keeps it: it holds the map, or none where one is
+// refused. No map has more than 512 points, so this ends soon whatever the count.
+pub fn rebuild_in(map: &mut Map, points: &[Point], count: usize) -> Option<()>
+    requires { map.old ≡ empty_map }
+    ensures { rebuilt_in result map.new ≡ rebuilt (table count (point_in points.now)) }
+{
     let mut hashes = Hashes::empty();
     // By number: the count may go beyond the list, where points lie at 0, 0.
     for k in 0..count {
         let p = point_in(points, k);
         let accepted = admission_hashed(&map.points[..map.count], &hashes, p).ok()?;
-        grow(&mut map, accepted.point);
+        grow(map, accepted.point);
         hashes.put(accepted);
     }
-    Some(map)
+    Some(())
 }
 
 // Whether two maps have the same fields.

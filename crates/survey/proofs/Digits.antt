@@ -1,21 +1,19 @@
 -- Digits read one after another, in the order of this page: what a digit is; values of k digits are
 -- below 10^k, for any limit of k; the digits at the front of a list; what the loop that adds up
--- their value knows at a place; what the test of a magnitude says.
-use mathlib.Core.Path.{◌≡◌, refl, ap}
-use mathlib.Core.Logic.{◌⊎◌, inl, inr, ⊎_elim}
-use mathlib.Core.Bool.{true, false, not, ◌&&◌}
+-- their value knows at a place; what the test of a magnitude says; what is read when the loop is
+-- over.
+use mathlib.Core.Path.{◌≡◌, refl, sym, ap, ◌∙◌}
+use mathlib.Core.Logic.{◌≢◌, ◌⊎◌, inl, inr, ⊎_elim}
+use mathlib.Core.Bool.{Bool, true, false, not, ◌&&◌, ◌||◌, false≢true}
 use mathlib.Core.List.{List, [], ◌∷◌}
-use Prim.Native.Nat.{ℕ, zero, suc, ◌+◌, ◌-◌, ◌*◌, ◌^◌, ◌≤◌, ◌<◌}
+use Prim.Native.Nat.{ℕ, ◌+◌, ◌-◌, ◌*◌, ◌^◌, ◌≤◌, ◌<◌}
 use native.Mathlib.Nat.{lt_of_lt_of_le, pow-le-pow_right}
 use native.Mathlib.Numerals.{add-one}
 use native.Mathlib.Omega.{arith}
-use lib.Dec.{T, T_not, leb, leb→le, le→leb}
-use lib.ListN.{length, get_or, take, drop, drop_of_length-le}
+use lib.Dec.{T, T_not, leb, eqb, leb→le, le→leb}
+use lib.ListN.{length, get_or, drop, drop_of_length-le}
 use lib.Seq.{drop-cons}
 use Rattle.std.specs.declared.option.Option.TheVariants.{Some, None}
-use Rattle.std.specs.List.{take_while}
-use Rattle.std.proofs.lemmas.List.Folds.{length-prefix_len}
-use Rattle.std.proofs.lemmas.List.Sums.{take_while-cons}
 use Rattle.finite.specs.Tests.{and_left, and_right, and_both, decide, is_true, is_false, of_true}
 use Rattle.finite.specs.Lists.{all_in}
 use Rattle.model.specs.Spelling.{digit_zero}
@@ -83,45 +81,44 @@ leading_first (b ∷ s) h =
     (λ (e : is_digit b ≡ false). absurd (omega (arith, ap length (leading_none b s e))))
     (digit_or_not b)
 
--- they are those that the library takes
-while_leading : (s : List ℕ) → take_while is_digit s ≡ leading_digits s
-unfolding leading_digits
-while_leading [] = refl
-while_leading (b ∷ s) =
-    ⊎_elim
-    (λ (e : is_digit b ≡ true).
-    rw (leading_more b s e, take_while-cons is_digit b s, e) (ap (λ (l : List ℕ). b ∷ l) (while_leading s)))
-    (λ (e : is_digit b ≡ false). rw (leading_none b s e, take_while-cons is_digit b s, e))
-    (digit_or_not b)
-
-pub leading_while : (s : List ℕ) (n : ℕ) → n ≡ length (take_while is_digit s) → take n s ≡ leading_digits s
-leading_while s n e = rw (e, length-prefix_len is_digit s) (while_leading s)
-
 -- ---- the loop
 
 -- the digits before place i have the value v, and those from there on complete them
-pub record Valued (d : List ℕ) (v i : ℕ) : Type 0 where
-  pub ahead : value_after v (drop i d) ≡ value_after 0 d
+pub record Valued (s : List ℕ) (v i : ℕ) : Type 0 where
+  pub ahead : value_after v (leading_digits (drop i s)) ≡ value_after 0 (leading_digits s)
+  pub counted : i + length (leading_digits (drop i s)) ≡ length (leading_digits s)
   pub small : v < 10 ^ i
+  pub inside : i ≤ length s
 
-pub digit_at : (d : List ℕ) (i : ℕ) → T (all_in is_digit d) → i < length d → T (is_digit (get_or d i 0))
-unfolding all_in
-digit_at [] i t h = absurd (omega arith)
-digit_at (b ∷ d) zero t h = and_left (is_digit b) (all_in is_digit d) t
-digit_at (b ∷ d) (suc i) t h = digit_at d i (and_right (is_digit b) (all_in is_digit d) t) (omega arith)
+pub valued_none : (s : List ℕ) → Valued s 0 0
+valued_none s =
+    record { ahead = refl; counted = omega arith; small = omega arith; inside = omega arith }
 
-pub valued_more : {d : List ℕ} {v i : ℕ} → Valued d v i → i < length d → T (is_digit (get_or d i 0)) →
-    Valued d (v * 10 + (get_or d i 0 - digit_zero)) (i + 1)
-unfolding value_after
-valued_more {d} {v} {i} w h t =
-    record {
-      ahead = rw add-one (rw (drop-cons d i 0 h) at w.ahead);
-      small = one_more_digit v i _ w.small (digit_small (get_or d i 0) t).1;
-    }
+module _ {s : List ℕ} {v i : ℕ} (w : Valued s v i) where
+  pub valued_more : i < length s → is_digit (get_or s i 0) ≡ true →
+      Valued s (v * 10 + (get_or s i 0 - digit_zero)) (i + 1)
+  unfolding value_after
+  valued_more h e =
+      let more = ap leading_digits (drop-cons s i 0 h) ∙ leading_more (get_or s i 0) _ e in
+      record {
+        ahead = rw add-one (rw more at w.ahead);
+        counted = rw add-one (omega (arith, w.counted, ap length more));
+        small = one_more_digit v i _ w.small (digit_small (get_or s i 0) (of_true _ e)).1;
+        inside = omega arith;
+      }
 
-pub valued_end : {d : List ℕ} {v i : ℕ} → Valued d v i → length d ≤ i → v ≡ value_after 0 d
-unfolding value_after
-valued_end {d} {v} {i} w h = rw (drop_of_length-le d h) at w.ahead
+  -- no digit is left
+  pub valued_all : leading_digits (drop i s) ≡ [] →
+      (v ≡ value_after 0 (leading_digits s)) × (i ≡ length (leading_digits s))
+  unfolding value_after
+  valued_all e = (rw e at w.ahead, omega (arith, w.counted, ap length e))
+
+  pub valued_end : length s ≤ i → leading_digits (drop i s) ≡ []
+  unfolding leading_digits
+  valued_end h = ap leading_digits (drop_of_length-le s h)
+
+  pub valued_stop : i < length s → is_digit (get_or s i 0) ≡ false → leading_digits (drop i s) ≡ []
+  valued_stop h e = ap leading_digits (drop-cons s i 0 h) ∙ leading_none (get_or s i 0) _ e
 
 -- ---- magnitudes
 
@@ -162,20 +159,6 @@ module _ (d : List ℕ) where
       w.each)
       w.leads
 
-  -- of 1 to digit-limit digits only the first is asked
-  module _ (each : T (all_in is_digit d)) where
-    pub magnitude_leads : 1 ≤ length d → length d ≤ digit_limit → is_magnitude d ≡ no_leading_zero d
-    unfolding is_magnitude
-    magnitude_leads h l =
-        rw (
-          is_true (leb 1 (length d)) (le→leb 1 (length d) h),
-          is_true (leb (length d) digit_limit) (le→leb (length d) digit_limit l),
-          is_true (all_in is_digit d) each,
-        )
-
-  pub magnitude_not : (1 ≤ length d → length d ≤ digit_limit → ⊥) → is_magnitude d ≡ false
-  magnitude_not n = is_false (is_magnitude d) (λ t. n (magnitude_digits t).some (magnitude_digits t).few)
-
 -- of the digits at the front of a list
 module _ (s : List ℕ) where
   pub magnitude_value : T (is_magnitude (leading_digits s)) →
@@ -188,3 +171,34 @@ module _ (s : List ℕ) where
       magnitude_read s ≡ None
   unfolding magnitude_read
   magnitude_none n = rw (is_false (is_magnitude (leading_digits s)) n)
+
+-- when the loop is over, and no digit is left
+module _ {s : List ℕ} {v i : ℕ} (w : Valued s v i) (none : leading_digits (drop i s) ≡ []) where
+  counted : i ≡ length (leading_digits s)
+  counted = (valued_all w none).1
+
+  pub read_empty : i ≡ 0 → magnitude_read s ≡ None
+  read_empty e =
+      magnitude_none s (λ t. omega (arith, counted, (magnitude_digits (leading_digits s) t).some))
+
+  module _ (some : i ≢ 0)
+      {b : Bool} (leads : b ≡ (not (eqb (get_or s 0 0) digit_zero) || eqb i 1)) where
+    leading : no_leading_zero (leading_digits s) ≡ b
+    unfolding no_leading_zero
+    leading = rw (leading_first s (omega (arith, counted, some)), ← counted) (sym leads)
+
+    pub read_value : i ≤ digit_limit → b ≡ true → magnitude_read s ≡ Some (record { value = v; count = i })
+    read_value few e =
+        let t = digits_magnitude (leading_digits s) (record {
+          some = omega (arith, counted, some);
+          few = omega (arith, counted);
+          each = leading_each s;
+          leads = of_true _ (leading ∙ e);
+        }) in
+        rw ((valued_all w none).0, counted) (magnitude_value s t)
+
+    pub read_zero : b ≡ false → magnitude_read s ≡ None
+    read_zero e =
+        magnitude_none s
+        (λ t. let passes = is_true _ (magnitude_digits (leading_digits s) t).leads in
+        false≢true (sym (leading ∙ e) ∙ passes))

@@ -5,7 +5,6 @@ use Prim.Native.Nat.{ℕ, ◌+◌, ◌*◌, ◌≤◌}
 use native.Mathlib.Omega.{arith}
 use lib.ListN.{length, length-append}
 use Rattle.model.specs.declared.Point.{Point}
-use Rattle.model.specs.declared.Map.{Map}
 use Rattle.model.specs.Spelling.{bytes}
 use Rattle.model.specs.Maps.{point_limit}
 use Rattle.model.specs.Outlines.{joined, point_text}
@@ -18,13 +17,13 @@ use Rattle.drawings.proofs.text_length.Goals as goal
 pub returns-then-count-eq0 : goal.returns-then-count-eq0
 unfolding bytes
 returns-then-count-eq0 c =
-    omega (arith, ap length (text_none c.args.map.now c.args.corners.now c.if-count-eq0.true))
+    omega (arith, ap length (text_none c.args.points.now c.args.corners.now c.if-count-eq0.true))
 
 -- where the positions' length is known
-module _ (m : Map) (corners : List ℕ) (first : Point) (limited : length corners ≤ point_limit)
-    {length_of : ℕ} (known : length_of ≡ length (joined first (points_at m (others corners)))) where
+module _ (ps : List Point) (corners : List ℕ) (first : Point) (limited : length corners ≤ point_limit)
+    {length_of : ℕ} (known : length_of ≡ length (joined first (points_at ps (others corners)))) where
   few : length_of ≤ 43 + 45 * point_limit
-  few = omega (arith, positions_most m first corners limited)
+  few = omega (arith, positions_most ps first corners limited)
 
   -- how large the sum of the last line is
   last_few : {closing : ℕ} → closing ≡ length (point_text first) →
@@ -35,7 +34,7 @@ pub overflow_add-result : goal.overflow_add-result
 overflow_add-result c =
     omega (
       arith,
-      few c.args.map.now c.args.corners.now _ c.requires
+      few c.args.points.now c.args.corners.now _ c.requires
           c.positions_length-positions.ensures,
     )
 
@@ -43,17 +42,17 @@ pub overflow_add-result-then-count-eq1 : goal.overflow_add-result-then-count-eq1
 overflow_add-result-then-count-eq1 c =
     omega (
       arith,
-      few c.args.map.now c.args.corners.now _ c.requires
+      few c.args.points.now c.args.corners.now _ c.requires
           c.positions_length-positions.ensures,
     )
 
 pub returns-then-count-eq1 : goal.returns-then-count-eq1
 unfolding bytes
 returns-then-count-eq1 c =
-    let m = c.args.map.now in
+    let ps = c.args.points.now in
     let corners = c.args.corners.now in
-    let positions = joined c.point-first.result (points_at m (others corners)) in
-    let text = text_one m corners c.point-first.ensures c.if-count-eq1.true in
+    let positions = joined c.point_in-first.result (points_at ps (others corners)) in
+    let text = text_one ps corners c.point_in-first.ensures c.if-count-eq1.true in
     omega (
       arith,
       c.positions_length-positions.ensures,
@@ -65,7 +64,7 @@ pub overflow_add-result-then-count-eq2 : goal.overflow_add-result-then-count-eq2
 overflow_add-result-then-count-eq2 c =
     omega (
       arith,
-      few c.args.map.now c.args.corners.now _ c.requires
+      few c.args.points.now c.args.corners.now _ c.requires
           c.positions_length-positions.ensures,
     )
 
@@ -73,17 +72,17 @@ pub overflow_add-result-then-count-eq2-2 : goal.overflow_add-result-then-count-e
 overflow_add-result-then-count-eq2-2 c =
     omega (
       arith,
-      few c.args.map.now c.args.corners.now _ c.requires
+      few c.args.points.now c.args.corners.now _ c.requires
           c.positions_length-positions.ensures,
     )
 
 pub returns-then-count-eq2 : goal.returns-then-count-eq2
 unfolding bytes
 returns-then-count-eq2 c =
-    let m = c.args.map.now in
+    let ps = c.args.points.now in
     let corners = c.args.corners.now in
-    let positions = joined c.point-first.result (points_at m (others corners)) in
-    let text = text_two m corners c.point-first.ensures c.if-count-eq2.true in
+    let positions = joined c.point_in-first.result (points_at ps (others corners)) in
+    let text = text_two ps corners c.point_in-first.ensures c.if-count-eq2.true in
     omega (
       arith,
       c.positions_length-positions.ensures,
@@ -95,7 +94,7 @@ pub overflow_add-closing : goal.overflow_add-closing
 overflow_add-closing c =
     omega (
       arith,
-      last_few c.args.map.now c.args.corners.now _ c.requires
+      last_few c.args.points.now c.args.corners.now _ c.requires
           c.positions_length-positions.ensures c.position_length-closing.ensures,
     )
 
@@ -103,7 +102,7 @@ pub overflow_add-result-2 : goal.overflow_add-result-2
 overflow_add-result-2 c =
     omega (
       arith,
-      last_few c.args.map.now c.args.corners.now _ c.requires
+      last_few c.args.points.now c.args.corners.now _ c.requires
           c.positions_length-positions.ensures c.position_length-closing.ensures,
     )
 
@@ -111,7 +110,7 @@ pub overflow_add-result-3 : goal.overflow_add-result-3
 overflow_add-result-3 c =
     omega (
       arith,
-      last_few c.args.map.now c.args.corners.now _ c.requires
+      last_few c.args.points.now c.args.corners.now _ c.requires
           c.positions_length-positions.ensures c.position_length-closing.ensures,
     )
 
@@ -119,18 +118,18 @@ pub overflow_add-result-4 : goal.overflow_add-result-4
 overflow_add-result-4 c =
     omega (
       arith,
-      last_few c.args.map.now c.args.corners.now _ c.requires
+      last_few c.args.points.now c.args.corners.now _ c.requires
           c.positions_length-positions.ensures c.position_length-closing.ensures,
     )
 
 pub returns : goal.returns
 unfolding bytes
 returns c =
-    let m = c.args.map.now in
+    let ps = c.args.points.now in
     let corners = c.args.corners.now in
-    let first = c.point-first.result in
-    let positions = joined first (points_at m (others corners)) in
-    let text = text_more m corners c.point-first.ensures (omega arith) in
+    let first = c.point_in-first.result in
+    let positions = joined first (points_at ps (others corners)) in
+    let text = text_more ps corners c.point_in-first.ensures (omega arith) in
     omega (
       arith,
       c.positions_length-positions.ensures,

@@ -11,7 +11,7 @@ returns-then-map-eq0 c =
 
 pub returns-then-map-eq1 : goal.returns-then-map-eq1
 returns-then-map-eq1 c =
-    ap (arrived Arrival.Second) c.pair.ensures ∙ second c.args.map.now c.args.p c.if-map-eq1.true
+    ap (arrived Arrival.Second) c.put_pair.ensures ∙ second c.args.map.now c.args.p c.if-map-eq1.true
 
 pub returns : goal.returns
 returns c = c.grow_later.ensures ∙ later c.args.map.now c.args.p c.if-map-eq0.false c.if-map-eq1.false

@@ -19,8 +19,8 @@ returns-then-seen-eq0 c =
     ∙ inside c.args.map.now c.args.p (sym (ap (λ (t : Seen). t.visible) c.seen_from-seen.ensures) ∙ none)
 
 -- the point may be put between the two corners
-pub splice-requires : goal.splice-requires
-splice-requires c =
+pub put_between-requires : goal.put_between-requires
+put_between-requires c =
     subst (λ (t : Seen). Spliceable c.args.map.now t.left t.right) (sym c.seen_from-seen.ensures)
     (spliceable c.requires.accepted c.requires.two)
 
@@ -33,6 +33,6 @@ returns c =
     let m = c.args.map.now in
     let p = c.args.p in
     let t = c.seen_from-seen.result in
-    ap (arrived (Arrival.Outside t.left t.right t.visible)) c.splice.ensures
+    ap (arrived (Arrival.Outside t.left t.right t.visible)) c.put_between.ensures
     ∙ ap (outcome m p) c.seen_from-seen.ensures
     ∙ outside m p (λ z. absurd (omega (arith, ap (λ (u : Seen). u.visible) c.seen_from-seen.ensures, z)))

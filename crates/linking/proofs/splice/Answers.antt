@@ -1,8 +1,8 @@
 -- `linking::splice` meets its contract: what its calls ensure makes it up, and the links that are cut lead to darts.
+use mathlib.Core.Path.{refl}
 use native.Mathlib.Omega.{arith}
 use Rattle.orbits.specs.Sets.{dart_limit}
-use Rattle.model.specs.Maps.{own, helper, edge_link}
-use Rattle.model.specs.Arrival.{with_point, spliced}
+use Rattle.model.specs.Maps.{own, helper}
 use Rattle.linking.proofs.Cutting.{cut_below}
 use Rattle.linking.proofs.splice.Goals as goal
 
@@ -12,10 +12,12 @@ cut-requires-2 c =
     (record {
       below = omega arith;
       partner_below =
-          cut_below dart_limit c.args.map.now.edge c.requires.linked.links_below (own c.args.left)
+          cut_below dart_limit c.args.edge.now c.requires.linked.links_below (own c.args.left)
           (helper c.args.right) (omega arith) (omega arith);
     })
 
 pub returns : goal.returns
-unfolding spliced with_point edge_link
-returns c = rw (c.put_point.ensures, c.freeing-note.ensures, c.join-2.ensures, c.join.ensures, c.cut-2.ensures, c.cut.ensures)
+returns c = (
+  refl,
+  rw (c.join-2.ensures, c.join.ensures, c.cut-2.ensures, c.cut.ensures),
+)

@@ -18,10 +18,10 @@ use Rattle.office.proofs.write_outline.Goals.{After-text_length-length}
 
 -- the length was asked for
 module _ (c : After-text_length-length) where
-  text_is : outline_text (points_at c.args.map.now c.as_slice-corners.result.now)
+  text_is : outline_text (points_at c.args.map.now.points c.as_slice-corners.result.now)
       ≡ outline_text (corner_points c.args.map.now)
   text_is =
-      ap (λ (s : List ℕ). outline_text (points_at c.args.map.now s)) c.as_slice-corners.ensures
+      ap (λ (s : List ℕ). outline_text (points_at c.args.map.now.points s)) c.as_slice-corners.ensures
       ∙ listed_text
       (subst (λ (m : Map). ListsCorners m c.corners_of-list.result) c.in_ok-sound.ensures.0 c.corners_of-list.ensures)
 

@@ -6,7 +6,7 @@ use Rattle.outline.proofs.Printing.{Printing}
 use Rattle.outline.proofs.print_lines.Given as goal
 
 abbrev pub invariant-loop-buffer : goal.invariant-loop-buffer
-invariant-loop-buffer g l = Printing l.answers l.decided l.buffer l.from
+invariant-loop-buffer g l = Printing l.answers l.decided l.buffer l.next
 
 abbrev pub decreases-loop-buffer : goal.decreases-loop-buffer
-decreases-loop-buffer g l = line_count l.decided.ends - l.from
+decreases-loop-buffer g l = line_count l.decided.ends - l.next

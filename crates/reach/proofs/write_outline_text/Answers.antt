@@ -19,9 +19,9 @@ module _ (c : After-text_length-written) where
   abbrev text : List ℕ
   text = outline_text (corner_points c.args.sound.map.now)
 
-  text_is : outline_text (points_at c.args.sound.map.now c.as_slice-corners.result.now) ≡ text
+  text_is : outline_text (points_at c.args.sound.map.now.points c.as_slice-corners.result.now) ≡ text
   text_is =
-      ap (λ (s : List ℕ). outline_text (points_at c.args.sound.map.now s)) c.as_slice-corners.ensures
+      ap (λ (s : List ℕ). outline_text (points_at c.args.sound.map.now.points s)) c.as_slice-corners.ensures
       ∙ listed_text c.corners_of-list.ensures
 
   size : c.text_length-written.result ≡ length text

@@ -1,12 +1,14 @@
 -- `admission::hashes::admission_hashed` meets its contract: a point in range whose hash is not set is refused
--- by no rule but the first.
+-- by no rule but the first; else one rule after another.
 use mathlib.Core.Path.{sym, ap, ◌∙◌}
+use mathlib.Core.Bool.{not}
 use borrow.Author.Tests.{le-leb, lt-leb}
 use Rattle.std.specs.declared.result.Result.TheVariants.{Err}
 use Rattle.std.proofs.lemmas.Result.{err_from_is_err_and}
+use Rattle.finite.specs.Bounded.{some_not_none}
 use Rattle.model.proofs.Answers.{rule_applies}
 use Rattle.admission.specs.Admission.{admission_by}
-use Rattle.admission.proofs.Admitting.{out_of_range, admitted}
+use Rattle.admission.proofs.Admitting.{out_of_range, repeated, admitted}
 use Rattle.admission.proofs.Hashing.{unhashed_new}
 use Rattle.admission.proofs.hashes.admission_hashed.Goals as goal
 
@@ -27,3 +29,15 @@ returns-then-not-has c =
     admitted c.args.points.now c.args.p (lt-leb _ _ c.if-points-ge-POINT_LIMIT.false) accepted e
     (unhashed_new c.args.p c.requires
     (rw (sym e) (sym c.has.ensures ∙ c.if-not-has.true)))
+
+pub returns-then-not-is_new : goal.returns-then-not-is_new
+returns-then-not-is_new c =
+    repeated c.args.points.now c.args.p (lt-leb _ _ c.if-points-ge-POINT_LIMIT.false) c.in_ok-accepted.accepted
+    c.in_ok-accepted.ensures
+    (sym (some_not_none _ _) ∙ ap not (sym c.is_new.ensures ∙ c.if-not-is_new.true))
+
+pub returns : goal.returns
+returns c =
+    admitted c.args.points.now c.args.p (lt-leb _ _ c.if-points-ge-POINT_LIMIT.false) c.in_ok-accepted.accepted
+    c.in_ok-accepted.ensures
+    (sym (some_not_none _ _) ∙ ap not (sym c.is_new.ensures ∙ c.if-not-is_new.false))

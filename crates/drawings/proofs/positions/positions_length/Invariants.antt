@@ -8,4 +8,4 @@ use Rattle.drawings.proofs.positions.positions_length.Given as goal
 
 abbrev pub invariant-loop-a : goal.invariant-loop-a
 invariant-loop-a l =
-    (l.total ≡ l.initial.total + length (following_to l.map l.others l.a-index)) × (l.a-index ≤ length l.others)
+    (l.total ≡ l.initial.total + length (following_to l.points l.others l.a-index)) × (l.a-index ≤ length l.others)

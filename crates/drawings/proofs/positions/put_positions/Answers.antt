@@ -43,19 +43,19 @@ loop-a-init c = drawn_none _ _
 pub put_next-end-requires : goal.put_next-end-requires
 put_next-end-requires c =
     let a = c.args in
-    next_room a.map.now a.others.now
+    next_room a.points.now a.others.now
     (room_others a.word.now a.first _ c.requires c.put_word-position.ensures c.put_position-end.ensures)
-    c.loop-a.invariant c.loop-a-test.true c.point.ensures
+    c.loop-a.invariant c.loop-a-test.true c.point_in.ensures
 
 pub loop-a-preserved : goal.loop-a-preserved
 loop-a-preserved c =
     let a = c.args in
-    drawn_next a.map.now a.others.now
+    drawn_next a.points.now a.others.now
     (room_others a.word.now a.first _ c.requires c.put_word-position.ensures c.put_position-end.ensures)
-    c.loop-a.invariant c.loop-a-test.true c.point.ensures c.put_next-end.ensures
+    c.loop-a.invariant c.loop-a-test.true c.point_in.ensures c.put_next-end.ensures
 
 pub returns : goal.returns
 returns c =
     let a = c.args in
     written a.word.now a.first _ c.requires c.put_word-position.ensures c.put_position-end.ensures
-    (drawn_whole a.map.now a.others.now c.loop-a.invariant c.loop-a-test.false)
+    (drawn_whole a.points.now a.others.now c.loop-a.invariant c.loop-a-test.false)

@@ -4,4 +4,4 @@ use Rattle.drawings.proofs.Joined.{Drawn}
 use Rattle.drawings.proofs.positions.put_positions.Given as goal
 
 abbrev pub invariant-loop-a : goal.invariant-loop-a
-invariant-loop-a l = Drawn l.initial.lent l.initial.end l.map l.others l.lent l.end l.a-index
+invariant-loop-a l = Drawn l.initial.lent l.initial.end l.points l.others l.lent l.end l.a-index

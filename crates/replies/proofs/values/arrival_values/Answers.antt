@@ -3,18 +3,22 @@ use Rattle.model.specs.Answers.{arrival_answer}
 use Rattle.replies.specs.Replies.{place_of, told}
 use Rattle.replies.proofs.values.arrival_values.Goals as goal
 
-pub returns-in-First : goal.returns-in-First
+pub returns-in-Ok-First : goal.returns-in-Ok-First
 unfolding told place_of arrival_answer
-returns-in-First c = rw c.in-First.is
+returns-in-Ok-First c = let a = c.in-Ok-First in rw (a.is, rw a.is at a.field-0-is)
 
-pub returns-in-Second : goal.returns-in-Second
+pub returns-in-Ok-Second : goal.returns-in-Ok-Second
 unfolding told place_of arrival_answer
-returns-in-Second c = rw c.in-Second.is
+returns-in-Ok-Second c = let a = c.in-Ok-Second in rw (a.is, rw a.is at a.field-0-is)
 
-pub returns-in-Inside : goal.returns-in-Inside
+pub returns-in-Ok-Inside : goal.returns-in-Ok-Inside
 unfolding told place_of arrival_answer
-returns-in-Inside c = rw c.in-Inside.is
+returns-in-Ok-Inside c = let a = c.in-Ok-Inside in rw (a.is, rw a.is at a.field-0-is)
 
-pub returns-in-Outside : goal.returns-in-Outside
+pub returns-in-Ok-Outside : goal.returns-in-Ok-Outside
 unfolding told place_of arrival_answer
-returns-in-Outside c = rw c.in-Outside.is
+returns-in-Ok-Outside c = let a = c.in-Ok-Outside in rw (a.is, rw a.is at a.field-0-is)
+
+pub returns-in-Err : goal.returns-in-Err
+unfolding told place_of arrival_answer
+returns-in-Err c = rw (c.in-Err.is, c.from.ensures)

@@ -3,7 +3,7 @@
 // its number and values, and what every lent list holds, for every argument.
 #![tactic(auto)]
 
-mod checks;
+pub mod checks;
 pub mod files;
 pub mod texts;
 
